@@ -1,0 +1,7 @@
+pub mod Automaton
+pub mod Acceptance
+pub mod Derivation
+pub mod Saturation
+pub mod Facts
+pub mod Computing
+pub mod Models

@@ -1,0 +1,145 @@
+-- Saturation: one round, the table after n rounds, the saturated table within limits, and the table before a move's round.
+-- Assumes nothing.
+use Prim.Native.Nat.{ℕ, zero, suc, _+_, min}
+use mathlib.Core.Bool.{Bool, true, false, not, _&&_}
+use mathlib.Core.Option.{Option, none, some}
+use mathlib.Core.List.{List, [], _∷_, _++_, map}
+use lib.ListN.{length, take}
+use lib.Dec.{eqb, leb}
+use Rattle.words.specs.Lists.{only, some-of}
+use Rattle.words.specs.Order.{same, sorted}
+use Rattle.stacks.specs.System.{Rule}
+use Rattle.automata.specs.Automaton.{Automaton, Move, Entry, entryOf}
+use Rattle.automata.specs.Derivation.{Result, resultKey, resultOf, Derivation, derivations}
+
+-- move m of the automaton is the result x
+unfoldable pub isResult : Automaton → Result → Move → Bool
+isResult A x m = entryOf A (x .control) (m .state) && same (resultKey (resultOf A m)) (resultKey x)
+
+-- the result is held by the automaton
+unfoldable pub held : Automaton → Result → Bool
+held A x = some-of (isResult A x) (A .moves)
+
+-- entry e is [p,S]
+unfoldable pub isEntry : ℕ → ℕ → Entry → Bool
+isEntry p S e = eqb (e .control) p && eqb (e .S) S
+
+-- the number of entry [p,S], which is the next new number where [p,S] is not there
+unfoldable pub entryNumber : ℕ → ℕ → List Entry → ℕ
+entryNumber p S [] = 0
+entryNumber p S (e ∷ es) = elim (isEntry p S e) [ true ↦ 0 | false ↦ suc (entryNumber p S es) ]
+
+-- the entries with [p,S], appended where it is not there
+unfoldable pub withEntry : ℕ → ℕ → List Entry → List Entry
+withEntry p S [] = record { control = p; S = S } ∷ []
+withEntry p S (e ∷ es) = elim (isEntry p S e) [ true ↦ e ∷ es | false ↦ e ∷ withEntry p S es ]
+
+-- the automaton with one result more, as the last move
+unfoldable pub add : Automaton → Result → Automaton
+add A x =
+    record {
+      J = A .J;
+      final1 = A .final1;
+      final2 = A .final2;
+      inner = A .inner;
+      entries = withEntry (x .control) (x .S) (A .entries);
+      moves = A .moves
+          ++ (record {
+            state = A .J + entryNumber (x .control) (x .S) (A .entries);
+            symbol = x .symbol;
+            order = x .order;
+            B = x .B;
+            R = x .R;
+          } ∷ []);
+    }
+
+-- the automaton with these results more, one after another
+unfoldable pub addAll : Automaton → List Result → Automaton
+addAll A [] = A
+addAll A (x ∷ xs) = addAll (add A x) xs
+
+-- "New entries are numbered by (p, S), sets compared as unsigned words; new moves are appended by (p, S, symbol, order, B, R)": the
+-- results that are not yet held, each once, in that order. An entry is new where the first of its moves comes.
+unfoldable pub extend : Automaton → List Result → Automaton
+extend A xs = addAll A (sorted resultKey (only (λ x. not (held A x)) xs))
+
+module _ (rules : List Rule) where
+  unfoldable pub results : Automaton → List Result
+  results A = map (λ d. d .result) (derivations A rules)
+
+  -- "A round adds every result of the earlier rounds that is not yet held."
+  unfoldable pub round : Automaton → Automaton
+  round A = extend A (results A)
+
+  -- "Round 0 is the case's moves in file order": the table after n rounds, without bound.
+  unfoldable pub tableAfter : Automaton → ℕ → Automaton
+  tableAfter A zero = A
+  tableAfter A (suc n) = round (tableAfter A n)
+
+-- the numbers of moves and entries
+pub record Size : Type 0 where
+  pub moves : ℕ
+  pub entries : ℕ
+
+unfoldable pub sizeOf : Automaton → Size
+sizeOf A = record { moves = length (A .moves); entries = length (A .entries) }
+
+-- Not 9: "more moves than lent or than 1,024, more entries than lent, or more than 64 order-1 states".
+unfoldable pub within : Size → Automaton → Bool
+within lent A =
+    leb (length (A .moves)) (min (lent .moves) 1024)
+    && leb (length (A .entries)) (lent .entries)
+    && leb (A .J + length (A .entries)) 64
+
+-- a saturated table, with its sizes after round 0, 1 and so on to the last round that added a move
+pub record Saturated : Type 0 where
+  pub table : Automaton
+  pub sizes : List Size
+
+module _ (rules : List Rule) (lent : Size) where
+  -- "The work ends when a round adds none": from the table after some round, with the sizes before it, at most k tables more.
+  unfoldable pub saturateFrom : ℕ → List Size → Automaton → Option Saturated
+  saturateFrom zero sizes A = none
+  saturateFrom (suc k) sizes A =
+      let next : Automaton = round rules A in
+      let done : List Size = sizes ++ (sizeOf A ∷ []) in
+      elim (within lent A) [
+        | true ↦ elim (eqb (length (next .moves)) (length (A .moves))) [
+          | true ↦ some (record { table = A; sizes = done })
+          | false ↦ saturateFrom k done next
+        ]
+        | false ↦ none
+      ]
+
+  -- The saturated table of an own automaton, or none where it passes a limit. Each round but the last adds a move, so within the
+  -- limits there are at most 1,025 tables.
+  unfoldable pub saturate : Automaton → Option Saturated
+  saturate A = saturateFrom 1025 [] A
+
+-- ---- the table before a move's round
+
+-- the first so many moves and entries
+unfoldable pub upTo : Size → Automaton → Automaton
+upTo z A =
+    record {
+      J = A .J;
+      final1 = A .final1;
+      final2 = A .final2;
+      inner = A .inner;
+      entries = take (z .entries) (A .entries);
+      moves = take (z .moves) (A .moves);
+    }
+
+-- the last of the sizes z, zs that has no more than i moves, or z
+unfoldable pub lastUpTo : Size → List Size → ℕ → Size
+lastUpTo z [] i = z
+lastUpTo z (y ∷ ys) i = elim (leb (y .moves) i) [ true ↦ lastUpTo y ys i | false ↦ z ]
+
+-- "from earlier rounds": the table before the round of move i
+unfoldable pub before : Saturated → ℕ → Automaton
+before T i = upTo (lastUpTo (record { moves = 0; entries = 0 }) (T .sizes) i) (T .table)
+
+-- the number of moves of round 0
+unfoldable pub ownMoves : List Size → ℕ
+ownMoves [] = 0
+ownMoves (z ∷ zs) = z .moves

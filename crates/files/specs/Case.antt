@@ -1,0 +1,190 @@
+-- Case files.
+-- Assumes nothing.
+use Prim.Native.Nat.{ℕ, zero, suc, _+_}
+use mathlib.Core.Bool.{Bool, true, false, not, _&&_, _||_}
+use mathlib.Core.List.{List, [], _∷_, map}
+use lib.ListN.{length, getD}
+use lib.Dec.{eqb, ltb, leb}
+use Rattle.words.specs.Sets.{members}
+use Rattle.words.specs.Lists.{only, every}
+use Rattle.words.specs.Order.{sorted, rising}
+use Rattle.stacks.specs.Stack.{Operation, rewrite, push1, push2, copy, pop1, pop2, collapse1, collapse2}
+use Rattle.stacks.specs.System.{Rule}
+use Rattle.automata.specs.Automaton.{Automaton, Move, Edge, Entry, choiceKey}
+use Rattle.files.specs.Bytes.{field, Body, placed, recordsOf, Test, firstHit}
+
+unfoldable pub caseBodies : List Body
+caseBodies =
+    record { kind = 1; least = 1; most = 1; size = 14 }
+    ∷ record { kind = 2; least = 0; most = 256; size = 5 }
+    ∷ record { kind = 3; least = 0; most = 64; size = 4 }
+    ∷ record { kind = 4; least = 0; most = 1024; size = 19 }
+    ∷ []
+
+-- ---- body 1
+
+-- the numbers of controls, inner order-2 states, inner order-1 states and symbols, and the final sets
+pub record Head : Type 0 where
+  pub P : ℕ
+  pub I : ℕ
+  pub J : ℕ
+  pub A : ℕ
+  pub final2 : ℕ
+  pub final1 : ℕ
+
+unfoldable pub headOf : List ℕ → Head
+headOf x = record { P = getD x 0 0; I = getD x 1 0; J = getD x 2 0; A = getD x 3 0; final2 = field 4 2 x; final1 = field 6 8 x }
+
+unfoldable pub head : List ℕ → Head
+head file = headOf (getD (recordsOf file 0 14) 0 [])
+
+-- "Order-2 states: the controls, then the inner ones. Order-1 states: the inner ones, then entries": the set names inner states only.
+unfoldable pub inner1 : Head → ℕ → Bool
+inner1 h s = every (λ r. ltb r (h .J)) (members s)
+
+unfoldable pub inner2 : Head → ℕ → Bool
+inner2 h s = every (λ q. leb (h .P) q && ltb q (h .P + h .I)) (members s)
+
+unfoldable pub headRight : Head → Bool
+headRight h =
+    leb 1 (h .P) && leb (h .P) 8 && leb (h .I) 8 && leb (h .J) 16 && leb 1 (h .A) && leb (h .A) 32
+    && inner2 h (h .final2)
+    && inner1 h (h .final1)
+
+-- ---- body 2
+
+-- a rule's five bytes: p, a, code, b, p′
+pub record RuleBytes : Type 0 where
+  pub p : ℕ
+  pub a : ℕ
+  pub code : ℕ
+  pub b : ℕ
+  pub next : ℕ
+
+unfoldable pub ruleBytes : List ℕ → RuleBytes
+ruleBytes x = record { p = getD x 0 0; a = getD x 1 0; code = getD x 2 0; b = getD x 3 0; next = getD x 4 0 }
+
+-- "Each state, symbol, code and control named must exist." "From code 4 on b is 0."
+unfoldable pub ruleRight : Head → RuleBytes → Bool
+ruleRight h x =
+    ltb (x .p) (h .P) && ltb (x .a) (h .A) && leb 1 (x .code) && leb (x .code) 8 && ltb (x .next) (h .P)
+    && elim (ltb (x .code) 4) [ true ↦ ltb (x .b) (h .A) | false ↦ eqb (x .b) 0 ]
+
+-- the operation of a code from 1 to 8
+unfoldable pub operationOf : ℕ → ℕ → Operation
+operationOf zero b = rewrite b
+operationOf (suc zero) b = rewrite b
+operationOf (suc (suc zero)) b = push1 b
+operationOf (suc (suc (suc zero))) b = push2 b
+operationOf (suc (suc (suc (suc zero)))) b = copy
+operationOf (suc (suc (suc (suc (suc zero))))) b = pop1
+operationOf (suc (suc (suc (suc (suc (suc zero)))))) b = pop2
+operationOf (suc (suc (suc (suc (suc (suc (suc zero))))))) b = collapse1
+operationOf (suc (suc (suc (suc (suc (suc (suc (suc k)))))))) b = collapse2
+
+unfoldable pub ruleOf : RuleBytes → Rule
+ruleOf x = record { control = x .p; symbol = x .a; operation = operationOf (x .code) (x .b); next = x .next }
+
+unfoldable pub ruleRecords : List ℕ → List RuleBytes
+ruleRecords file = map ruleBytes (recordsOf file 1 5)
+
+-- ---- body 3
+
+-- an edge's four bytes: order-2 state, order-1 state, S
+pub record EdgeBytes : Type 0 where
+  pub state : ℕ
+  pub second : ℕ
+  pub S : ℕ
+
+unfoldable pub edgeBytes : List ℕ → EdgeBytes
+edgeBytes x = record { state = getD x 0 0; second = getD x 1 0; S = field 2 2 x }
+
+-- "For an inner state the second byte is an inner order-1 state. For a control it is 255 and the edge is an entry."
+unfoldable pub edgeRight : Head → EdgeBytes → Bool
+edgeRight h x =
+    elim (ltb (x .state) (h .P)) [ true ↦ eqb (x .second) 255 | false ↦ ltb (x .second) (h .J) ]
+    && ltb (x .state) (h .P + h .I)
+    && inner2 h (x .S)
+
+-- (state, S, second byte)
+unfoldable pub edgeKey : EdgeBytes → List ℕ
+edgeKey x = x .state ∷ x .S ∷ x .second ∷ []
+
+unfoldable pub edgeRecords : List ℕ → List EdgeBytes
+edgeRecords file = map edgeBytes (recordsOf file 2 4)
+
+-- the entries, "numbered from J in file order"
+unfoldable pub entriesOf : Head → List EdgeBytes → List Entry
+entriesOf h xs = map (λ x. record { control = x .state; S = x .S }) (only (λ x. ltb (x .state) (h .P)) xs)
+
+-- the inner edges, in the order of least choice
+unfoldable pub innerEdges : Head → List EdgeBytes → List Edge
+innerEdges h xs =
+    sorted choiceKey
+    (map (λ x. record { state = x .state; first = x .second; S = x .S }) (only (λ x. not (ltb (x .state) (h .P))) xs))
+
+-- ---- body 4
+
+-- a move's nineteen bytes: order-1 state, symbol, order, B, R
+unfoldable pub moveOf : List ℕ → Move
+moveOf x = record { state = getD x 0 0; symbol = getD x 1 0; order = getD x 2 0; B = field 3 8 x; R = field 11 8 x }
+
+-- "B is empty exactly at order 0." B names states of the annotation's order.
+unfoldable pub noteRight : Head → ℕ → ℕ → Bool
+noteRight h zero B = eqb B 0
+noteRight h (suc zero) B = not (eqb B 0) && inner1 h B
+noteRight h (suc (suc zero)) B = not (eqb B 0) && inner2 h B
+noteRight h (suc (suc (suc k))) B = false
+
+-- the move, where there are n order-1 states
+unfoldable pub moveRight : Head → ℕ → Move → Bool
+moveRight h n m = ltb (m .state) n && ltb (m .symbol) (h .A) && noteRight h (m .order) (m .B) && inner1 h (m .R)
+
+-- (state, symbol, order, B, R)
+unfoldable pub moveKey : Move → List ℕ
+moveKey m = m .state ∷ m .symbol ∷ m .order ∷ m .B ∷ m .R ∷ []
+
+unfoldable pub moveRecords : List ℕ → List Move
+moveRecords file = map moveOf (recordsOf file 3 19)
+
+-- ---- the whole file
+
+-- the number of order-1 states: J and the file's entries
+unfoldable pub states1 : List ℕ → ℕ
+states1 file = head file .J + length (entriesOf (head file) (edgeRecords file))
+
+-- "J and the file's entries together are at most 64", and each rule, edge and move keeps the bounds of its body.
+unfoldable pub recordsRight : List ℕ → Bool
+recordsRight file =
+    every (ruleRight (head file)) (ruleRecords file)
+    && every (edgeRight (head file)) (edgeRecords file)
+    && leb (states1 file) 64
+    && every (moveRight (head file) (states1 file)) (moveRecords file)
+
+-- refusals 1 to 4
+unfoldable pub caseTests : List (Test (List ℕ))
+caseTests =
+    record { fails = λ file. not (placed caseBodies file); refusal = 1 }
+    ∷ record { fails = λ file. not (headRight (head file)); refusal = 2 }
+    ∷ record { fails = λ file. not (recordsRight file); refusal = 3 }
+    ∷ record { fails = λ file. not (rising edgeKey (edgeRecords file) && rising moveKey (moveRecords file)); refusal = 4 }
+    ∷ []
+
+-- 0 for a sound case, else its refusal
+unfoldable pub caseRefusal : List ℕ → ℕ
+caseRefusal file = firstHit caseTests file
+
+-- the case's own automaton
+unfoldable pub ownOf : List ℕ → Automaton
+ownOf file =
+    record {
+      J = head file .J;
+      final1 = head file .final1;
+      final2 = head file .final2;
+      inner = innerEdges (head file) (edgeRecords file);
+      entries = entriesOf (head file) (edgeRecords file);
+      moves = moveRecords file;
+    }
+
+unfoldable pub rulesOf : List ℕ → List Rule
+rulesOf file = map ruleOf (ruleRecords file)

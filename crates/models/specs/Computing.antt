@@ -1,0 +1,54 @@
+-- The definitions of this layer and of those below it, opened together: a theorem that is to hold by computation says
+-- `unfolding computed`.
+-- Assumes nothing.
+use Prim.Native.Nat.{ℕ}
+use Rattle.files.specs.Bytes
+use Rattle.files.specs.Case
+use Rattle.files.specs.Start
+use Rattle.services.specs.Guide
+use Rattle.services.specs.Judge
+use Rattle.services.specs.Listing
+use Rattle.services.specs.Memory
+use Rattle.services.specs.Saturate
+use Rattle.models.specs.Files
+use Rattle.walks.specs.Computing
+
+unfoldable pub open-bytes : ℕ
+unfolding Bytes.number Bytes.field Bytes.records Bytes.kindOf Bytes.countOf Bytes.offsetOf Bytes.lineRight Bytes.bodiesPlaced Bytes.placed Bytes.recordsOf Bytes.firstHit Bytes.testsOn
+open-bytes = 0
+
+unfoldable pub open-case : ℕ
+unfolding Case.caseBodies Case.headOf Case.head Case.inner1 Case.inner2 Case.headRight Case.ruleBytes Case.ruleRight Case.operationOf Case.ruleOf Case.ruleRecords Case.edgeBytes Case.edgeRight Case.edgeKey Case.edgeRecords Case.entriesOf Case.innerEdges Case.moveOf Case.noteRight Case.moveRight Case.moveKey Case.moveRecords Case.states1 Case.recordsRight Case.caseTests Case.caseRefusal Case.ownOf Case.rulesOf
+open-case = 0
+
+unfoldable pub open-start : ℕ
+unfolding Start.startBodies Start.startOf Start.cellBytes Start.startsOf Start.cellRecords Start.orderOf Start.refersTo Start.cellRight Start.cellsRight Start.startRight Start.startFileRight Start.startTests Start.cellOf Start.cellsOf Start.configurationOf
+open-start = 0
+
+unfoldable pub open-guide : ℕ
+unfolding Guide.guideLent Guide.guideFiles Guide.numberTests Guide.guideRefusal Guide.cellWords Guide.cellsLent Guide.startNamed Guide.guideWalk Guide.guideRun Guide.guideLeft Guide.refused Guide.guideAnswer Guide.guideService
+open-guide = 0
+
+unfoldable pub open-judge : ℕ
+unfolding Judge.judgeLent Judge.judgeFiles Judge.answerTests Judge.judgeRefusal Judge.accepted Judge.mark Judge.judgeLeft Judge.judgeAnswer Judge.judgeService
+open-judge = 0
+
+unfoldable pub open-listing : ℕ
+unfolding Listing.ascii Listing.digitsBefore Listing.decimal Listing.listingJudge Listing.listingGuide Listing.sizeLine Listing.countsText Listing.haltText Listing.replyText Listing.startLine Listing.startLines Listing.refusedText Listing.judgedText Listing.listingText
+open-listing = 0
+
+unfoldable pub open-memory : ℕ
+unfolding Memory.zeros Memory.padded Memory.moveWords Memory.entryWords Memory.moveTable Memory.entryTable Memory.lent
+open-memory = 0
+
+unfoldable pub open-saturate : ℕ
+unfolding Saturate.saturated Saturate.tooLarge Saturate.sizeTests Saturate.saturateRefusal Saturate.saturateRefused Saturate.saturateFilled Saturate.saturateAnswer Saturate.saturateService
+open-saturate = 0
+
+unfoldable pub open-files : ℕ
+unfolding Files.two Files.line Files.head Files.rule Files.entry Files.plain Files.start Files.empty1 Files.symbol Files.empty2 Files.above Files.caseA Files.startA Files.caseB Files.startB Files.caseC Files.startC Files.startCC Files.times Files.startsA Files.rulesA Files.itselfA
+open-files = 0
+
+unfoldable pub computed : ℕ
+unfolding open-bytes open-case open-start open-guide open-judge open-listing open-memory open-saturate open-files Computing.computed
+computed = 0

@@ -1,0 +1,111 @@
+-- The sentences of document 01 that are marked *, and its sentence "At the edges": a table of examples from the bytes of the files to the
+-- reply and all lent memory, and one theorem that covers it. It holds by computation of the definitions.
+-- Assumes nothing.
+use Prim.Native.Nat.{ℕ, _*_}
+use mathlib.Core.Path.{_≡_, refl}
+use mathlib.Core.List.{List, [], _∷_, _++_}
+use Rattle.automata.specs.Automaton.{Automaton}
+use lib.ListN.{replicate}
+use Rattle.automata.specs.Saturation.{tableAfter}
+use Rattle.automata.specs.Models
+use Rattle.replies.specs.declared.Halt.{Halt}
+use Rattle.replies.specs.declared.Halt.the-variants.{Arrived}
+use Rattle.replies.specs.declared.Reply.{Reply}
+use Rattle.replies.specs.declared.Reply.the-variants.{Refused, NoRun, Walked}
+use Rattle.files.specs.Case.{ownOf, rulesOf}
+use Rattle.files.specs.Start.{Files}
+use Rattle.services.specs.Memory.{zeros}
+use Rattle.services.specs.Saturate.{Lent, SaturateDone, saturateService}
+use Rattle.services.specs.Judge.{JudgeInput, JudgeDone, judgeService}
+use Rattle.services.specs.Guide.{GuideInput, GuideDone, guideService}
+use Rattle.services.specs.Listing.{listingText, ascii}
+use Rattle.models.specs.Computing.{computed}
+use Rattle.models.specs.Files.{caseA, startA, caseB, startB, caseC, startC, startCC, startsA, rulesA, itselfA}
+
+-- ---- what an example says
+
+pub data Example : Type 0 where
+  -- the table after so many rounds of the case
+  table : List ℕ → ℕ → Automaton → Example
+  -- saturate, with 17 words lent for moves (three records and two words) or 14, and 7 for entries: its code and its two numbers, then
+  -- what both slices hold
+  saturates : List ℕ → ℕ → ℕ → ℕ → ℕ → List ℕ → List ℕ → Example
+  -- judge, with 17 and 7 words and so many answer bytes lent: its code, and what the answers hold
+  judges : List ℕ → List ℕ → ℕ → ℕ → List ℕ → Example
+  -- guide to the start of this number, with 17 and 7 words, 10 cells and 3 trace words lent: its reply, and what the trace holds
+  guides : List ℕ → List ℕ → ℕ → Reply → List ℕ → Example
+  -- the text that the printing program prints
+  lists : List ℕ → List ℕ → List ℕ → Example
+
+-- The example is what the definitions give. All other lent memory is zero.
+abbrev pub Holds : Example → Type 0
+Holds (table case n A) = tableAfter (rulesOf case) (ownOf case) n ≡ A
+Holds (saturates case lent code moves entries moveWords entryWords) =
+    saturateService (record { case = case; moves = lent; entries = 7 })
+    ≡ record { reply = record { code = code; moves = moves; entries = entries }; moves = moveWords; entries = entryWords }
+Holds (judges case start answers code bytes) =
+    judgeService (record { case = case; start = start; moves = 17; entries = 7; answers = answers })
+    ≡ record { code = code; moves = zeros 17; entries = zeros 7; answers = bytes }
+Holds (guides case start number reply trace) =
+    guideService (record { case = case; start = start; number = number; moves = 17; entries = 7; cells = 10 * 68; trace = 3 })
+    ≡ record { reply = reply; moves = zeros 17; entries = zeros 7; cells = zeros (10 * 68); trace = trace }
+Holds (lists case start text) = listingText (record { case = case; start = start }) ≡ text
+
+abbrev pub AllHold : List Example → Type 0
+AllHold [] = Unit {0}
+AllHold (e ∷ es) = Holds e × AllHold es
+
+-- arrived after so many steps with so many cells
+abbrev pub arrived : ℕ → ℕ → Reply
+arrived steps cells = Walked (Arrived (record { steps = steps; cells = cells }))
+
+-- ---- the files of model A decode to the records of the crate `automata`
+
+pub rules-decode : rulesOf caseA ≡ Models.rulesA
+unfolding computed Models.rulesA
+rules-decode = refl
+
+-- ---- the table
+
+abbrev pub examples : List Example
+examples =
+    -- "The table gains entry [0,empty] with (1, order 2 {1}, empty), then [0,{1}] with (0, empty, empty), then ends."
+    table caseA 0 Models.ownA
+    ∷ table caseA 1 Models.firstA
+    ∷ table caseA 2 Models.tableA
+    ∷ table caseA 3 Models.tableA
+    ∷ saturates caseA 17 0 3 3
+    (0 ∷ 1 ∷ 0 ∷ 0 ∷ 0 ∷ 1 ∷ 1 ∷ 2 ∷ 2 ∷ 0 ∷ 2 ∷ 0 ∷ 0 ∷ 0 ∷ 0 ∷ 0 ∷ 0 ∷ [])
+    (1 ∷ 0 ∷ 0 ∷ 0 ∷ 0 ∷ 2 ∷ 0 ∷ [])
+    -- "Starts (0,5), (1,3), (0,3). Yes, by rules 0, 1. Yes, no step. No."
+    ∷ judges caseA startA 5 0 (1 ∷ 1 ∷ 0 ∷ 0 ∷ 0 ∷ [])
+    ∷ guides caseA startA 0 (arrived 2 9) (0 ∷ 1 ∷ 0 ∷ [])
+    ∷ guides caseA startA 1 (arrived 0 6) (0 ∷ 0 ∷ 0 ∷ [])
+    ∷ guides caseA startA 2 NoRun (0 ∷ 0 ∷ 0 ∷ [])
+    -- "With two moves lent: 9."
+    ∷ saturates caseA 14 9 0 0 (zeros 14) (zeros 7)
+    -- what the printing program prints for A
+    ∷ lists caseA startA (ascii "moves 3 entries 3\nstart 0 yes 2 9\nstart 1 yes 0 6\nstart 2 no\n")
+    -- "Symbol 0 above 1: yes. Symbol 0 alone: no, its top is empty after the pop."
+    ∷ judges caseB startB 2 0 (1 ∷ 0 ∷ [])
+    ∷ guides caseB startB 0 (arrived 1 8) (0 ∷ 0 ∷ 0 ∷ [])
+    ∷ guides caseB startB 1 NoRun (0 ∷ 0 ∷ 0 ∷ [])
+    -- "[[0]], a file of four cells: yes, rules 0, 1, 8 cells. [[0],[0]]: yes, rule 1 alone."
+    ∷ judges caseC startC 1 0 (1 ∷ [])
+    ∷ guides caseC startC 0 (arrived 2 8) (0 ∷ 1 ∷ 0 ∷ [])
+    ∷ judges caseC startCC 1 0 (1 ∷ [])
+    ∷ guides caseC startCC 0 (arrived 1 5) (1 ∷ 0 ∷ 0 ∷ [])
+    -- "At the edges: 64 starts pass, 65 give 5; 256 rules pass, 257 give 1; a cell naming itself gives 6."
+    ∷ judges caseA (startsA 64) 64 0 (replicate 64 1)
+    ∷ judges caseA (startsA 65) 65 5 (zeros 65)
+    ∷ saturates (rulesA 256) 17 0 2 2
+    (0 ∷ 1 ∷ 0 ∷ 0 ∷ 0 ∷ 1 ∷ 1 ∷ 2 ∷ 2 ∷ 0 ∷ 0 ∷ 0 ∷ 0 ∷ 0 ∷ 0 ∷ 0 ∷ 0 ∷ [])
+    (1 ∷ 0 ∷ 0 ∷ 0 ∷ 0 ∷ 0 ∷ 0 ∷ [])
+    ∷ saturates (rulesA 257) 17 1 0 0 (zeros 17) (zeros 7)
+    ∷ judges caseA itselfA 5 6 (zeros 5)
+    ∷ []
+
+pub all-hold : AllHold examples
+unfolding computed Models.ownA Models.firstA Models.tableA
+all-hold =
+    (refl, (refl, (refl, (refl, (refl, (refl, (refl, (refl, (refl, (refl, (refl, (refl, (refl, (refl, (refl, (refl, (refl, (refl, (refl, (refl, (refl, (refl, (refl, tt)))))))))))))))))))))))

@@ -1,0 +1,148 @@
+-- The files of document 01's worked models A, B and C, and of its sentence "At the edges", byte by byte.
+-- Assumes nothing.
+use Prim.Native.Nat.{ℕ, zero, suc, _+_, _*_, _/_, _%_}
+use mathlib.Core.List.{List, [], _∷_, _++_}
+
+-- ---- records as bytes
+
+-- a number in two bytes, low byte first
+unfoldable pub two : ℕ → List ℕ
+two n = n % 256 ∷ n / 256 ∷ []
+
+-- a line of a table of contents, the offset below 65,536
+unfoldable pub line : ℕ → ℕ → ℕ → List ℕ
+line kind count offset = two kind ++ two count ++ two offset ++ (0 ∷ 0 ∷ [])
+
+-- body 1 with these numbers of controls, inner states and symbols, and empty final sets
+unfoldable pub head : ℕ → ℕ → ℕ → ℕ → List ℕ
+head P I J A = P ∷ I ∷ J ∷ A ∷ 0 ∷ 0 ∷ 0 ∷ 0 ∷ 0 ∷ 0 ∷ 0 ∷ 0 ∷ 0 ∷ 0 ∷ []
+
+unfoldable pub rule : ℕ → ℕ → ℕ → ℕ → ℕ → List ℕ
+rule p a code b next = p ∷ a ∷ code ∷ b ∷ next ∷ []
+
+-- the entry [p,S]
+unfoldable pub entry : ℕ → ℕ → List ℕ
+entry p S = p ∷ 255 ∷ two S
+
+-- a move of order 0 with empty sets
+unfoldable pub plain : ℕ → ℕ → List ℕ
+plain r a = r ∷ a ∷ 0 ∷ 0 ∷ 0 ∷ 0 ∷ 0 ∷ 0 ∷ 0 ∷ 0 ∷ 0 ∷ 0 ∷ 0 ∷ 0 ∷ 0 ∷ 0 ∷ 0 ∷ 0 ∷ 0 ∷ []
+
+unfoldable pub start : ℕ → ℕ → List ℕ
+start p root = p ∷ two root
+
+unfoldable pub empty1 : List ℕ
+empty1 = 1 ∷ 0 ∷ 0 ∷ 0 ∷ 0 ∷ 0 ∷ []
+
+-- symbol a, annotated by cell u, on cell s
+unfoldable pub symbol : ℕ → ℕ → ℕ → List ℕ
+symbol a u s = 2 ∷ a ∷ two u ++ two s
+
+unfoldable pub empty2 : List ℕ
+empty2 = 3 ∷ 0 ∷ 0 ∷ 0 ∷ 0 ∷ 0 ∷ []
+
+-- order-1 cell w on order-2 cell t
+unfoldable pub above : ℕ → ℕ → List ℕ
+above w t = 4 ∷ 0 ∷ two w ++ two t
+
+-- ---- model A
+
+-- "Case A: P 2, I 0, J 0, A 2; rules 0: (0,0,3,1,0), 1: (0,1,8,0,1); edge (1,255,empty); move (0,1,0,empty,empty). 80 bytes."
+unfoldable pub caseA : List ℕ
+caseA =
+    (4 ∷ []) ++ line 1 1 33 ++ line 2 2 47 ++ line 3 1 57 ++ line 4 1 61
+    ++ head 2 0 0 2
+    ++ rule 0 0 3 1 0
+    ++ rule 0 1 8 0 1
+    ++ entry 1 0
+    ++ plain 0 1
+
+-- "Cells: 0 empty order-1; 1 symbol 1 on 0 annotated 0; 2 empty order-2; 3 is 1 on 2; 4 symbol 0 on 0 annotated 0; 5 is 4 on 3.
+-- Starts (0,5), (1,3), (0,3)."
+unfoldable pub startA : List ℕ
+startA =
+    (2 ∷ []) ++ line 1 3 17 ++ line 2 6 26
+    ++ start 0 5
+    ++ start 1 3
+    ++ start 0 3
+    ++ empty1
+    ++ symbol 1 0 0
+    ++ empty2
+    ++ above 1 2
+    ++ symbol 0 0 0
+    ++ above 4 3
+
+-- ---- model B
+
+-- "Case B: target as A, rule (0,0,5,0,1)."
+unfoldable pub caseB : List ℕ
+caseB =
+    (4 ∷ []) ++ line 1 1 33 ++ line 2 1 47 ++ line 3 1 52 ++ line 4 1 56
+    ++ head 2 0 0 2
+    ++ rule 0 0 5 0 1
+    ++ entry 1 0
+    ++ plain 0 1
+
+-- "starts with control 0": symbol 0 above 1, and symbol 0 alone
+unfoldable pub startB : List ℕ
+startB =
+    (2 ∷ []) ++ line 1 2 17 ++ line 2 7 23
+    ++ start 0 4
+    ++ start 0 6
+    ++ empty1
+    ++ symbol 1 0 0
+    ++ symbol 0 0 1
+    ++ empty2
+    ++ above 2 3
+    ++ symbol 0 0 0
+    ++ above 5 3
+
+-- ---- model C
+
+-- "Case C: P 2, I 0, J 0, A 1, target [1,empty] on symbol 0; rules 0: (0,0,4,0,0), 1: (0,0,6,0,1)."
+unfoldable pub caseC : List ℕ
+caseC =
+    (4 ∷ []) ++ line 1 1 33 ++ line 2 2 47 ++ line 3 1 57 ++ line 4 1 61
+    ++ head 2 0 0 1
+    ++ rule 0 0 4 0 0
+    ++ rule 0 0 6 0 1
+    ++ entry 1 0
+    ++ plain 0 0
+
+-- "[[0]], a file of four cells"
+unfoldable pub startC : List ℕ
+startC = (2 ∷ []) ++ line 1 1 17 ++ line 2 4 20 ++ start 0 3 ++ empty1 ++ symbol 0 0 0 ++ empty2 ++ above 1 2
+
+-- "[[0],[0]]"
+unfoldable pub startCC : List ℕ
+startCC = (2 ∷ []) ++ line 1 1 17 ++ line 2 5 20 ++ start 0 4 ++ empty1 ++ symbol 0 0 0 ++ empty2 ++ above 1 2 ++ above 1 3
+
+-- ---- at the edges
+
+-- n times the same bytes
+unfoldable pub times : ℕ → List ℕ → List ℕ
+times zero x = []
+times (suc n) x = x ++ times n x
+
+-- a start file for case A with n starts (1,3), on its first four cells
+unfoldable pub startsA : ℕ → List ℕ
+startsA n =
+    (2 ∷ []) ++ line 1 n 17 ++ line 2 4 (17 + n * 3)
+    ++ times n (start 1 3)
+    ++ empty1
+    ++ symbol 1 0 0
+    ++ empty2
+    ++ above 1 2
+
+-- case A with n rules, each its rule 1
+unfoldable pub rulesA : ℕ → List ℕ
+rulesA n =
+    (4 ∷ []) ++ line 1 1 33 ++ line 2 n 47 ++ line 3 1 (47 + n * 5) ++ line 4 1 (51 + n * 5)
+    ++ head 2 0 0 2
+    ++ times n (rule 0 1 8 0 1)
+    ++ entry 1 0
+    ++ plain 0 1
+
+-- a start file for case A whose cell 3 names itself
+unfoldable pub itselfA : List ℕ
+itselfA = (2 ∷ []) ++ line 1 1 17 ++ line 2 4 20 ++ start 1 3 ++ empty1 ++ symbol 1 0 0 ++ empty2 ++ above 1 3

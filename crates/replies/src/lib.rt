@@ -1,0 +1,28 @@
+// The answers of the three services: types only. specs/ gives document 01's number and values for each of their cases.
+
+// What saturate returns: 0 with its numbers of moves and entries, or a refusal's number with 0 and 0.
+pub struct Saturation {
+    pub code: u64,
+    pub moves: u64,
+    pub entries: u64,
+}
+
+// The steps taken and the cells used by a walk.
+pub struct Counts {
+    pub steps: u64,
+    pub cells: u64,
+}
+
+// Why a walk halted.
+pub enum Halt {
+    Arrived(Counts),
+    TraceFull(Counts),
+    CellsShort(Counts),
+}
+
+// What guide answers.
+pub enum Reply {
+    Refused(u64),
+    NoRun,
+    Walked(Halt),
+}

@@ -1,0 +1,99 @@
+-- The service guide.
+-- Assumes nothing.
+use Prim.Native.Nat.{ℕ, _/_, min}
+use mathlib.Core.Bool.{Bool, true, false}
+use mathlib.Core.Option.{Option, none, some}
+use mathlib.Core.List.{List, [], _∷_, _++_}
+use lib.ListN.{length, getD}
+use lib.Dec.{eqb, ltb, leb}
+use Rattle.automata.specs.Saturation.{Saturated}
+use Rattle.replies.specs.declared.Reply.{Reply}
+use Rattle.replies.specs.declared.Reply.the-variants.{Refused, NoRun, Walked}
+use Rattle.replies.specs.declared.Halt.the-variants.{CellsShort}
+use Rattle.walks.specs.Guide.{Outcome, outcome, noOutcome, startWalk, guided}
+use Rattle.files.specs.Bytes.{Test, firstHit, testsOn}
+use Rattle.files.specs.Case.{caseTests, rulesOf}
+use Rattle.files.specs.Start.{Files, Start, startTests, startsOf, cellsOf}
+use Rattle.services.specs.Memory.{zeros, padded}
+use Rattle.services.specs.Saturate.{Lent, saturated, sizeTests}
+use Rattle.services.specs.Judge.{accepted}
+
+-- the two files, the number of a start, and the lengths of the move and entry tables, cells and trace lent
+pub record GuideInput : Type 0 where
+  pub case : List ℕ
+  pub start : List ℕ
+  pub number : ℕ
+  pub moves : ℕ
+  pub entries : ℕ
+  pub cells : ℕ
+  pub trace : ℕ
+
+unfoldable pub guideLent : GuideInput → Lent
+guideLent x = record { case = x .case; moves = x .moves; entries = x .entries }
+
+unfoldable pub guideFiles : GuideInput → Files
+guideFiles x = record { case = x .case; start = x .start }
+
+-- refusal 7: "the start named is not in the file"
+unfoldable pub numberTests : List (Test GuideInput)
+numberTests = record { fails = λ x. leb (length (startsOf (x .start))) (x .number); refusal = 7 } ∷ []
+
+-- refusals 1 to 7 and 9
+unfoldable pub guideRefusal : GuideInput → ℕ
+guideRefusal =
+    firstHit (testsOn (λ x. x .case) caseTests ++ testsOn guideFiles startTests ++ numberTests ++ testsOn guideLent sizeTests)
+
+-- A lent cell is 68 words of 16 bits: its four fields and a choice for each of 64 states.
+unfoldable pub cellWords : ℕ
+cellWords = 68
+
+-- "c be the cells lent or 4,096, the fewer"
+unfoldable pub cellsLent : GuideInput → ℕ
+cellsLent x = min (x .cells / cellWords) 4096
+
+-- the start named
+unfoldable pub startNamed : GuideInput → Start
+startNamed x = getD (startsOf (x .start)) (x .number) (record { control = 0; root = 0 })
+
+-- "It is short if the lent cells .. are fewer than the start file's cells (tested before arrival, with 0 steps and 0 cells)."
+unfoldable pub guideWalk : GuideInput → Saturated → Outcome
+guideWalk x T = elim (leb (length (cellsOf (x .start))) (cellsLent x)) [
+  | true ↦ guided (rulesOf (x .case)) T (cellsLent x) (x .trace) []
+      (startWalk (T .table) (cellsOf (x .start)) (startNamed x .control) (startNamed x .root))
+  | false ↦ outcome (CellsShort (record { steps = 0; cells = 0 })) []
+]
+
+-- "No run (the start is marked no, tested before the cells lent)."
+unfoldable pub guideRun : GuideInput → Saturated → Outcome
+guideRun x T = elim (accepted (T .table) (x .start) (startNamed x)) [ true ↦ guideWalk x T | false ↦ noOutcome ]
+
+-- the reply, and all four lent slices afterwards
+pub record GuideDone : Type 0 where
+  pub reply : Reply
+  pub moves : List ℕ
+  pub entries : List ℕ
+  pub cells : List ℕ
+  pub trace : List ℕ
+
+unfoldable pub guideLeft : GuideInput → Outcome → GuideDone
+guideLeft x o =
+    record {
+      reply = o .reply;
+      moves = zeros (x .moves);
+      entries = zeros (x .entries);
+      cells = zeros (x .cells);
+      trace = padded (x .trace) (o .trace);
+    }
+
+unfoldable pub refused : ℕ → Outcome
+refused n = record { reply = Refused n; trace = [] }
+
+unfoldable pub guideAnswer : GuideInput → ℕ → GuideDone
+guideAnswer x n = elim (eqb n 0) [
+  | true ↦ elim (saturated (guideLent x)) [ none ↦ guideLeft x (refused 9) | some T ↦ guideLeft x (guideRun x T) ]
+  | false ↦ guideLeft x (refused n)
+]
+
+-- guide(case, start, number, moves, entries, cells, trace)
+unfoldable pub guideService : GuideInput → GuideDone
+guideService x = guideAnswer x (guideRefusal x)

@@ -1,0 +1,72 @@
+-- The service judge.
+-- Assumes nothing.
+use Prim.Native.Nat.{ℕ}
+use mathlib.Core.Bool.{Bool, true, false}
+use mathlib.Core.Option.{Option, none, some}
+use mathlib.Core.List.{List, [], _∷_, _++_, map}
+use lib.ListN.{length}
+use lib.Dec.{eqb, ltb}
+use Rattle.automata.specs.Automaton.{Automaton}
+use Rattle.automata.specs.Acceptance.{accepts2}
+use Rattle.automata.specs.Saturation.{Saturated}
+use Rattle.stacks.specs.System.{Configuration}
+use Rattle.files.specs.Bytes.{Test, firstHit, testsOn}
+use Rattle.files.specs.Case.{caseTests}
+use Rattle.files.specs.Start.{Files, Start, startTests, startsOf, configurationOf}
+use Rattle.services.specs.Memory.{zeros, padded}
+use Rattle.services.specs.Saturate.{Lent, saturated, sizeTests}
+
+-- the two files, and the lengths of the move and entry tables and of the answers lent
+pub record JudgeInput : Type 0 where
+  pub case : List ℕ
+  pub start : List ℕ
+  pub moves : ℕ
+  pub entries : ℕ
+  pub answers : ℕ
+
+unfoldable pub judgeLent : JudgeInput → Lent
+judgeLent x = record { case = x .case; moves = x .moves; entries = x .entries }
+
+unfoldable pub judgeFiles : JudgeInput → Files
+judgeFiles x = record { case = x .case; start = x .start }
+
+-- refusal 8: "fewer answer bytes than starts"
+unfoldable pub answerTests : List (Test JudgeInput)
+answerTests = record { fails = λ x. ltb (x .answers) (length (startsOf (x .start))); refusal = 8 } ∷ []
+
+-- refusals 1 to 6, 8 and 9
+unfoldable pub judgeRefusal : JudgeInput → ℕ
+judgeRefusal =
+    firstHit (testsOn (λ x. x .case) caseTests ++ testsOn judgeFiles startTests ++ answerTests ++ testsOn judgeLent sizeTests)
+
+-- the table accepts the start's stack from its control
+unfoldable pub accepted : Automaton → List ℕ → Start → Bool
+accepted A file x = accepts2 A (configurationOf file x .stack) (x .control)
+
+-- "One byte per start, 1 or 0."
+unfoldable pub mark : Automaton → List ℕ → Start → ℕ
+mark A file x = elim (accepted A file x) [ true ↦ 1 | false ↦ 0 ]
+
+-- the number returned, and all three lent slices afterwards: "judge and guide zero their working tables"
+pub record JudgeDone : Type 0 where
+  pub code : ℕ
+  pub moves : List ℕ
+  pub entries : List ℕ
+  pub answers : List ℕ
+
+unfoldable pub judgeLeft : JudgeInput → ℕ → List ℕ → JudgeDone
+judgeLeft x n marks =
+    record { code = n; moves = zeros (x .moves); entries = zeros (x .entries); answers = padded (x .answers) marks }
+
+unfoldable pub judgeAnswer : JudgeInput → ℕ → JudgeDone
+judgeAnswer x n = elim (eqb n 0) [
+  | true ↦ elim (saturated (judgeLent x)) [
+    | none ↦ judgeLeft x 9 []
+    | some T ↦ judgeLeft x 0 (map (mark (T .table) (x .start)) (startsOf (x .start)))
+  ]
+  | false ↦ judgeLeft x n []
+]
+
+-- judge(case, start, moves, entries, answers)
+unfoldable pub judgeService : JudgeInput → JudgeDone
+judgeService x = judgeAnswer x (judgeRefusal x)

@@ -1,0 +1,5 @@
+pub mod Memory
+pub mod Saturate
+pub mod Judge
+pub mod Guide
+pub mod Listing

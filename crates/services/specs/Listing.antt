@@ -1,0 +1,94 @@
+-- The text that the printing program prints for a case file and a start file.
+-- Assumes nothing.
+use Prim.Native.Nat.{ℕ, zero, suc, _+_, _*_, _/_, _%_}
+use Prim.Native.Char.{code}
+use Prim.Native.String.{String}
+use mathlib.Core.Bool.{Bool, true, false}
+use mathlib.Core.Option.{Option, none, some}
+use mathlib.Core.List.{List, [], _∷_, _++_}
+use lib.ListN.{length}
+use lib.Dec.{eqb}
+use Rattle.replies.specs.declared.Saturation.{Saturation}
+use Rattle.replies.specs.declared.Counts.{Counts}
+use Rattle.replies.specs.declared.Halt.{Halt}
+use Rattle.replies.specs.declared.Halt.the-variants.{Arrived, TraceFull, CellsShort}
+use Rattle.replies.specs.declared.Reply.{Reply}
+use Rattle.replies.specs.declared.Reply.the-variants.{Refused, NoRun, Walked}
+use Rattle.files.specs.Start.{Files, startsOf}
+use Rattle.services.specs.Saturate.{Lent, saturateService}
+use Rattle.services.specs.Judge.{JudgeInput, judgeService}
+use Rattle.services.specs.Guide.{GuideInput, guideService, cellWords}
+
+-- the bytes of a text in ASCII
+unfoldable pub ascii : String → List ℕ
+ascii String.[] = []
+ascii (String._∷_ c s) = code c ∷ ascii s
+
+-- the digits of n before these; the first argument bounds how many digits n has
+unfoldable pub digitsBefore : ℕ → ℕ → List ℕ → List ℕ
+digitsBefore zero n ds = ds
+digitsBefore (suc k) n ds = elim (eqb (n / 10) 0) [
+  | true ↦ (48 + n % 10) ∷ ds
+  | false ↦ digitsBefore k (n / 10) ((48 + n % 10) ∷ ds)
+]
+
+-- n in decimal
+unfoldable pub decimal : ℕ → List ℕ
+decimal n = digitsBefore (suc n) n []
+
+-- "It lends 1,024 moves, 64 entries, 512 cells, 1,024 trace words", and to judge as many answers as a file has starts at most.
+unfoldable pub listingJudge : Files → JudgeInput
+listingJudge f = record { case = f .case; start = f .start; moves = 1024 * 5; entries = 64 * 2; answers = 64 }
+
+unfoldable pub listingGuide : Files → ℕ → GuideInput
+listingGuide f n =
+    record {
+      case = f .case;
+      start = f .start;
+      number = n;
+      moves = 1024 * 5;
+      entries = 64 * 2;
+      cells = 512 * cellWords;
+      trace = 1024;
+    }
+
+-- `moves 3 entries 3`
+unfoldable pub sizeLine : Saturation → List ℕ
+sizeLine r = ascii "moves " ++ decimal (r .moves) ++ ascii " entries " ++ decimal (r .entries) ++ ascii "\n"
+
+-- "The fields after yes are steps and cells; before them stands `trace` or `cells` if the walk halted so."
+unfoldable pub countsText : Counts → List ℕ
+countsText c = ascii " " ++ decimal (c .steps) ++ ascii " " ++ decimal (c .cells)
+
+unfoldable pub haltText : Halt → List ℕ
+haltText (Arrived c) = countsText c
+haltText (TraceFull c) = ascii " trace" ++ countsText c
+haltText (CellsShort c) = ascii " cells" ++ countsText c
+
+unfoldable pub replyText : Reply → List ℕ
+replyText (Refused n) = ascii " refused " ++ decimal n
+replyText NoRun = ascii " no"
+replyText (Walked h) = ascii " yes" ++ haltText h
+
+-- `start 0 yes 2 9`
+unfoldable pub startLine : Files → ℕ → List ℕ
+startLine f n = ascii "start " ++ decimal n ++ replyText (guideService (listingGuide f n) .reply) ++ ascii "\n"
+
+-- the lines of k starts from number n on
+unfoldable pub startLines : Files → ℕ → ℕ → List ℕ
+startLines f n zero = []
+startLines f n (suc k) = startLine f n ++ startLines f (suc n) k
+
+-- "A refusal prints only `refused` and its number": the number with which judge would refuse.
+unfoldable pub refusedText : ℕ → List ℕ
+refusedText n = ascii "refused " ++ decimal n ++ ascii "\n"
+
+unfoldable pub judgedText : Files → List ℕ
+judgedText f =
+    sizeLine (saturateService (record { case = f .case; moves = 1024 * 5; entries = 64 * 2 }) .reply)
+    ++ startLines f 0 (length (startsOf (f .start)))
+
+unfoldable pub listingText : Files → List ℕ
+listingText f =
+    let n : ℕ = judgeService (listingJudge f) .code in
+    elim (eqb n 0) [ true ↦ judgedText f | false ↦ refusedText n ]

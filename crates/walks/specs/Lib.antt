@@ -1,0 +1,4 @@
+pub mod Cell
+pub mod Guide
+pub mod Computing
+pub mod Models
