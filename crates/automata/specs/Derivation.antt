@@ -1,6 +1,8 @@
 -- Derivations: the one list of all ways in which a rule gives a result, in the order of least choices. Rounds add its results, and the
 -- guided run takes the first derivation of a move from it.
 -- Assumes nothing.
+pub mod Numbers
+pub mod Laws
 use Prim.Native.Nat.{ℕ, zero, suc, _+_, max}
 use mathlib.Core.Bool.{Bool, true, false, not, _&&_, _||_}
 use mathlib.Core.Option.{Option, none, some}

@@ -12,7 +12,7 @@ use Rattle.stacks.specs.System.{Configuration, Rule}
 
 infixr 60 _:₁_
 infixr 60 _:₂_
-infixl 70 _^_
+infixl 70 _annotated_
 -- ---- Definition 1: the stacks are Stack1 and Stack2
 
 -- a^u: what an order-1 stack is a sequence of
@@ -20,8 +20,8 @@ pub record Character : Type 0 where
   pub symbol : ℕ
   pub annotation : Annotation
 
-abbrev pub _^_ : ℕ → Annotation → Character
-a ^ u = record { symbol = a; annotation = u }
+abbrev pub _annotated_ : ℕ → Annotation → Character
+a annotated u = record { symbol = a; annotation = u }
 
 -- "Given an order-n stack w, we define top_{n+1}(w) = w"
 abbrev pub top₃ : Stack2 → Stack2
@@ -63,17 +63,17 @@ pub data Performs : Published → Stack2 → Stack2 → Type 0 where
   pushes₂ : (u : Stack1) (v : Stack2) {w w′ : Stack2} → u :₂ v ≡ w → u :₂ u :₂ v ≡ w′ → Performs push₂ w w′
   -- "collapse_k(a^u′ :_1 u :_(k+1) v) = u′ :_(k+1) v", where u′ is of order k, "and n > k ≥ 1"
   collapses₁ : (a : ℕ) (u′ u : Stack1) (v : Stack2) {w w′ : Stack2}
-      → a ^ of1 u′ :₁ u :₂ v ≡ some w → u′ :₂ v ≡ w′ → Performs collapse₁ w w′
+      → a annotated of1 u′ :₁ u :₂ v ≡ some w → u′ :₂ v ≡ w′ → Performs collapse₁ w w′
   -- "and collapse_n(a^u :_1 v) = u when u is order-n"
-  collapses₂ : (a : ℕ) (v : Stack2) {u w : Stack2} → a ^ of2 u :₁ v ≡ some w → Performs collapse₂ w u
+  collapses₂ : (a : ℕ) (v : Stack2) {u w : Stack2} → a annotated of2 u :₁ v ≡ some w → Performs collapse₂ w u
   -- "push_b^k(w) = b^u :_1 w where u = top_{k+1}(pop_k(w))"
   pushes¹ : {b : ℕ} (u : Stack1) {v w w′ : Stack2}
-      → Performs pop₁ w v → top₂ v ≡ u → b ^ of1 u :₁ w ≡ some w′ → Performs (push¹ b) w w′
+      → Performs pop₁ w v → top₂ v ≡ u → b annotated of1 u :₁ w ≡ some w′ → Performs (push¹ b) w w′
   pushes² : {b : ℕ} (u : Stack2) {v w w′ : Stack2}
-      → Performs pop₂ w v → top₃ v ≡ u → b ^ of2 u :₁ w ≡ some w′ → Performs (push² b) w w′
+      → Performs pop₂ w v → top₃ v ≡ u → b annotated of2 u :₁ w ≡ some w′ → Performs (push² b) w w′
   -- "rew_b(a^u :_1 v) = b^u :_1 v"
   rewrites : (a : ℕ) {b : ℕ} (u : Annotation) (v : Stack2) {w w′ : Stack2}
-      → a ^ u :₁ v ≡ some w → b ^ u :₁ v ≡ some w′ → Performs (rew b) w w′
+      → a annotated u :₁ v ≡ some w → b annotated u :₁ v ≡ some w′ → Performs (rew b) w w′
 
 -- ---- Definition 2
 

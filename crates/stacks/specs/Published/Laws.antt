@@ -12,7 +12,7 @@ use borrow.Author.Tests.{eqb-true, eq-eqb}
 use Rattle.stacks.specs.Stack.{Stack1, nil1, cons1, Stack2, nil2, cons2, Annotation, of1, of2}
 use Rattle.stacks.specs.Stack.{Operation, rewrite, push1, push2, copy, pop1, pop2, collapse1, collapse2, after}
 use Rattle.stacks.specs.System.{Configuration, Rule, entered, stepOn, step, Run, stay, go}
-use Rattle.stacks.specs.Published.{Character, _^_, top₁, top₂, _:₁_, Published, pop₁, pop₂, push₂, collapse₁, collapse₂, push¹, push², rew}
+use Rattle.stacks.specs.Published.{Character, _annotated_, top₁, top₂, _:₁_, Published, pop₁, pop₂, push₂, collapse₁, collapse₂, push¹, push², rew}
 use Rattle.stacks.specs.Published.{Performs, pops₁, pops₂, pushes₂, collapses₁, collapses₂, pushes¹, pushes², rewrites}
 use Rattle.stacks.specs.Published.{Transition, Transitions, nothing, and-then, published, publishedRule}
 
@@ -38,10 +38,10 @@ pub after-performs : (o : Operation) (a : ℕ) (u : Annotation) (s : Stack1) (t 
     → after o a u s t ≡ some w → Performs (published o) (cons2 (cons1 a u s) t) w
 unfolding after published
 after-performs (rewrite b) a u s t e = rewrites a u (cons2 s t) refl e
-after-performs (push1 b) a u s t e = pushes¹ s (pops₁ (a ^ u) {v = cons2 s t} refl) refl e
+after-performs (push1 b) a u s t e = pushes¹ s (pops₁ (a annotated u) {v = cons2 s t} refl) refl e
 after-performs (push2 b) a u s t e = pushes² t (pops₂ (cons1 a u s) refl) refl e
 after-performs copy a u s t {w} e = pushes₂ (cons1 a u s) t refl (Option·some-injective _ w e)
-after-performs pop1 a u s t e = performs-some (pops₁ (a ^ u) refl) e
+after-performs pop1 a u s t e = performs-some (pops₁ (a annotated u) refl) e
 after-performs pop2 a u s t e = performs-some (pops₂ (cons1 a u s) refl) e
 after-performs collapse1 a (of1 u) s t {w} e = collapses₁ a u s t refl (Option·some-injective _ w e)
 after-performs collapse1 a (of2 u) s t {w} e = absurd (Option·none-ne-some w e)
@@ -57,7 +57,7 @@ one-rest c (cons2 s′ t′) e = (cc, cc)
 pub performs-after : (o : Operation) (a : ℕ) (u : Annotation) (s : Stack1) (t : Stack2) {w : Stack2}
     → Performs (published o) (cons2 (cons1 a u s) t) w → after o a u s t ≡ some w
 unfolding after published
-performs-after (rewrite b) a u s t (rewrites a′ u′ v e f) = let r = one-rest (a′ ^ u′) v e in (rw (r .0, r .1) at f)
+performs-after (rewrite b) a u s t (rewrites a′ u′ v e f) = let r = one-rest (a′ annotated u′) v e in (rw (r .0, r .1) at f)
 performs-after (push1 b) a u s t (pushes¹ u′ (pops₁ c {v = v} e) f g) =
     let r = one-rest c v e in
     let h : s ≡ u′ = ap top₂ (sym (r .1)) ∙ f in
@@ -66,7 +66,7 @@ performs-after (push2 b) a u s t (pushes² u′ (pops₂ u″ e) f g) = let h : 
 performs-after copy a u s t (pushes₂ u′ v e f) = cc
 performs-after pop1 a u s t (pops₁ c {v = v} e) = ap {B = Option Stack2} some (sym (one-rest c v e .1))
 performs-after pop2 a u s t (pops₂ u′ e) = cc
-performs-after collapse1 a u s t (collapses₁ a′ u′ u″ v e f) = let r = one-rest (a′ ^ of1 u′) (cons2 u″ v) e in rw (← (r .0)) cc
+performs-after collapse1 a u s t (collapses₁ a′ u′ u″ v e f) = let r = one-rest (a′ annotated of1 u′) (cons2 u″ v) e in rw (← (r .0)) cc
 performs-after collapse2 a u s t (collapses₂ a′ v e) = rw (← (one-rest _ v e .0)) refl
 
 -- each line of document 01's table is the published operation

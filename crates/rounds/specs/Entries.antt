@@ -1,0 +1,174 @@
+-- The entry that an order-1 state is, and the number of an entry [p,S].
+-- Assumes nothing.
+use Prim.Native.Nat.{ℕ, suc, _+_, _-_, _≤_, _<_}
+use mathlib.Core.Bool.{true, false, _&&_, false≢true}
+use mathlib.Core.Path.{_≡_, refl, ap, ap₂, sym, _∙_}
+use mathlib.Core.Logic.{_⊎_, inl, inr, ⊎-elim, ⊎-map}
+use mathlib.Core.Option.{Option, none, some, Option·none-ne-some}
+use mathlib.Core.List.{List, [], _∷_, _++_, List·Memᴰ, List·Memᴰ·not-nil, List·Memᴰ·cases-cons, List·Memᴰ·eq-of-singleton, List·Memᴰ·append-cases, append-nil}
+use native.Mathlib.Omega.{arith}
+use lib.ListN.{length, getD, getElem?, length-append, List·getD-append}
+use lib.Seq.{getD-append-seam, getD-at}
+use lib.Dec.{eqb, leb, ltb}
+use borrow.Author.Tests.{eqb-true, eq-eqb, leb-true, le-leb, ltb-true, ltb-false}
+use Rattle.words.specs.Lists.Laws.{by-test, and-left, and-right, getElem?-some, getElem?-below, getD-in}
+use Rattle.automata.specs.Automaton.{Automaton, Entry, noEntry, entryKey, entryAt, entryOf, entryControl, entrySet}
+use Rattle.automata.specs.Saturation.{isEntry, entryNumber, withEntry}
+
+-- entry [p,S]
+abbrev pub entry : ℕ → ℕ → Entry
+entry p S = record { control = p; S = S }
+
+-- ---- the entry that an order-1 state is
+
+module _ (A : Automaton) where
+  pub entryAt-entry : (r : ℕ) → A .J ≤ r → entryAt A r ≡ getElem? (A .entries) (r - A .J)
+  unfolding entryAt
+  entryAt-entry r h = rw (entryAt, le-leb (A .J) r h)
+
+  pub entryAt-out : (r : ℕ) {e : Entry} → entryAt A r ≡ some e → (A .J ≤ r) × (getElem? (A .entries) (r - A .J) ≡ some e)
+  unfolding entryAt
+  entryAt-out r {e} h = by-test (leb (A .J) r)
+      (λ t. (leb-true (A .J) r t, rw (entryAt, t) at h))
+      (λ t. absurd (Option·none-ne-some e (rw (entryAt, t) at h)))
+
+  -- such a state is in range
+  pub entryAt-range : (r : ℕ) {e : Entry} → entryAt A r ≡ some e → r < A .J + length (A .entries)
+  entryAt-range r h =
+      let (le, f) = entryAt-out r h in
+      let (below, g) = getElem?-some (A .entries) (r - A .J) f in
+      omega arith
+
+  pub entryAt-of : (r p : ℕ) {e : Entry} → entryAt A r ≡ some e → entryOf A p r ≡ eqb (e .control) p
+  unfolding entryOf
+  entryAt-of r p h = rw (entryOf, h)
+
+  pub entryAt-control : (r : ℕ) {e : Entry} → entryAt A r ≡ some e → entryControl A r ≡ e .control
+  unfolding entryControl
+  entryAt-control r h = rw (entryControl, h)
+
+  pub entryAt-set : (r : ℕ) {e : Entry} → entryAt A r ≡ some e → entrySet A r ≡ e .S
+  unfolding entrySet
+  entryAt-set r h = rw (entrySet, h)
+
+  -- an order-1 state is an entry or is not
+  pub entryAt-cases : (r : ℕ) {X : Type 0} → (entryAt A r ≡ none → X) → ((e : Entry) → entryAt A r ≡ some e → X) → X
+  entryAt-cases r {X} f g = go (entryAt A r) f g
+    where
+      go : (o : Option Entry) → (o ≡ none → X) → ((e : Entry) → o ≡ some e → X) → X
+      go none f g = f refl
+      go (some e) f g = g e refl
+
+  pub entryOf-entry : (p r : ℕ) → entryOf A p r ≡ true → entryAt A r ≡ some (entry p (entrySet A r))
+  unfolding entryOf
+  entryOf-entry p r h = entryAt-cases r
+      (λ z. absurd (false≢true (rw (entryOf, z) at h)))
+      (λ e z. z ∙ ap some (ap₂ entry (eqb-true (e .control) p (sym (entryAt-of r p z) ∙ h)) (sym (entryAt-set r z))))
+
+-- ---- the number of an entry
+
+pub isEntry-out : (p S : ℕ) (e : Entry) → isEntry p S e ≡ true → e ≡ entry p S
+unfolding isEntry
+isEntry-out p S e h =
+    ap₂ entry
+    (eqb-true (e .control) p (and-left (eqb (e .control) p) (eqb (e .S) S) h))
+    (eqb-true (e .S) S (and-right (eqb (e .control) p) (eqb (e .S) S) h))
+
+pub isEntry-in : (p S : ℕ) → isEntry p S (entry p S) ≡ true
+unfolding isEntry
+isEntry-in p S = ap₂ _&&_ (eq-eqb p p refl) (eq-eqb S S refl)
+
+-- [p,S] is not there, or is at its number
+pub data Placed (p S : ℕ) (es : List Entry) : Type 0 where
+  new : ((e : Entry) → List·Memᴰ e es → isEntry p S e ≡ false) → withEntry p S es ≡ es ++ entry p S ∷ [] → entryNumber p S es ≡ length es → Placed p S es
+  old : withEntry p S es ≡ es → getElem? es (entryNumber p S es) ≡ some (entry p S) → Placed p S es
+
+pub placed : (p S : ℕ) (es : List Entry) → Placed p S es
+unfolding withEntry entryNumber
+placed p S [] = new (λ e j. absurd (List·Memᴰ·not-nil j)) refl refl
+placed p S (e ∷ es) = by-test (isEntry p S e) (λ h. old (rw (withEntry, h)) (rw (entryNumber, h) (ap some (isEntry-out p S e h)))) (λ h. go h (placed p S es))
+  where
+    go : isEntry p S e ≡ false → Placed p S es → Placed p S (e ∷ es)
+    go h (new n w k) = new
+        (λ x j. ⊎-elim (λ z. ap (isEntry p S) z ∙ h) (λ i. n x i) (List·Memᴰ·cases-cons j))
+        (rw (withEntry, h) (ap (λ (l : List Entry). e ∷ l) w))
+        (rw (entryNumber, h) (ap suc k))
+    go h (old w k) = old (rw (withEntry, h) (ap (λ (l : List Entry). e ∷ l) w)) (rw (entryNumber, h) k)
+
+-- the entries that withEntry appends
+pub withEntry-appends : (p S : ℕ) (es : List Entry) → (more : List Entry) × (withEntry p S es ≡ es ++ more)
+withEntry-appends p S es = go (placed p S es)
+  where
+    go : Placed p S es → (more : List Entry) × (withEntry p S es ≡ es ++ more)
+    go (new n w k) = (entry p S ∷ [], w)
+    go (old w k) = ([], w ∙ sym (append-nil es))
+
+pub entryNumber-at : (p S : ℕ) (es : List Entry) → getElem? (withEntry p S es) (entryNumber p S es) ≡ some (entry p S)
+entryNumber-at p S es = go (placed p S es)
+  where
+    go : Placed p S es → getElem? (withEntry p S es) (entryNumber p S es) ≡ some (entry p S)
+    go (new n w k) =
+        let h : length es < length (es ++ entry p S ∷ []) = rw (length-append es (entry p S ∷ [])) (omega arith) in
+        rw (w, k) (getElem?-below (es ++ entry p S ∷ []) (length es) noEntry h ∙ ap some (getD-append-seam es (entry p S) [] noEntry))
+    go (old w k) = rw w k
+
+pub entryNumber-below : (p S : ℕ) (es : List Entry) → entryNumber p S es < length (withEntry p S es)
+entryNumber-below p S es = getElem?-some (withEntry p S es) (entryNumber p S es) (entryNumber-at p S es) .0
+
+-- an entry that is there has a number below the length
+pub entryNumber-of : (p S : ℕ) {es : List Entry} → List·Memᴰ (entry p S) es → getElem? es (entryNumber p S es) ≡ some (entry p S)
+entryNumber-of p S {es} j = go (placed p S es)
+  where
+    go : Placed p S es → getElem? es (entryNumber p S es) ≡ some (entry p S)
+    go (new n w k) = absurd (false≢true (sym (n (entry p S) j) ∙ isEntry-in p S))
+    go (old w k) = k
+
+pub withEntry-out : (p S : ℕ) (es : List Entry) {e : Entry} → List·Memᴰ e (withEntry p S es) → List·Memᴰ e es ⊎ (e ≡ entry p S)
+withEntry-out p S es {e} j = go (placed p S es)
+  where
+    go : Placed p S es → List·Memᴰ e es ⊎ (e ≡ entry p S)
+    go (new n w k) = ⊎-map (λ i. i) List·Memᴰ·eq-of-singleton (List·Memᴰ·append-cases es (rw w at j))
+    go (old w k) = inl (rw w at j)
+
+-- ---- each entry once
+
+abbrev pub Once : List Entry → Type 0
+Once es = (i j : ℕ) → i < length es → j < length es → entryKey (getD es i noEntry) ≡ entryKey (getD es j noEntry) → i ≡ j
+
+pub entryKey-injective : (d e : Entry) → entryKey d ≡ entryKey e → d ≡ e
+unfolding entryKey
+entryKey-injective d e h =
+    let p : d .control ≡ e .control = cc in
+    let q : d .S ≡ e .S = cc in
+    ap₂ entry p q
+
+-- an element of a list with one appended
+pub last-or-before : {A : Type 0} (xs : List A) (y : A) (k : ℕ) (d : A) → k < length (xs ++ y ∷ [])
+    → ((k < length xs) × (getD (xs ++ y ∷ []) k d ≡ getD xs k d)) ⊎ ((k ≡ length xs) × (getD (xs ++ y ∷ []) k d ≡ y))
+last-or-before {A} xs y k d h =
+    let n : length (xs ++ y ∷ []) ≡ length xs + 1 = length-append xs (y ∷ []) in
+    by-test (ltb k (length xs))
+    (λ t. let l : k < length xs = ltb-true k (length xs) t in inl (l, List·getD-append xs (y ∷ []) d k l))
+    (λ t. let l : length xs ≤ k = ltb-false k (length xs) t in let e : k ≡ length xs = omega arith in inr (e, getD-at xs y [] d k (sym e)))
+
+pub once-append : (p S : ℕ) (es : List Entry) → ((e : Entry) → List·Memᴰ e es → isEntry p S e ≡ false) → Once es → Once (es ++ entry p S ∷ [])
+once-append p S es n h i j li lj e = go (last-or-before es (entry p S) i noEntry li) (last-or-before es (entry p S) j noEntry lj)
+  where
+    At : ℕ → Type 0
+    At k = ((k < length es) × (getD (es ++ entry p S ∷ []) k noEntry ≡ getD es k noEntry)) ⊎ ((k ≡ length es) × (getD (es ++ entry p S ∷ []) k noEntry ≡ entry p S))
+
+    apart : (k : ℕ) → k < length es → entryKey (getD es k noEntry) ≡ entryKey (entry p S) → ⊥
+    apart k l z = false≢true (sym (n (getD es k noEntry) (getD-in es k noEntry l)) ∙ ap (isEntry p S) (entryKey-injective (getD es k noEntry) (entry p S) z) ∙ isEntry-in p S)
+
+    go : At i → At j → i ≡ j
+    go (inl x) (inl y) = h i j (x .0) (y .0) (ap entryKey (sym (x .1)) ∙ e ∙ ap entryKey (y .1))
+    go (inl x) (inr y) = absurd (apart i (x .0) (ap entryKey (sym (x .1)) ∙ e ∙ ap entryKey (y .1)))
+    go (inr x) (inl y) = absurd (apart j (y .0) (ap entryKey (sym (y .1)) ∙ sym e ∙ ap entryKey (x .1)))
+    go (inr x) (inr y) = x .0 ∙ sym (y .0)
+
+pub withEntry-once : (p S : ℕ) (es : List Entry) → Once es → Once (withEntry p S es)
+withEntry-once p S es h = go (placed p S es)
+  where
+    go : Placed p S es → Once (withEntry p S es)
+    go (new n w k) = rw w (once-append p S es n h)
+    go (old w k) = rw w h

@@ -1,0 +1,1 @@
+// The laws of saturation's rounds, in specs/. There is no code here.

@@ -1,0 +1,50 @@
+-- `sets::least_member` meets its contract.
+-- Assumes nothing.
+use mathlib.Core.Path.{sym}
+use native.Mathlib.Nat.{mul-one}
+use native.Mathlib.Omega.{arith}
+use borrow.Author.Needs.{needs}
+use Rattle.sets.specs.Halving.{Halved, halved-more, bit-below, least-found}
+use Rattle.sets.proofs.least_member.Statement.{statement}
+use Rattle.sets.proofs.least_member.Tie as tie
+
+abbrev Inv-loop : tie.InvT-loop
+Inv-loop s q₀ x₀ q x = Halved s q x
+
+abbrev μ-loop : tie.MeasureT-loop
+μ-loop s q₀ x₀ q x = x
+
+loop-holds : tie.Need-loop-holds Inv-loop μ-loop
+loop-holds c = record { is = sym (mul-one _); some-left = search needs; place = search needs }
+
+add-q : tie.Need-add-q Inv-loop μ-loop
+add-q c = search needs
+
+loop-less : tie.Need-loop-less Inv-loop μ-loop
+loop-less c = search needs
+
+loop-again : tie.Need-loop-again Inv-loop μ-loop
+loop-again c = halved-more _ _ _ (c .before .loop .inv) (c .loop-test .taken) (omega arith)
+
+one-bit-requires : tie.Need-one-bit-requires Inv-loop μ-loop
+one-bit-requires c κs = search needs
+
+sub-t7 : tie.Need-sub-t7 Inv-loop μ-loop
+sub-t7 c = bit-below _ _ _ _ (c .before .before .loop .inv) (c .one-bit .ensures)
+
+returns : tie.Need-returns Inv-loop μ-loop
+returns c = (least-found _ _ _ _ (c .before .before .loop .inv) (omega arith) (c .one-bit .ensures), search needs)
+
+pub least-member-spec : {M : Type 1} → statement M
+least-member-spec =
+    tie.close
+    (tie.spec
+    Inv-loop
+    μ-loop
+    loop-holds
+    add-q
+    loop-less
+    loop-again
+    one-bit-requires
+    sub-t7
+    returns)

@@ -1,0 +1,15 @@
+-- `sets::one_bit` meets its contract.
+-- Assumes nothing.
+use Rattle.words.specs.Sets.Laws.{single-shift}
+use borrow.Author.Needs.{needs}
+use Rattle.sets.proofs.one_bit.Statement.{statement}
+use Rattle.sets.proofs.one_bit.Tie as tie
+
+shl-result : tie.Need-shl-result
+shl-result c = search needs
+
+returns : tie.Need-returns
+returns c = single-shift 64 _ (c .pre)
+
+pub one-bit-spec : {M : Type 1} → statement M
+one-bit-spec = tie.close (tie.spec shl-result returns)
