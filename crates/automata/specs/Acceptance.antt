@@ -1,5 +1,6 @@
 -- Acceptance of stacks from states and from sets, and the target.
 -- Assumes nothing.
+pub mod Laws
 use Prim.Native.Nat.{ℕ, zero, suc}
 use mathlib.Core.Bool.{Bool, true, false, _&&_}
 use mathlib.Core.List.{List, [], _∷_}

@@ -2,6 +2,7 @@
 -- guided run takes the first derivation of a move from it.
 -- Assumes nothing.
 pub mod Numbers
+pub mod Joining
 pub mod Laws
 use Prim.Native.Nat.{ℕ, zero, suc, _+_, max}
 use mathlib.Core.Bool.{Bool, true, false, not, _&&_, _||_}

@@ -1,5 +1,7 @@
 -- Case files.
 -- Assumes nothing.
+pub mod Records
+pub mod Laws
 use Prim.Native.Nat.{ℕ, zero, suc, _+_}
 use mathlib.Core.Bool.{Bool, true, false, not, _&&_, _||_}
 use mathlib.Core.List.{List, [], _∷_, map}

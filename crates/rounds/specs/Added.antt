@@ -1,6 +1,6 @@
 -- Adding results: what was there is kept, each result is held afterwards, and each new move is one of the results.
 -- Assumes nothing.
-use Prim.Native.Nat.{ℕ, suc, _+_, _-_, _≤_, _<_}
+use Prim.Native.Nat.{ℕ, suc, _+_, _≤_, _<_}
 use mathlib.Core.Bool.{true, false, not}
 use mathlib.Core.Path.{_≡_, refl, ap, sym, _∙_, subst}
 use mathlib.Core.Option.{some}
@@ -8,7 +8,7 @@ use mathlib.Core.List.{List, [], _∷_, _++_, List·Memᴰ, List·Memᴰ·head, 
 use native.Mathlib.Nat.{add-zero}
 use native.Mathlib.Numerals.{add-one}
 use native.Mathlib.Omega.{arith}
-use lib.ListN.{length, getD, getElem?, length-append}
+use lib.ListN.{length, getD, length-append}
 use lib.Seq.{getD-append-seam}
 use lib.Dec.{eqb}
 use borrow.Author.Tests.{eqb-true, eqb-false, not-true}
@@ -17,12 +17,14 @@ use Rattle.words.specs.Lists.Laws.{by-test, only-in, only-out, only-no}
 use Rattle.words.specs.Order.{sorted}
 use Rattle.words.specs.Order.Laws.{sorted-out, sorted-keeps}
 use Rattle.automata.specs.Automaton.{Automaton, Move, noMove, moveAt, entryAt}
+use Rattle.automata.specs.Derivation.Numbers.{entryAt-entry}
+use Rattle.automata.specs.Derivation.Laws.{resultKey-eq}
 use Rattle.automata.specs.Derivation.{Result, resultKey, resultOf}
 use Rattle.automata.specs.Saturation.{held, entryNumber, add, addAll, extend}
 use Rattle.automata.specs.Facts.{Extends}
-use Rattle.rounds.specs.Entries.{entry, entryAt-entry, entryAt-range, withEntry-appends, entryNumber-at}
+use Rattle.rounds.specs.Entries.{entry, entryAt-range, withEntry-appends, entryNumber-at}
 use Rattle.rounds.specs.Extension.{extends-refl, extends-trans, moves-grow, moveAt-kept, entryAt-kept, resultOf-same}
-use Rattle.rounds.specs.Held.{resultKey-injective, Holds, holds-result, holds-held, holds-kept, held-kept}
+use Rattle.rounds.specs.Held.{Holds, holds-result, holds-held, holds-kept, held-kept}
 
 -- ---- what was there is kept
 
@@ -81,12 +83,7 @@ addAll-length A (x ∷ xs) =
 pub add-entry : (A : Automaton) (x : Result) → entryAt (add A x) (newMove A x .state) ≡ some (entry (x .control) (x .S))
 unfolding add newMove
 add-entry A x =
-    let n : ℕ = entryNumber (x .control) (x .S) (A .entries) in
-    let l : A .J ≤ A .J + n = omega arith in
-    let e : A .J + n - A .J ≡ n = omega arith in
-    entryAt-entry (add A x) (A .J + n) l
-    ∙ ap (getElem? (add A x .entries)) e
-    ∙ entryNumber-at (x .control) (x .S) (A .entries)
+    entryAt-entry (add A x) (entryNumber (x .control) (x .S) (A .entries)) ∙ entryNumber-at (x .control) (x .S) (A .entries)
 
 pub add-holds : (A : Automaton) (x : Result) → Holds (add A x) x
 unfolding newMove
@@ -113,7 +110,7 @@ unfolding extend
 extend-holds A {xs} {x} j = by-test (held A x)
     (λ h. held-kept x (extend-extends A xs) h)
     (λ h. holds-held (extend A xs) x
-    (addAll-holds A (sorted-keeps resultKey resultKey-injective (only-in (λ y. not (held A y)) j (ap not h)))))
+    (addAll-holds A (sorted-keeps resultKey resultKey-eq (only-in (λ y. not (held A y)) j (ap not h)))))
 
 -- ---- each new move is one of the results
 
@@ -129,7 +126,7 @@ stands-kept {A} {C} {i} {x} e s =
     record {
       below = let g = moves-grow e in let b : i < length (A .moves) = s .below in omega arith;
       of-entry = rw k (entryAt-kept e (moveAt A i .state) (s .of-entry));
-      is-result = rw k (resultOf-same e (moveAt A i) (entryAt-range A (moveAt A i .state) (s .of-entry)) ∙ s .is-result);
+      is-result = rw k (resultOf-same e (moveAt A i) (entryAt-range A (moveAt A i .state) (s .of-entry) .1) ∙ s .is-result);
     }
 
 pub stands-add : (A : Automaton) (x : Result) → Stands (add A x) (length (A .moves)) x
@@ -183,7 +180,7 @@ extend-nothing A xs e =
       ap (addAll A) z,
       λ x j. by-test (held A x) (λ h. h)
           (λ h. absurd (List·Memᴰ·not-nil (subst (λ (l : List Result). List·Memᴰ x l) z
-          (sorted-keeps resultKey resultKey-injective (only-in (λ y. not (held A y)) j (ap not h)))))),
+          (sorted-keeps resultKey resultKey-eq (only-in (λ y. not (held A y)) j (ap not h)))))),
     )
 
 -- where all results are held, `extend` changes nothing

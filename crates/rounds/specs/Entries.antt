@@ -1,19 +1,25 @@
 -- The entry that an order-1 state is, and the number of an entry [p,S].
 -- Assumes nothing.
-use Prim.Native.Nat.{ℕ, suc, _+_, _-_, _≤_, _<_}
+use Prim.Native.Nat.{ℕ, suc, _+_, _≤_, _<_}
 use mathlib.Core.Bool.{true, false, _&&_, false≢true}
 use mathlib.Core.Path.{_≡_, refl, ap, ap₂, sym, _∙_}
 use mathlib.Core.Logic.{_⊎_, inl, inr, ⊎-elim, ⊎-map}
-use mathlib.Core.Option.{Option, none, some, Option·none-ne-some}
+use mathlib.Core.Option.{Option, none, some}
 use mathlib.Core.List.{List, [], _∷_, _++_, List·Memᴰ, List·Memᴰ·not-nil, List·Memᴰ·cases-cons, List·Memᴰ·eq-of-singleton, List·Memᴰ·append-cases, append-nil}
 use native.Mathlib.Omega.{arith}
 use lib.ListN.{length, getD, getElem?, length-append, List·getD-append}
 use lib.Seq.{getD-append-seam, getD-at}
-use lib.Dec.{eqb, leb, ltb}
-use borrow.Author.Tests.{eqb-true, eq-eqb, leb-true, le-leb, ltb-true, ltb-false}
+use lib.Dec.{eqb, ltb}
+use borrow.Author.Tests.{eqb-true, eq-eqb, ltb-true, ltb-false}
 use Rattle.words.specs.Lists.Laws.{by-test, and-left, and-right, getElem?-some, getElem?-below, getD-in}
 use Rattle.automata.specs.Automaton.{Automaton, Entry, noEntry, entryKey, entryAt, entryOf, entryControl, entrySet}
+use Rattle.automata.specs.Derivation.Numbers.{entryAt-some}
 use Rattle.automata.specs.Saturation.{isEntry, entryNumber, withEntry}
+
+-- by the value of an option
+pub by-option : {A : Type 0} (o : Option A) {X : Type 0} → (o ≡ none → X) → ((x : A) → o ≡ some x → X) → X
+by-option none f g = f refl
+by-option (some x) f g = g x refl
 
 -- entry [p,S]
 abbrev pub entry : ℕ → ℕ → Entry
@@ -22,22 +28,12 @@ entry p S = record { control = p; S = S }
 -- ---- the entry that an order-1 state is
 
 module _ (A : Automaton) where
-  pub entryAt-entry : (r : ℕ) → A .J ≤ r → entryAt A r ≡ getElem? (A .entries) (r - A .J)
-  unfolding entryAt
-  entryAt-entry r h = rw (entryAt, le-leb (A .J) r h)
-
-  pub entryAt-out : (r : ℕ) {e : Entry} → entryAt A r ≡ some e → (A .J ≤ r) × (getElem? (A .entries) (r - A .J) ≡ some e)
-  unfolding entryAt
-  entryAt-out r {e} h = by-test (leb (A .J) r)
-      (λ t. (leb-true (A .J) r t, rw (entryAt, t) at h))
-      (λ t. absurd (Option·none-ne-some e (rw (entryAt, t) at h)))
-
   -- such a state is in range
-  pub entryAt-range : (r : ℕ) {e : Entry} → entryAt A r ≡ some e → r < A .J + length (A .entries)
+  pub entryAt-range : (r : ℕ) {e : Entry} → entryAt A r ≡ some e → (A .J ≤ r) × (r < A .J + length (A .entries))
   entryAt-range r h =
-      let (le, f) = entryAt-out r h in
-      let (below, g) = getElem?-some (A .entries) (r - A .J) f in
-      omega arith
+      let (n, e, f) = entryAt-some A r h in
+      let l : n < length (A .entries) = getElem?-some (A .entries) n f .0 in
+      (omega arith, omega arith)
 
   pub entryAt-of : (r p : ℕ) {e : Entry} → entryAt A r ≡ some e → entryOf A p r ≡ eqb (e .control) p
   unfolding entryOf
@@ -51,17 +47,9 @@ module _ (A : Automaton) where
   unfolding entrySet
   entryAt-set r h = rw (entrySet, h)
 
-  -- an order-1 state is an entry or is not
-  pub entryAt-cases : (r : ℕ) {X : Type 0} → (entryAt A r ≡ none → X) → ((e : Entry) → entryAt A r ≡ some e → X) → X
-  entryAt-cases r {X} f g = go (entryAt A r) f g
-    where
-      go : (o : Option Entry) → (o ≡ none → X) → ((e : Entry) → o ≡ some e → X) → X
-      go none f g = f refl
-      go (some e) f g = g e refl
-
   pub entryOf-entry : (p r : ℕ) → entryOf A p r ≡ true → entryAt A r ≡ some (entry p (entrySet A r))
   unfolding entryOf
-  entryOf-entry p r h = entryAt-cases r
+  entryOf-entry p r h = by-option (entryAt A r)
       (λ z. absurd (false≢true (rw (entryOf, z) at h)))
       (λ e z. z ∙ ap some (ap₂ entry (eqb-true (e .control) p (sym (entryAt-of r p z) ∙ h)) (sym (entryAt-set r z))))
 
@@ -102,6 +90,12 @@ withEntry-appends p S es = go (placed p S es)
     go : Placed p S es → (more : List Entry) × (withEntry p S es ≡ es ++ more)
     go (new n w k) = (entry p S ∷ [], w)
     go (old w k) = ([], w ∙ sym (append-nil es))
+
+pub withEntry-grows : (p S : ℕ) (es : List Entry) → length es ≤ length (withEntry p S es)
+withEntry-grows p S es =
+    let (more, e) = withEntry-appends p S es in
+    let l : length (withEntry p S es) ≡ length es + length more = ap length e ∙ length-append es more in
+    omega arith
 
 pub entryNumber-at : (p S : ℕ) (es : List Entry) → getElem? (withEntry p S es) (entryNumber p S es) ≡ some (entry p S)
 entryNumber-at p S es = go (placed p S es)

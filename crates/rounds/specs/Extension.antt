@@ -12,9 +12,10 @@ use lib.Dec.{leb}
 use borrow.Author.Tests.{leb-true}
 use Rattle.words.specs.Lists.Laws.{by-test, getElem?-below}
 use Rattle.automata.specs.Automaton.{Automaton, Move, Edge, Entry, noMove, noEdge, noEntry, entryEdges, edges, edgeAt, moveAt, entryAt, entryOf, entryControl, entrySet}
+use Rattle.automata.specs.Derivation.Numbers.{entryAt-entry}
 use Rattle.automata.specs.Derivation.{resultOf}
 use Rattle.automata.specs.Facts.{Extends}
-use Rattle.rounds.specs.Entries.{entryAt-entry, entryAt-range, entryOf-entry}
+use Rattle.rounds.specs.Entries.{entryAt-range, entryOf-entry}
 
 -- ---- an order
 
@@ -100,8 +101,10 @@ module _ {A C : Automaton} (x : Extends A C) where
       by-test (leb (A .J) r)
       (λ t.
       let l : A .J ≤ r = leb-true (A .J) r t in
-      let k : C .J ≤ r = omega arith in
-      entryAt-entry C r k ∙ ap (λ (n : ℕ). getElem? (C .entries) (r - n)) j ∙ getEntry-kept (r - A .J) (omega arith) ∙ sym (entryAt-entry A r l))
+      let a : r ≡ A .J + (r - A .J) = omega arith in
+      let c : r ≡ C .J + (r - A .J) = omega arith in
+      ap (entryAt C) c ∙ entryAt-entry C (r - A .J) ∙ getEntry-kept (r - A .J) (omega arith)
+      ∙ sym (entryAt-entry A (r - A .J)) ∙ ap (entryAt A) (sym a))
       (λ t. let u : leb (C .J) r ≡ false = ap (λ (n : ℕ). leb n r) j ∙ t in rw (entryAt, t, u))
 
   pub entryOf-same : (p r : ℕ) → r < states A → entryOf C p r ≡ entryOf A p r
@@ -117,10 +120,10 @@ module _ {A C : Automaton} (x : Extends A C) where
   entrySet-same r h = rw (entrySet, entryAt-same r h)
 
   pub entryAt-kept : (r : ℕ) {e : Entry} → entryAt A r ≡ some e → entryAt C r ≡ some e
-  entryAt-kept r h = entryAt-same r (entryAt-range A r h) ∙ h
+  entryAt-kept r h = entryAt-same r (entryAt-range A r h .1) ∙ h
 
   pub entryOf-kept : (p r : ℕ) → entryOf A p r ≡ true → entryOf C p r ≡ true
-  entryOf-kept p r h = entryOf-same p r (entryAt-range A r (entryOf-entry A p r h)) ∙ h
+  entryOf-kept p r h = entryOf-same p r (entryAt-range A r (entryOf-entry A p r h) .1) ∙ h
 
   -- a move of a state that is there stands for the same result
   pub resultOf-same : (m : Move) → m .state < states A → resultOf C m ≡ resultOf A m

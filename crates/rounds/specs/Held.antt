@@ -1,4 +1,4 @@
--- Results that an automaton holds, and their keys.
+-- Results that an automaton holds.
 -- Assumes nothing.
 use Prim.Native.Nat.{ℕ}
 use mathlib.Core.Bool.{true, _&&_}
@@ -15,19 +15,6 @@ use Rattle.automata.specs.Saturation.{isResult, held}
 use Rattle.automata.specs.Facts.{Extends}
 use Rattle.rounds.specs.Entries.{entry, entryAt-of, entryAt-control, entryAt-set, entryOf-entry}
 use Rattle.rounds.specs.Extension.{move-kept, entryAt-kept}
-
--- ---- a result is determined by its key
-
-pub resultKey-injective : (x y : Result) → resultKey x ≡ resultKey y → x ≡ y
-unfolding resultKey
-resultKey-injective x y h =
-    let p : x .control ≡ y .control = cc in
-    let s : x .S ≡ y .S = cc in
-    let a : x .symbol ≡ y .symbol = cc in
-    let k : x .order ≡ y .order = cc in
-    let b : x .B ≡ y .B = cc in
-    let r : x .R ≡ y .R = cc in
-    λ i. record { control = p i; S = s i; symbol = a i; order = k i; B = b i; R = r i }
 
 -- ---- the move that a held result is
 

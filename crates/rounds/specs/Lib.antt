@@ -3,3 +3,8 @@ pub mod Extension
 pub mod Held
 pub mod Added
 pub mod Rounds
+pub mod First
+pub mod Prefixes
+pub mod Limits
+pub mod Before
+pub mod Kept

@@ -15,7 +15,7 @@ use lib.Dec.{eqb}
 use borrow.Author.Tests.{eqb-true, eq-eqb}
 use Rattle.words.specs.Sets.{join, single, members}
 use Rattle.words.specs.Sets.Laws.{or-cases}
-use Rattle.words.specs.Lists.{each, when, first}
+use Rattle.words.specs.Lists.{each, when}
 use Rattle.words.specs.Lists.Laws.{each-in, each-out, when-in, when-out, first-some}
 use Rattle.words.specs.Order.{same}
 use Rattle.words.specs.Order.Laws.{same-eq}

@@ -11,7 +11,7 @@ use lib.ListN.{length, getD, getElem?}
 use lib.Dec.{eqb, leb}
 use borrow.Author.Tests.{eqb-true, eq-eqb, leb-true, le-leb}
 use Rattle.words.specs.Sets.{members}
-use Rattle.words.specs.Lists.{each, choices}
+use Rattle.words.specs.Lists.{choices}
 use Rattle.words.specs.Lists.Laws.{by-test, and-left, and-right, getElem?-below, getElem?-some}
 use Rattle.words.specs.Lists.Laws.{places-in, places-out, Chosen, choices-in, choices-out}
 use Rattle.automata.specs.Automaton.{Automaton, Entry, noMove, noEdge, noEntry, edges, moveAt, edgeAt, edgesOf, movesOf, entryAt, entryOf, entryControl, entrySet}

@@ -7,12 +7,12 @@ use mathlib.Core.Logic.{⊎-elim}
 use mathlib.Core.List.{List, [], _∷_, _++_, List·Memᴰ, List·Memᴰ·head, List·Memᴰ·tail, List·Memᴰ·not-nil, List·Memᴰ·cases-cons}
 use native.Mathlib.Nat.{add-comm, zero-mul, suc-mul, pow-succ', not-suc-le-zero, le-of-suc-le-suc}
 use native.Mathlib.Omega.{arith}
-use lib.ListN.{length, getD, take, drop, length-drop}
+use lib.ListN.{length, getD, take, drop, length-drop, List·getD-eq-default}
 use lib.Seq.{drop-drop, getD-drop, length-take-le}
-use lib.Dec.{eqb, leb}
-use borrow.Author.Tests.{eqb-true, eqb-false, eq-eqb, leb-true, not-true}
+use lib.Dec.{eqb, ltb, leb}
+use borrow.Author.Tests.{eqb-true, eqb-false, eq-eqb, ltb-true, ltb-false, leb-true, not-true}
 use Rattle.words.specs.Lists.{every}
-use Rattle.words.specs.Lists.Laws.{by-test, and-left, and-right, every-cons, every-append}
+use Rattle.words.specs.Lists.Laws.{by-test, and-left, and-right, every-cons, every-append, getD-in}
 use Rattle.files.specs.Bytes.{number, field, records, Body, kindOf, countOf, offsetOf, lineRight, bodiesPlaced, placed, recordsOf, Test, firstHit, testsOn}
 
 -- ---- refusals
@@ -208,6 +208,11 @@ pub recordsOf-bytes : (file : List ℕ) (n size : ℕ) {x : List ℕ} → AllByt
 unfolding recordsOf
 recordsOf-bytes file n size h j =
     records-bytes (countOf file n) size (drop (offsetOf file n) file) (drop-bytes (offsetOf file n) file h) j
+
+pub record-bytes : (file : List ℕ) (n size i : ℕ) → AllBytes file → AllBytes (getD (recordsOf file n size) i [])
+record-bytes file n size i h = by-test (ltb i (length (recordsOf file n size)))
+    (λ e. recordsOf-bytes file n size h (getD-in (recordsOf file n size) i [] (ltb-true i (length (recordsOf file n size)) e)))
+    (λ e. rw (List·getD-eq-default (recordsOf file n size) [] (ltb-false i (length (recordsOf file n size)) e)) (λ k. omega arith))
 
 -- the counts and offsets of a table of contents
 pub count-below : (file : List ℕ) (n : ℕ) → AllBytes file → countOf file n < 2 ^ 16

@@ -1,0 +1,328 @@
+-- What acceptance means: a type for each of the tests of Acceptance.antt, by recursion on the stack, that holds exactly if the test does.
+-- An automaton accepts all that an automaton accepts which it extends. The edges of a control are its entries.
+-- Assumes nothing.
+use Prim.Native.Nat.{ℕ, zero, suc, _+_, _-_, _<_, _≤_}
+use mathlib.Core.Bool.{Bool, true, _&&_, false≢true}
+use mathlib.Core.Path.{_≡_, refl, ap, ap₂, sym, _∙_, subst}
+use mathlib.Core.Logic.{_⊎_, inl, inr, ⊎-elim}
+use mathlib.Core.List.{List, [], _∷_, _++_, append-assoc, List·Memᴰ}
+use native.Mathlib.Nat.{not-suc-le-zero, le-of-suc-le-suc, add-zero}
+use native.Mathlib.Omega.{arith}
+use lib.ListN.{length, getD, length-append, List·getD-append}
+use lib.Seq.{getD-append-add}
+use lib.Dec.{eqb, ltb}
+use borrow.Author.Tests.{ltb-true, ltb-false}
+use Rattle.words.specs.Sets.{members}
+use Rattle.words.specs.Sets.Laws.{Has, All, has-in, in-has}
+use Rattle.words.specs.Lists.{only, every, some-of, places}
+use Rattle.words.specs.Lists.Laws.{by-test, and-left, and-right, only-in, only-out, every-in, in-every, some-of-in, some-of-out, getD-in, in-getD, places-in, places-out}
+use Rattle.stacks.specs.Stack.{Stack1, nil1, cons1, Stack2, nil2, cons2, Annotation, of1, of2}
+use Rattle.automata.specs.Automaton.{Automaton, Move, Edge, Entry, noMove, noEdge, noEntry, edges, entryEdges, edgeAt, moveAt, edgesOf, movesOf, entryEdge}
+use Rattle.automata.specs.Acceptance.{accepts1, accepts2, acceptsNote, moveFits, edgeFits}
+use Rattle.automata.specs.Derivation.Numbers.{MoveOf, EdgeOf, EntryIs, movesOf-in, movesOf-out, edgesOf-in, edgesOf-out}
+use Rattle.automata.specs.Facts.{TableFacts, Extends}
+
+-- ---- entries as edges
+
+pub length-entryEdges : (r : ℕ) (es : List Entry) → length (entryEdges r es) ≡ length es
+unfolding entryEdges
+length-entryEdges r [] = refl
+length-entryEdges r (x ∷ es) = ap suc (length-entryEdges (suc r) es)
+
+pub entryEdges-at : (r : ℕ) (es : List Entry) (e : ℕ) → e < length es
+    → getD (entryEdges r es) e noEdge ≡ record { state = getD es e noEntry .control; first = r + e; S = getD es e noEntry .S }
+unfolding entryEdges
+entryEdges-at r [] e h = absurd (not-suc-le-zero h)
+entryEdges-at r (x ∷ es) zero h = ap (λ (n : ℕ). record { state = x .control; first = n; S = x .S }) (sym (add-zero r))
+entryEdges-at r (x ∷ es) (suc e) h =
+    let k : suc r + e ≡ r + suc e = omega arith in
+    entryEdges-at (suc r) es e (le-of-suc-le-suc h)
+    ∙ ap (λ (n : ℕ). record { state = getD es e noEntry .control; first = n; S = getD es e noEntry .S }) k
+
+pub entryEdges-append : (r : ℕ) (xs ys : List Entry) → entryEdges r (xs ++ ys) ≡ entryEdges r xs ++ entryEdges (r + length xs) ys
+unfolding entryEdges
+entryEdges-append r [] ys = ap (λ (n : ℕ). entryEdges n ys) (sym (add-zero r))
+entryEdges-append r (x ∷ xs) ys =
+    let k : suc r + length xs ≡ r + suc (length xs) = omega arith in
+    ap (λ (l : List Edge). record { state = x .control; first = r; S = x .S } ∷ l)
+    (entryEdges-append (suc r) xs ys ∙ ap (λ (n : ℕ). entryEdges (suc r) xs ++ entryEdges n ys) k)
+
+-- edge i is entry e, which is [p,S]
+pub record EntryEdge (A : Automaton) (p S e i : ℕ) : Type 0 where
+  pub number-is : i ≡ entryEdge A e
+  pub edge : EdgeOf A p i
+  pub first-is : edgeAt A i .first ≡ A .J + e
+  pub set-is : edgeAt A i .S ≡ S
+  pub entry : EntryIs A p S e
+
+module _ (A : Automaton) where
+  pub length-edges : length (edges A) ≡ length (A .inner) + length (A .entries)
+  unfolding edges
+  length-edges = length-append (A .inner) _ ∙ ap (λ (n : ℕ). length (A .inner) + n) (length-entryEdges (A .J) (A .entries))
+
+  pub edgeAt-inner : (i : ℕ) → i < length (A .inner) → edgeAt A i ≡ getD (A .inner) i noEdge
+  unfolding edgeAt edges
+  edgeAt-inner i h = List·getD-append (A .inner) _ noEdge i h
+
+  -- an entry is an edge of its control
+  pub entry-edge : {p S e : ℕ} → EntryIs A p S e → EntryEdge A p S e (entryEdge A e)
+  unfolding entryEdge edgeAt edges
+  entry-edge {e = e} h =
+      let k = length-edges in
+      let b : e < length (A .entries) = h .below in
+      let x = getD-append-add (A .inner) (entryEdges (A .J) (A .entries)) e noEdge ∙ entryEdges-at (A .J) (A .entries) e b in
+      record {
+        number-is = refl;
+        edge = record { below = omega arith; state-is = ap (λ (z : Edge). z .state) x ∙ h .control-is };
+        first-is = ap (λ (z : Edge). z .first) x;
+        set-is = ap (λ (z : Edge). z .S) x ∙ h .set-is;
+        entry = h;
+      }
+
+  -- an edge is an inner edge or an entry
+  pub edge-cases : (i : ℕ) → i < length (edges A) → (i < length (A .inner)) ⊎ ((e : ℕ) × (e < length (A .entries)) × (i ≡ entryEdge A e))
+  unfolding entryEdge
+  edge-cases i h = by-test (ltb i (length (A .inner)))
+      (λ y. inl (ltb-true i (length (A .inner)) y))
+      (λ n.
+      let l : length (A .inner) ≤ i = ltb-false i (length (A .inner)) n in
+      let k = length-edges in
+      inr (i - length (A .inner), omega arith, omega arith))
+
+  -- the edges of a control are its entries
+  pub control-edge : {P p i : ℕ} → TableFacts P A → p < P → EdgeOf A p i → (e : ℕ) × EntryEdge A p (edgeAt A i .S) e i
+  control-edge {P} {p} {i} F l h = ⊎-elim inner entry (edge-cases i (h .below))
+    where
+      inner : i < length (A .inner) → (e : ℕ) × EntryEdge A p (edgeAt A i .S) e i
+      inner k =
+          let f : P ≤ getD (A .inner) i noEdge .state = F .inner-facts _ (getD-in (A .inner) i noEdge k) .from-inner in
+          let g : getD (A .inner) i noEdge .state ≡ p = ap (λ (z : Edge). z .state) (sym (edgeAt-inner i k)) ∙ h .state-is in
+          absurd (omega arith)
+
+      entry : (e : ℕ) × (e < length (A .entries)) × (i ≡ entryEdge A e) → (e : ℕ) × EntryEdge A p (edgeAt A i .S) e i
+      entry (e, b, q) =
+          let x = entry-edge (record { below = b; control-is = refl; set-is = refl }) in (
+            e,
+            record {
+              number-is = q;
+              edge = h;
+              first-is = ap (λ (k : ℕ). edgeAt A k .first) q ∙ x .first-is;
+              set-is = refl;
+              entry = record {
+                below = b;
+                control-is = sym (x .edge .state-is) ∙ ap (λ (k : ℕ). edgeAt A k .state) (sym q) ∙ h .state-is;
+                set-is = sym (x .set-is) ∙ ap (λ (k : ℕ). edgeAt A k .S) (sym q);
+              };
+            },
+          )
+
+-- ---- the meaning
+
+-- A move of r on a whose order and annotation set meet Note and whose rest set's members meet Rest.
+pub record ByMove (A : Automaton) (a r : ℕ) (Note : ℕ → ℕ → Type 0) (Rest : ℕ → Type 0) : Type 0 where
+  pub number : ℕ
+  pub move : MoveOf A a r number
+  pub note : Note (moveAt A number .order) (moveAt A number .B)
+  pub rest : All (moveAt A number .R) Rest
+
+-- An edge of q whose order-1 state meets First and whose set's members meet Rest.
+pub record ByEdge (A : Automaton) (q : ℕ) (First Rest : ℕ → Type 0) : Type 0 where
+  pub number : ℕ
+  pub edge : EdgeOf A q number
+  pub first : First (edgeAt A number .first)
+  pub rest : All (edgeAt A number .S) Rest
+
+module _ (A : Automaton) where
+  unfoldable mutual
+    pub Accepts1 : Stack1 → ℕ → Type 0
+    Accepts1 nil1 r = Has (A .final1) r
+    Accepts1 (cons1 a u s) r = ByMove A a r (λ k B. AcceptsNote u k B) (λ q. Accepts1 s q)
+
+    pub Accepts2 : Stack2 → ℕ → Type 0
+    Accepts2 nil2 q = Has (A .final2) q
+    Accepts2 (cons2 w t) q = ByEdge A q (λ r. Accepts1 w r) (λ x. Accepts2 t x)
+
+    pub AcceptsNote : Annotation → ℕ → ℕ → Type 0
+    AcceptsNote (of1 u) zero B = Unit {0}
+    AcceptsNote (of1 u) (suc zero) B = All B (λ q. Accepts1 u q)
+    AcceptsNote (of1 u) (suc (suc k)) B = ⊥
+    AcceptsNote (of2 u) zero B = Unit {0}
+    AcceptsNote (of2 u) (suc zero) B = ⊥
+    AcceptsNote (of2 u) (suc (suc k)) B = All B (λ q. Accepts2 u q)
+
+-- ---- the tests and the meaning
+
+all-out : (s : ℕ) (test : ℕ → Bool) → every test (members s) ≡ true → All s (λ q. test q ≡ true)
+all-out s test e q h = every-in test e (has-in h)
+
+all-in : (s : ℕ) (test : ℕ → Bool) → All s (λ q. test q ≡ true) → every test (members s) ≡ true
+all-in s test f = in-every test (members s) (λ q i. f q (in-has s i))
+
+module _ {X : Type 0} (mine fits : X → Bool) (l : List X) (d : X) where
+  some-only-out : some-of fits (only mine l) ≡ true → (i : ℕ) × List·Memᴰ i (places mine l) × (fits (getD l i d) ≡ true)
+  some-only-out e =
+      let (x, j, f) = some-of-out fits (only mine l) e in
+      let (k, g) = only-out mine l j in
+      let (i, h, at) = in-getD k in
+      (i, places-in mine l d i h (ap mine (at d) ∙ g), ap fits (at d) ∙ f)
+
+  some-only-in : (i : ℕ) → List·Memᴰ i (places mine l) → fits (getD l i d) ≡ true → some-of fits (only mine l) ≡ true
+  some-only-in i j f =
+      let (h, e) = places-out mine l d j in
+      some-of-in fits (only-in mine (getD-in l i d h) e) f
+
+module _ (A : Automaton) where
+  mutual
+    unfolding accepts1 Accepts1 moveFits edgeFits moveAt edgeAt movesOf edgesOf
+
+    pub accepts1-out : (s : Stack1) (r : ℕ) → accepts1 A s r ≡ true → Accepts1 A s r
+    accepts1-out nil1 r e = record { has = e }
+    accepts1-out (cons1 a u s) r e =
+        let (i, j, g) = some-only-out (λ m. eqb (m .state) r && eqb (m .symbol) a) (moveFits A u s) (A .moves) noMove e in
+        let m : Move = moveAt A i in
+        let note : Bool = acceptsNote A u (m .order) (m .B) in
+        let rest : Bool = every (λ q. accepts1 A s q) (members (m .R)) in
+        record {
+          number = i;
+          move = movesOf-out A r a j;
+          note = acceptsNote-out u (m .order) (m .B) (and-left note rest g);
+          rest = λ q k. accepts1-out s q (all-out (m .R) (λ x. accepts1 A s x) (and-right note rest g) q k);
+        }
+
+    pub accepts2-out : (t : Stack2) (q : ℕ) → accepts2 A t q ≡ true → Accepts2 A t q
+    accepts2-out nil2 q e = record { has = e }
+    accepts2-out (cons2 w t) q e =
+        let (i, j, g) = some-only-out (λ x. eqb (x .state) q) (edgeFits A w t) (edges A) noEdge e in
+        let x : Edge = edgeAt A i in
+        let top : Bool = accepts1 A w (x .first) in
+        let rest : Bool = every (λ y. accepts2 A t y) (members (x .S)) in
+        record {
+          number = i;
+          edge = edgesOf-out A q j;
+          first = accepts1-out w (x .first) (and-left top rest g);
+          rest = λ y k. accepts2-out t y (all-out (x .S) (λ z. accepts2 A t z) (and-right top rest g) y k);
+        }
+
+    pub acceptsNote-out : (u : Annotation) (k B : ℕ) → acceptsNote A u k B ≡ true → AcceptsNote A u k B
+    acceptsNote-out (of1 u) zero B e = tt
+    acceptsNote-out (of1 u) (suc zero) B e = λ q h. accepts1-out u q (all-out B (λ x. accepts1 A u x) e q h)
+    acceptsNote-out (of1 u) (suc (suc k)) B e = absurd (false≢true e)
+    acceptsNote-out (of2 u) zero B e = tt
+    acceptsNote-out (of2 u) (suc zero) B e = absurd (false≢true e)
+    acceptsNote-out (of2 u) (suc (suc k)) B e = λ q h. accepts2-out u q (all-out B (λ x. accepts2 A u x) e q h)
+
+  mutual
+    unfolding accepts1 Accepts1 moveFits edgeFits moveAt edgeAt movesOf edgesOf
+
+    pub accepts1-in : (s : Stack1) (r : ℕ) → Accepts1 A s r → accepts1 A s r ≡ true
+    accepts1-in nil1 r x = x .has
+    accepts1-in (cons1 a u s) r x =
+        let m : Move = moveAt A (x .number) in
+        some-only-in (λ z. eqb (z .state) r && eqb (z .symbol) a) (moveFits A u s) (A .moves) noMove (x .number) (movesOf-in A (x .move))
+        (ap₂ _&&_ (acceptsNote-in u (m .order) (m .B) (x .note)) (all-in (m .R) (λ q. accepts1 A s q) (λ q h. accepts1-in s q (x .rest q h))))
+
+    pub accepts2-in : (t : Stack2) (q : ℕ) → Accepts2 A t q → accepts2 A t q ≡ true
+    accepts2-in nil2 q x = x .has
+    accepts2-in (cons2 w t) q x =
+        let y : Edge = edgeAt A (x .number) in
+        some-only-in (λ z. eqb (z .state) q) (edgeFits A w t) (edges A) noEdge (x .number) (edgesOf-in A (x .edge))
+        (ap₂ _&&_ (accepts1-in w (y .first) (x .first)) (all-in (y .S) (λ z. accepts2 A t z) (λ z h. accepts2-in t z (x .rest z h))))
+
+    pub acceptsNote-in : (u : Annotation) (k B : ℕ) → AcceptsNote A u k B → acceptsNote A u k B ≡ true
+    acceptsNote-in (of1 u) zero B x = refl
+    acceptsNote-in (of1 u) (suc zero) B x = all-in B (λ q. accepts1 A u q) (λ q h. accepts1-in u q (x q h))
+    acceptsNote-in (of1 u) (suc (suc k)) B x = absurd x
+    acceptsNote-in (of2 u) zero B x = refl
+    acceptsNote-in (of2 u) (suc zero) B x = absurd x
+    acceptsNote-in (of2 u) (suc (suc k)) B x = all-in B (λ q. accepts2 A u q) (λ q h. accepts2-in u q (x q h))
+
+  -- the annotation and the rest are as the move asks, exactly if the test says so; the same of an edge
+  pub moveFits-out : (u : Annotation) (s : Stack1) (m : Move) → moveFits A u s m ≡ true → AcceptsNote A u (m .order) (m .B) × All (m .R) (Accepts1 A s)
+  unfolding moveFits
+  moveFits-out u s m e =
+      let note : Bool = acceptsNote A u (m .order) (m .B) in
+      let rest : Bool = every (λ q. accepts1 A s q) (members (m .R)) in
+      (acceptsNote-out u (m .order) (m .B) (and-left note rest e), λ q h. accepts1-out s q (all-out (m .R) (λ x. accepts1 A s x) (and-right note rest e) q h))
+
+  pub moveFits-in : (u : Annotation) (s : Stack1) (m : Move) → AcceptsNote A u (m .order) (m .B) → All (m .R) (Accepts1 A s) → moveFits A u s m ≡ true
+  unfolding moveFits
+  moveFits-in u s m x y = ap₂ _&&_ (acceptsNote-in u (m .order) (m .B) x) (all-in (m .R) (λ q. accepts1 A s q) (λ q h. accepts1-in s q (y q h)))
+
+  pub edgeFits-out : (w : Stack1) (t : Stack2) (e : Edge) → edgeFits A w t e ≡ true → Accepts1 A w (e .first) × All (e .S) (Accepts2 A t)
+  unfolding edgeFits
+  edgeFits-out w t e f =
+      let top : Bool = accepts1 A w (e .first) in
+      let rest : Bool = every (λ q. accepts2 A t q) (members (e .S)) in
+      (accepts1-out w (e .first) (and-left top rest f), λ q h. accepts2-out t q (all-out (e .S) (λ x. accepts2 A t x) (and-right top rest f) q h))
+
+  pub edgeFits-in : (w : Stack1) (t : Stack2) (e : Edge) → Accepts1 A w (e .first) → All (e .S) (Accepts2 A t) → edgeFits A w t e ≡ true
+  unfolding edgeFits
+  edgeFits-in w t e x y = ap₂ _&&_ (accepts1-in w (e .first) x) (all-in (e .S) (λ q. accepts2 A t q) (λ q h. accepts2-in t q (y q h)))
+
+-- ---- an automaton that extends another accepts all that the other accepts
+
+module _ {own A : Automaton} (X : Extends own A) where
+  pub extends-moveAt : (i : ℕ) → i < length (own .moves) → moveAt A i ≡ moveAt own i
+  unfolding moveAt
+  extends-moveAt i h = ap (λ (z : List Move). getD z i noMove) (X .moves-are) ∙ List·getD-append (own .moves) (X .more-moves) noMove i h
+
+  pub extends-MoveOf : {a r i : ℕ} → MoveOf own a r i → MoveOf A a r i
+  extends-MoveOf {i = i} h =
+      let l : length (A .moves) ≡ length (own .moves) + length (X .more-moves) = ap length (X .moves-are) ∙ length-append (own .moves) (X .more-moves) in
+      let b : i < length (own .moves) = h .below in
+      let e = extends-moveAt i b in
+      record { below = omega arith; state-is = rw e (h .state-is); symbol-is = rw e (h .symbol-is) }
+
+  pub extends-edges : edges A ≡ edges own ++ entryEdges (own .J + length (own .entries)) (X .more-entries)
+  unfolding edges
+  extends-edges = rw (X .same-inner, X .same-J, X .entries-are, entryEdges-append (own .J) (own .entries) (X .more-entries)) (sym (append-assoc (own .inner) _ _))
+
+  pub extends-edgeAt : (i : ℕ) → i < length (edges own) → edgeAt A i ≡ edgeAt own i
+  unfolding edgeAt
+  extends-edgeAt i h = ap (λ (z : List Edge). getD z i noEdge) extends-edges ∙ List·getD-append (edges own) _ noEdge i h
+
+  pub extends-EdgeOf : {q i : ℕ} → EdgeOf own q i → EdgeOf A q i
+  extends-EdgeOf {i = i} h =
+      let more : List Edge = entryEdges (own .J + length (own .entries)) (X .more-entries) in
+      let l : length (edges A) ≡ length (edges own) + length more = ap length extends-edges ∙ length-append (edges own) more in
+      let b : i < length (edges own) = h .below in
+      record { below = omega arith; state-is = rw (extends-edgeAt i b) (h .state-is) }
+
+  mutual
+    unfolding Accepts1
+
+    pub extends-Accepts1 : (s : Stack1) (r : ℕ) → Accepts1 own s r → Accepts1 A s r
+    extends-Accepts1 nil1 r x = subst (λ (z : ℕ). Has z r) (sym (X .same-final1)) x
+    extends-Accepts1 (cons1 a u s) r x =
+        let e = extends-moveAt (x .number) (x .move .below) in
+        record {
+          number = x .number;
+          move = extends-MoveOf (x .move);
+          note = rw e (extends-AcceptsNote u _ _ (x .note));
+          rest = rw e (λ q k. extends-Accepts1 s q (x .rest q k));
+        }
+
+    pub extends-Accepts2 : (t : Stack2) (q : ℕ) → Accepts2 own t q → Accepts2 A t q
+    extends-Accepts2 nil2 q x = subst (λ (z : ℕ). Has z q) (sym (X .same-final2)) x
+    extends-Accepts2 (cons2 w t) q x =
+        let e = extends-edgeAt (x .number) (x .edge .below) in
+        record {
+          number = x .number;
+          edge = extends-EdgeOf (x .edge);
+          first = rw e (extends-Accepts1 w _ (x .first));
+          rest = rw e (λ y k. extends-Accepts2 t y (x .rest y k));
+        }
+
+    pub extends-AcceptsNote : (u : Annotation) (k B : ℕ) → AcceptsNote own u k B → AcceptsNote A u k B
+    extends-AcceptsNote (of1 u) zero B x = tt
+    extends-AcceptsNote (of1 u) (suc zero) B x = λ q h. extends-Accepts1 u q (x q h)
+    extends-AcceptsNote (of1 u) (suc (suc k)) B x = x
+    extends-AcceptsNote (of2 u) zero B x = tt
+    extends-AcceptsNote (of2 u) (suc zero) B x = x
+    extends-AcceptsNote (of2 u) (suc (suc k)) B x = λ q h. extends-Accepts2 u q (x q h)
+
+  pub extends-accepts1 : (s : Stack1) (r : ℕ) → accepts1 own s r ≡ true → accepts1 A s r ≡ true
+  extends-accepts1 s r e = accepts1-in A s r (extends-Accepts1 s r (accepts1-out own s r e))
+
+  pub extends-accepts2 : (t : Stack2) (q : ℕ) → accepts2 own t q ≡ true → accepts2 A t q ≡ true
+  extends-accepts2 t q e = accepts2-in A t q (extends-Accepts2 t q (accepts2-out own t q e))

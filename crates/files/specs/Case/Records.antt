@@ -1,0 +1,278 @@
+-- What the tests of a case's head, rules, edges and moves say, one record at a time, and the order of entries and inner edges.
+-- Assumes nothing.
+use Prim.Native.Nat.{ℕ, zero, suc, _+_, _<_, _≤_}
+use mathlib.Core.Bool.{Bool, true, false, not, _&&_, false≢true}
+use mathlib.Core.Path.{_≡_, refl, ap, sym, _∙_}
+use mathlib.Core.Logic.{_⊎_, inl, inr, ⊎-elim}
+use mathlib.Core.List.{List, [], _∷_, map, List·Memᴰ, List·Memᴰ·head, List·Memᴰ·tail, Memᴰ·of-map}
+use native.Mathlib.Nat.{not-suc-le-zero, le-of-suc-le-suc}
+use native.Mathlib.Omega.{arith}
+use lib.ListN.{length, getD}
+use lib.Dec.{eqb, ltb, leb}
+use borrow.Author.Tests.{eqb-true, eqb-false, ltb-true, ltb-false, leb-true, lt-ltb, le-ltb, not-true}
+use Rattle.words.specs.Sets.Laws.{All, has-in}
+use Rattle.words.specs.Lists.{only}
+use Rattle.words.specs.Lists.Laws.{and-left, and-right, every-in, only-out, getD-in}
+use Rattle.words.specs.Order.{less, rising, risingFrom}
+use Rattle.words.specs.Order.Laws.{less-cons, less-lt, less-eq, less-differs, one-less, number-cases}
+use Rattle.words.specs.Order.Laws.{risingFrom-less, less-risingFrom, rising-tail, rising-only, rising-map, sorted-rising, sorted-out}
+use Rattle.automata.specs.Automaton.{Move, Edge, Entry, choiceKey, entryKey}
+use Rattle.files.specs.Case.{Head, inner1, inner2, headRight, RuleBytes, ruleRight, EdgeBytes, edgeRight, edgeKey, entriesOf, innerEdges, noteRight, moveRight}
+
+-- ---- sets of inner states
+
+-- an inner order-1 state
+abbrev pub Inner1 : Head → ℕ → Type 0
+Inner1 h r = r < h .J
+
+-- an inner order-2 state
+abbrev pub Inner2 : Head → ℕ → Type 0
+Inner2 h q = (h .P ≤ q) × (q < h .P + h .I)
+
+pub inner1-all : (h : Head) (s : ℕ) → inner1 h s ≡ true → All s (Inner1 h)
+unfolding inner1
+inner1-all h s e r i = ltb-true r (h .J) (every-in (λ q. ltb q (h .J)) e (has-in i))
+
+pub inner2-all : (h : Head) (s : ℕ) → inner2 h s ≡ true → All s (Inner2 h)
+unfolding inner2
+inner2-all h s e q i =
+    let f = every-in (λ q. leb (h .P) q && ltb q (h .P + h .I)) e (has-in i) in
+    (leb-true (h .P) q (and-left (leb (h .P) q) _ f), ltb-true q (h .P + h .I) (and-right (leb (h .P) q) _ f))
+
+-- ---- body 1
+
+pub record HeadBounds (h : Head) : Type 0 where
+  pub controls-some : 1 ≤ h .P
+  pub controls-few : h .P ≤ 8
+  pub inner2-few : h .I ≤ 8
+  pub inner1-few : h .J ≤ 16
+  pub symbols-some : 1 ≤ h .A
+  pub symbols-few : h .A ≤ 32
+  pub final2-inner : All (h .final2) (Inner2 h)
+  pub final1-inner : All (h .final1) (Inner1 h)
+
+pub head-bounds : (h : Head) → headRight h ≡ true → HeadBounds h
+unfolding headRight
+head-bounds h e =
+    let a : Bool = leb 1 (h .P) in
+    let b : Bool = a && leb (h .P) 8 in
+    let c : Bool = b && leb (h .I) 8 in
+    let d : Bool = c && leb (h .J) 16 in
+    let f : Bool = d && leb 1 (h .A) in
+    let g : Bool = f && leb (h .A) 32 in
+    let i : Bool = g && inner2 h (h .final2) in
+    let ei = and-left i _ e in
+    let eg = and-left g _ ei in
+    let ef = and-left f _ eg in
+    let ed = and-left d _ ef in
+    let ec = and-left c _ ed in
+    let eb = and-left b _ ec in
+    record {
+      controls-some = leb-true 1 (h .P) (and-left a _ eb);
+      controls-few = leb-true (h .P) 8 (and-right a _ eb);
+      inner2-few = leb-true (h .I) 8 (and-right b _ ec);
+      inner1-few = leb-true (h .J) 16 (and-right c _ ed);
+      symbols-some = leb-true 1 (h .A) (and-right d _ ef);
+      symbols-few = leb-true (h .A) 32 (and-right f _ eg);
+      final2-inner = inner2-all h (h .final2) (and-right g _ ei);
+      final1-inner = inner1-all h (h .final1) (and-right i _ e);
+    }
+
+-- ---- a rule
+
+pub record RuleBounds (h : Head) (x : RuleBytes) : Type 0 where
+  pub control-exists : x .p < h .P
+  pub symbol-exists : x .a < h .A
+  pub code-least : 1 ≤ x .code
+  pub code-most : x .code ≤ 8
+  pub next-exists : x .next < h .P
+  pub b-exists : x .code < 4 → x .b < h .A
+  pub b-unused : 4 ≤ x .code → x .b ≡ 0
+
+pub rule-bounds : (h : Head) (x : RuleBytes) → ruleRight h x ≡ true → RuleBounds h x
+unfolding ruleRight
+rule-bounds h x e =
+    let a : Bool = ltb (x .p) (h .P) in
+    let b : Bool = a && ltb (x .a) (h .A) in
+    let c : Bool = b && leb 1 (x .code) in
+    let d : Bool = c && leb (x .code) 8 in
+    let f : Bool = d && ltb (x .next) (h .P) in
+    let ef = and-left f _ e in
+    let ed = and-left d _ ef in
+    let ec = and-left c _ ed in
+    let eb = and-left b _ ec in
+    let last = and-right f _ e in
+    record {
+      control-exists = ltb-true (x .p) (h .P) (and-left a _ eb);
+      symbol-exists = ltb-true (x .a) (h .A) (and-right a _ eb);
+      code-least = leb-true 1 (x .code) (and-right b _ ec);
+      code-most = leb-true (x .code) 8 (and-right c _ ed);
+      next-exists = ltb-true (x .next) (h .P) (and-right d _ ef);
+      b-exists = λ l. ltb-true (x .b) (h .A) (rw (lt-ltb (x .code) 4 l) at last);
+      b-unused = λ l. eqb-true (x .b) 0 (rw (le-ltb (x .code) 4 l) at last);
+    }
+
+-- ---- an edge
+
+pub record EdgeBounds (h : Head) (x : EdgeBytes) : Type 0 where
+  pub entry-second : x .state < h .P → x .second ≡ 255
+  pub inner-second : h .P ≤ x .state → Inner1 h (x .second)
+  pub state-exists : x .state < h .P + h .I
+  pub set-inner : All (x .S) (Inner2 h)
+
+pub edge-bounds : (h : Head) (x : EdgeBytes) → edgeRight h x ≡ true → EdgeBounds h x
+unfolding edgeRight
+edge-bounds h x e =
+    let a : Bool = elim (ltb (x .state) (h .P)) [ true ↦ eqb (x .second) 255 | false ↦ ltb (x .second) (h .J) ] in
+    let b : Bool = a && ltb (x .state) (h .P + h .I) in
+    let eb = and-left b _ e in
+    let ea = and-left a _ eb in
+    record {
+      entry-second = λ l. eqb-true (x .second) 255 (rw (lt-ltb (x .state) (h .P) l) at ea);
+      inner-second = λ l. ltb-true (x .second) (h .J) (rw (le-ltb (x .state) (h .P) l) at ea);
+      state-exists = ltb-true (x .state) (h .P + h .I) (and-right a _ eb);
+      set-inner = inner2-all h (x .S) (and-right b _ e);
+    }
+
+-- ---- a move
+
+-- of an annotation of order k and its set
+pub record NoteBounds (h : Head) (k B : ℕ) : Type 0 where
+  pub order-small : k ≤ 2
+  pub none-empty : k ≡ 0 → B ≡ 0
+  pub empty-none : B ≡ 0 → k ≡ 0
+  pub note1-inner : k ≡ 1 → All B (Inner1 h)
+  pub note2-inner : k ≡ 2 → All B (Inner2 h)
+
+pub note-bounds : (h : Head) (k B : ℕ) → noteRight h k B ≡ true → NoteBounds h k B
+unfolding noteRight
+note-bounds h zero B e =
+    record {
+      order-small = omega arith;
+      none-empty = λ z. eqb-true B 0 e;
+      empty-none = λ z. refl;
+      note1-inner = λ z. absurd (omega arith);
+      note2-inner = λ z. absurd (omega arith);
+    }
+note-bounds h (suc zero) B e =
+    let n = eqb-false B 0 (not-true (eqb B 0) (and-left (not (eqb B 0)) _ e)) in
+    record {
+      order-small = omega arith;
+      none-empty = λ z. absurd (omega arith);
+      empty-none = λ z. absurd (n z);
+      note1-inner = λ z. inner1-all h B (and-right (not (eqb B 0)) _ e);
+      note2-inner = λ z. absurd (omega arith);
+    }
+note-bounds h (suc (suc zero)) B e =
+    let n = eqb-false B 0 (not-true (eqb B 0) (and-left (not (eqb B 0)) _ e)) in
+    record {
+      order-small = omega arith;
+      none-empty = λ z. absurd (omega arith);
+      empty-none = λ z. absurd (n z);
+      note1-inner = λ z. absurd (omega arith);
+      note2-inner = λ z. inner2-all h B (and-right (not (eqb B 0)) _ e);
+    }
+note-bounds h (suc (suc (suc k))) B e = absurd (false≢true e)
+
+pub record MoveBounds (h : Head) (n : ℕ) (m : Move) : Type 0 where
+  pub state-exists : m .state < n
+  pub symbol-exists : m .symbol < h .A
+  pub note : NoteBounds h (m .order) (m .B)
+  pub rest-inner : All (m .R) (Inner1 h)
+
+pub move-bounds : (h : Head) (n : ℕ) (m : Move) → moveRight h n m ≡ true → MoveBounds h n m
+unfolding moveRight
+move-bounds h n m e =
+    let a : Bool = ltb (m .state) n in
+    let b : Bool = a && ltb (m .symbol) (h .A) in
+    let c : Bool = b && noteRight h (m .order) (m .B) in
+    let ec = and-left c _ e in
+    let eb = and-left b _ ec in
+    record {
+      state-exists = ltb-true (m .state) n (and-left a _ eb);
+      symbol-exists = ltb-true (m .symbol) (h .A) (and-right a _ eb);
+      note = note-bounds h (m .order) (m .B) (and-right b _ ec);
+      rest-inner = inner1-all h (m .R) (and-right c _ e);
+    }
+
+-- ---- rising lists
+
+-- keys that fall under another order keep the list rising
+pub rising-other : {A : Type 0} (key other : A → List ℕ) (l : List A)
+    → ((x y : A) → List·Memᴰ x l → List·Memᴰ y l → less (key x) (key y) ≡ true → less (other x) (other y) ≡ true)
+    → rising key l ≡ true → rising other l ≡ true
+unfolding rising risingFrom
+rising-other key other [] h r = refl
+rising-other key other (x ∷ l) h r = less-risingFrom other x l
+    (λ y j. h x y (List·Memᴰ·head refl) (List·Memᴰ·tail j) (risingFrom-less key x l r j))
+    (rising-other key other l (λ y z i j. h y z (List·Memᴰ·tail i) (List·Memᴰ·tail j)) (rising-tail key x l r))
+
+-- an element of a rising list is before those of higher number
+pub rising-before : {A : Type 0} (key : A → List ℕ) (l : List A) (d : A) (i j : ℕ) → rising key l ≡ true → i < j → j < length l
+    → less (key (getD l i d)) (key (getD l j d)) ≡ true
+unfolding rising
+rising-before key [] d i j r h k = absurd (not-suc-le-zero k)
+rising-before key (x ∷ l) d i zero r h k = absurd (not-suc-le-zero h)
+rising-before key (x ∷ l) d zero (suc j) r h k = risingFrom-less key x l r (getD-in l j d (le-of-suc-le-suc k))
+rising-before key (x ∷ l) d (suc i) (suc j) r h k = rising-before key l d i j (rising-tail key x l r) (le-of-suc-le-suc h) (le-of-suc-le-suc k)
+
+-- a rising list holds no key twice
+pub rising-once : {A : Type 0} (key : A → List ℕ) (l : List A) (d : A) (i j : ℕ) → rising key l ≡ true → i < length l → j < length l
+    → key (getD l i d) ≡ key (getD l j d) → i ≡ j
+rising-once key l d i j r hi hj e = go (number-cases i j)
+  where
+    go : (i < j) ⊎ ((i ≡ j) ⊎ (j < i)) → i ≡ j
+    go (inl k) = absurd (less-differs (key (getD l i d)) (key (getD l j d)) (rising-before key l d i j r k hj) e)
+    go (inr (inl q)) = q
+    go (inr (inr k)) = absurd (less-differs (key (getD l j d)) (key (getD l i d)) (rising-before key l d j i r k hi) (sym e))
+
+-- ---- entries and inner edges
+
+pub entries-out : (h : Head) (xs : List EdgeBytes) {e : Entry} → List·Memᴰ e (entriesOf h xs)
+    → (x : EdgeBytes) × List·Memᴰ x xs × (x .state < h .P) × (e .control ≡ x .state) × (e .S ≡ x .S)
+unfolding entriesOf
+entries-out h xs {e} j =
+    let r = Memᴰ·of-map (λ (x : EdgeBytes). record { control = x .state; S = x .S }) (only (λ x. ltb (x .state) (h .P)) xs) j in
+    let o = only-out (λ x. ltb (x .state) (h .P)) xs (r .1) in
+    (r .0, o .0, ltb-true (r .0 .state) (h .P) (o .1), ap (λ (y : Entry). y .control) (sym (r .2)), ap (λ (y : Entry). y .S) (sym (r .2)))
+
+pub inner-out : (h : Head) (xs : List EdgeBytes) {e : Edge} → List·Memᴰ e (innerEdges h xs)
+    → (x : EdgeBytes) × List·Memᴰ x xs × (h .P ≤ x .state) × (e ≡ record { state = x .state; first = x .second; S = x .S })
+unfolding innerEdges
+inner-out h xs {e} j =
+    let l : List EdgeBytes = only (λ x. not (ltb (x .state) (h .P))) xs in
+    let f : EdgeBytes → Edge = λ x. record { state = x .state; first = x .second; S = x .S } in
+    let r = Memᴰ·of-map f l (sorted-out choiceKey (map f l) j) in
+    let o = only-out (λ x. not (ltb (x .state) (h .P))) xs (r .1) in
+    (r .0, o .0, ltb-false (r .0 .state) (h .P) (not-true (ltb (r .0 .state) (h .P)) (o .1)), sym (r .2))
+
+pub inner-edges-rising : (h : Head) (xs : List EdgeBytes) → rising choiceKey (innerEdges h xs) ≡ true
+unfolding innerEdges
+inner-edges-rising h xs =
+    sorted-rising choiceKey
+    (map (λ (x : EdgeBytes). record { state = x .state; first = x .second; S = x .S }) (only (λ x. not (ltb (x .state) (h .P))) xs))
+
+-- Of two edges with one second byte the first has the lesser (state, S).
+pub less-entry : (x y : EdgeBytes) → x .second ≡ y .second → less (edgeKey x) (edgeKey y) ≡ true
+    → less (x .state ∷ x .S ∷ []) (y .state ∷ y .S ∷ []) ≡ true
+unfolding edgeKey
+less-entry x y e h =
+    let below : less (x .S ∷ x .second ∷ []) (y .S ∷ y .second ∷ []) ≡ true → less (x .S ∷ []) (y .S ∷ []) ≡ true = λ k.
+    ⊎-elim (λ l. less-lt (x .S) (y .S) [] [] l)
+    (λ q. let l : x .second < y .second = one-less (x .second) (y .second) (q .1) in absurd (omega arith))
+    (less-cons (x .S) (y .S) (x .second ∷ []) (y .second ∷ []) k) in
+    ⊎-elim (λ l. less-lt (x .state) (y .state) (x .S ∷ []) (y .S ∷ []) l)
+    (λ q. less-eq (x .state) (y .state) (x .S ∷ []) (y .S ∷ []) (q .0) ∙ below (q .1))
+    (less-cons (x .state) (y .state) (x .S ∷ x .second ∷ []) (y .S ∷ y .second ∷ []) h)
+
+-- (p, S) rises along the entries of a file, since their second bytes are one
+pub entries-rising : (h : Head) (xs : List EdgeBytes) → ((x : EdgeBytes) → List·Memᴰ x xs → EdgeBounds h x) → rising edgeKey xs ≡ true
+    → rising entryKey (entriesOf h xs) ≡ true
+unfolding entriesOf entryKey
+entries-rising h xs f r =
+    let test : EdgeBytes → Bool = λ x. ltb (x .state) (h .P) in
+    let second : (x : EdgeBytes) → List·Memᴰ x (only test xs) → x .second ≡ 255 = λ x j.
+    let o = only-out test xs j in f x (o .0) .entry-second (ltb-true (x .state) (h .P) (o .1)) in
+    rising-map entryKey (λ (x : EdgeBytes). record { control = x .state; S = x .S }) (only test xs)
+    ∙ rising-other edgeKey (λ x. x .state ∷ x .S ∷ []) (only test xs)
+    (λ x y i j l. less-entry x y (second x i ∙ sym (second y j)) l) (rising-only edgeKey test xs r)

@@ -1,0 +1,78 @@
+-- What the moves of a saturated table have: the own ones are the own automaton's, and each other one has a first derivation from the table
+-- before its round, in which all moves have smaller numbers.
+-- Assumes nothing.
+use Prim.Native.Nat.{ℕ, _≤_, _<_}
+use mathlib.Core.Path.{_≡_, ap, ap₂, sym, _∙_, subst}
+use mathlib.Core.Option.{some}
+use mathlib.Core.List.{List, List·Memᴰ}
+use native.Mathlib.Nat.{le-of-lt}
+use lib.ListN.{length}
+use Rattle.stacks.specs.System.{Rule}
+use Rattle.automata.specs.Automaton.{Automaton, moveAt}
+use Rattle.automata.specs.Derivation.{Result, Derivation, derivations, resultOf, firstDerivation}
+use Rattle.automata.specs.Derivation.Laws.{firstDerivation-out}
+use Rattle.automata.specs.Saturation.{Size, tableAfter, Saturated, sizeOf, upTo, lastUpTo, before, ownMoves}
+use Rattle.automata.specs.Facts.{Extends}
+use Rattle.rounds.specs.Added.{Stands}
+use Rattle.rounds.specs.Rounds.{after-extends, own-extends}
+use Rattle.rounds.specs.First.{AddedAfter, added-after, derived, first-of}
+use Rattle.rounds.specs.Prefixes.{upTo-extends, lastUpTo-round, ownMoves-is}
+use Rattle.rounds.specs.Limits.{IsSaturated}
+
+-- Of a move of the table past the own ones.
+pub record Later (rules : List Rule) (own : Automaton) (T : Saturated) (i : ℕ) : Type 0 where
+  pub rounds-before : ℕ
+  pub before-after : before T i ≡ tableAfter rules own rounds-before
+  pub own-before : Extends own (before T i)
+  pub before-table : Extends (before T i) (T .table)
+  pub smaller : length (before T i .moves) ≤ i
+  pub derivation : Derivation
+  pub is-first : firstDerivation (before T i) rules (resultOf (T .table) (moveAt (T .table) i)) ≡ some derivation
+  pub derives : List·Memᴰ derivation (derivations (before T i) rules)
+  pub stands : Stands (T .table) i (derivation .result)
+
+module _ {rules : List Rule} {lent : Size} {own : Automaton} {T : Saturated} (s : IsSaturated rules lent own T) where
+  pub table-extends : Extends own (T .table)
+  table-extends = subst (Extends own) (sym (s .table-is)) (own-extends rules own (s .rounds))
+
+  -- the number of own moves is known from the sizes
+  pub ownMoves-own : ownMoves (T .sizes) ≡ length (own .moves)
+  ownMoves-own = ap ownMoves (s .sizes-are) ∙ ownMoves-is rules own (s .rounds)
+
+  -- the table before the round that adds move i is that after the rounds before
+  pub before-is : {n i : ℕ} → AddedAfter rules own n i → n < s .rounds → before T i ≡ tableAfter rules own n
+  unfolding before
+  before-is {n} {i} a h =
+      let none : Size = record { moves = 0; entries = 0 } in
+      let z : lastUpTo none (T .sizes) i ≡ sizeOf (tableAfter rules own n) =
+      ap (λ (l : List Size). lastUpTo none l i) (s .sizes-are) ∙ lastUpTo-round rules own none a (s .rounds) h in
+      ap₂ upTo z (s .table-is) ∙ upTo-extends (after-extends rules own n (s .rounds) (le-of-lt h))
+
+  -- from any derivation of what move i stands for
+  later-by : {n i : ℕ} {d : Derivation} → before T i ≡ tableAfter rules own n → n < s .rounds → length (tableAfter rules own n .moves) ≤ i
+      → List·Memᴰ d (derivations (tableAfter rules own n) rules) → Stands (T .table) i (d .result) → Later rules own T i
+  later-by {n} {i} {d} b k l j stands = go (first-of (before T i) rules x {d = d} (rw b j) (sym (stands .is-result)))
+    where
+      x : Result
+      x = resultOf (T .table) (moveAt (T .table) i)
+
+      go : (f : Derivation) × (firstDerivation (before T i) rules x ≡ some f) → Later rules own T i
+      go (f, e) =
+          let h : List·Memᴰ f (derivations (before T i) rules) × (f .result ≡ x) = firstDerivation-out (before T i) rules x {d = f} e in
+          record {
+            rounds-before = n;
+            before-after = b;
+            own-before = rw b (own-extends rules own n);
+            before-table = rw (b, s .table-is) (after-extends rules own n (s .rounds) (le-of-lt k));
+            smaller = rw b l;
+            derivation = f;
+            is-first = e;
+            derives = h .0;
+            stands = subst (Stands (T .table) i) (sym (stands .is-result) ∙ sym (h .1)) stands;
+          }
+
+  pub later : (i : ℕ) → length (own .moves) ≤ i → i < length (T .table .moves) → Later rules own T i
+  later i l h =
+      let (n, k, a) = added-after rules own (s .rounds) i l (rw (s .table-is) at h) in
+      let (d, j, f, stands) = derived rules own a (s .rounds) k in
+      later-by (before-is a k) k (a .not-before) j (rw (s .table-is) stands)

@@ -1,0 +1,75 @@
+-- First derivations: each move past the own ones is added by one round, is a move of an entry, and has a first derivation from the table
+-- before that round.
+-- Assumes nothing.
+use Prim.Native.Nat.{ℕ, zero, suc, _≤_, _<_}
+use mathlib.Core.Bool.{false}
+use mathlib.Core.Path.{_≡_, ap, sym}
+use mathlib.Core.Option.{some}
+use mathlib.Core.List.{List, List·Memᴰ}
+use native.Mathlib.Omega.{arith}
+use lib.ListN.{length}
+use lib.Dec.{ltb}
+use borrow.Author.Tests.{ltb-true, ltb-false}
+use Rattle.words.specs.Lists.Laws.{by-test, some-first}
+use Rattle.words.specs.Order.{same}
+use Rattle.words.specs.Order.Laws.{eq-same}
+use Rattle.stacks.specs.System.{Rule}
+use Rattle.automata.specs.Automaton.{Automaton, moveAt}
+use Rattle.automata.specs.Derivation.{Result, resultKey, resultOf, Derivation, derivations, firstDerivation}
+use Rattle.automata.specs.Saturation.{held, tableAfter}
+use Rattle.rounds.specs.Entries.{entryAt-range}
+use Rattle.rounds.specs.Extension.{states}
+use Rattle.rounds.specs.Added.{Stands, stands-kept}
+use Rattle.rounds.specs.Rounds.{round-new, after-extends, own-extends}
+
+-- a result of a derivation has a first derivation
+pub first-of : (A : Automaton) (rules : List Rule) (x : Result) {d : Derivation} → List·Memᴰ d (derivations A rules) → d .result ≡ x
+    → (f : Derivation) × (firstDerivation A rules x ≡ some f)
+unfolding firstDerivation
+first-of A rules x {d} j e =
+    some-first (λ y. same (resultKey (y .result)) (resultKey x)) j (eq-same (resultKey (d .result)) (resultKey x) (ap resultKey e))
+
+module _ (rules : List Rule) (own : Automaton) where
+  -- the round after the first n rounds adds move i
+  pub record AddedAfter (n i : ℕ) : Type 0 where
+    pub not-before : length (tableAfter rules own n .moves) ≤ i
+    pub then-there : i < length (tableAfter rules own (suc n) .moves)
+
+  -- each move past the own ones is added by a round
+  pub added-after : (N i : ℕ) → length (own .moves) ≤ i → i < length (tableAfter rules own N .moves) → (n : ℕ) × (n < N) × AddedAfter n i
+  unfolding tableAfter
+  added-after zero i l h = absurd (omega arith)
+  added-after (suc N) i l h = by-test (ltb i (length (tableAfter rules own N .moves)))
+      (λ t. let (n, k, a) = added-after N i l (ltb-true i (length (tableAfter rules own N .moves)) t) in (n, omega arith, a))
+      (λ t. (N, omega arith, record { not-before = ltb-false i (length (tableAfter rules own N .moves)) t; then-there = h }))
+
+  -- in every later table it stands for the result of a derivation from the table before its round, and that was not held there
+  pub derived : {n i : ℕ} → AddedAfter n i → (N : ℕ) → n < N
+      → (d : Derivation) × List·Memᴰ d (derivations (tableAfter rules own n) rules) × (held (tableAfter rules own n) (d .result) ≡ false)
+      × Stands (tableAfter rules own N) i (d .result)
+  unfolding tableAfter
+  derived {n} {i} a N h =
+      let (d, j, f, s) = round-new rules (tableAfter rules own n) i (a .not-before) (a .then-there) in
+      (d, j, f, stands-kept (after-extends rules own (suc n) N h) s)
+
+  pub first-derivation : {n i : ℕ} → AddedAfter n i → (N : ℕ) → n < N
+      → (d : Derivation) × (firstDerivation (tableAfter rules own n) rules (resultOf (tableAfter rules own N) (moveAt (tableAfter rules own N) i)) ≡ some d)
+  first-derivation {n} {i} a N h =
+      let (d, j, f, s) = derived a N h in
+      first-of (tableAfter rules own n) rules (resultOf (tableAfter rules own N) (moveAt (tableAfter rules own N) i)) j (sym (s .is-result))
+
+  -- a move past the own ones is a move of an entry
+  pub past-own-entry : (N i : ℕ) → length (own .moves) ≤ i → i < length (tableAfter rules own N .moves)
+      → (x : Result) × Stands (tableAfter rules own N) i x
+  past-own-entry N i l h =
+      let (n, k, a) = added-after N i l h in
+      let (d, j, f, s) = derived a N k in
+      (d .result, s)
+
+  pub past-own-state : (N i : ℕ) → length (own .moves) ≤ i → i < length (tableAfter rules own N .moves)
+      → (own .J ≤ moveAt (tableAfter rules own N) i .state) × (moveAt (tableAfter rules own N) i .state < states (tableAfter rules own N))
+  past-own-state N i l h =
+      let (x, s) = past-own-entry N i l h in
+      let (a, b) = entryAt-range (tableAfter rules own N) (moveAt (tableAfter rules own N) i .state) (s .of-entry) in
+      let e : tableAfter rules own N .J ≡ own .J = own-extends rules own N .same-J in
+      (omega arith, b)

@@ -1,0 +1,157 @@
+-- The limits: a saturated table is that after some number of rounds, is closed and keeps the limits, and there is none exactly if the table
+-- after some number of rounds passes a limit.
+-- Assumes nothing.
+use Prim.Native.Nat.{ℕ, zero, suc, _+_, _≤_, _<_, min}
+use mathlib.Core.Bool.{Bool, true, false, _&&_, false≢true}
+use mathlib.Core.Path.{_≡_, refl, ap, ap₂, sym, _∙_, subst}
+use mathlib.Core.Option.{Option, none, some, Option·some-injective, Option·none-ne-some, Option·some-ne-none}
+use mathlib.Core.List.{List, [], _∷_, _++_}
+use native.Mathlib.Nat.{le-of-lt as lt-le}
+use native.Mathlib.Omega.{arith}
+use lib.ListN.{length}
+use lib.Dec.{eqb, leb}
+use borrow.Author.Tests.{eqb-true, eqb-false, eq-eqb, ne-eqb, leb-true, leb-false, le-leb}
+use Rattle.words.specs.Lists.Laws.{by-test, and-left, and-right}
+use Rattle.stacks.specs.System.{Rule}
+use Rattle.automata.specs.Automaton.{Automaton}
+use Rattle.automata.specs.Saturation.{round, tableAfter, Size, sizeOf, within, Saturated, saturateFrom, saturate}
+use Rattle.automata.specs.Facts.{Extends, Closed}
+use Rattle.rounds.specs.Extension.{states, moves-grow, entries-grow, states-grow}
+use Rattle.rounds.specs.Rounds.{round-adds, still-closed, after-extends, after-closed}
+use Rattle.rounds.specs.Prefixes.{sizesBefore}
+
+-- ---- within the limits
+
+pub record Fits (lent : Size) (A : Automaton) : Type 0 where
+  pub moves-fit : length (A .moves) ≤ min (lent .moves) 1024
+  pub entries-fit : length (A .entries) ≤ lent .entries
+  pub states-fit : states A ≤ 64
+
+module _ (lent : Size) where
+  pub within-fits : (A : Automaton) → within lent A ≡ true → Fits lent A
+  unfolding within
+  within-fits A h =
+      let a : Bool = leb (length (A .moves)) (min (lent .moves) 1024) in
+      let b : Bool = leb (length (A .entries)) (lent .entries) in
+      let c : Bool = leb (A .J + length (A .entries)) 64 in
+      let ab : a && b ≡ true = and-left (a && b) c h in
+      record {
+        moves-fit = leb-true (length (A .moves)) (min (lent .moves) 1024) (and-left a b ab);
+        entries-fit = leb-true (length (A .entries)) (lent .entries) (and-right a b ab);
+        states-fit = leb-true (states A) 64 (and-right (a && b) c h);
+      }
+
+  pub fits-within : (A : Automaton) → Fits lent A → within lent A ≡ true
+  unfolding within
+  fits-within A f =
+      ap₂ _&&_
+      (ap₂ _&&_
+      (le-leb (length (A .moves)) (min (lent .moves) 1024) (f .moves-fit))
+      (le-leb (length (A .entries)) (lent .entries) (f .entries-fit)))
+      (le-leb (states A) 64 (f .states-fit))
+
+  -- what fits has only parts that fit
+  pub within-part : {A C : Automaton} → Extends A C → within lent C ≡ true → within lent A ≡ true
+  within-part {A} {C} x h =
+      let f : Fits lent C = within-fits C h in
+      fits-within A (record {
+        moves-fit = let l : length (C .moves) ≤ min (lent .moves) 1024 = f .moves-fit in let g = moves-grow x in omega arith;
+        entries-fit = let l : length (C .entries) ≤ lent .entries = f .entries-fit in let g = entries-grow x in omega arith;
+        states-fit = let l : states C ≤ 64 = f .states-fit in let g = states-grow x in omega arith;
+      })
+
+-- ---- the loop
+
+module _ (rules : List Rule) (lent : Size) where
+  pub saturateFrom-exceeds : (k : ℕ) (sizes : List Size) (A : Automaton) → within lent A ≡ false → saturateFrom rules lent (suc k) sizes A ≡ none
+  unfolding saturateFrom
+  saturateFrom-exceeds k sizes A h = rw (saturateFrom, h)
+
+  pub saturateFrom-ends : (k : ℕ) (sizes : List Size) (A : Automaton) → within lent A ≡ true → length (round rules A .moves) ≡ length (A .moves)
+      → saturateFrom rules lent (suc k) sizes A ≡ some (record { table = A; sizes = sizes ++ sizeOf A ∷ [] })
+  unfolding saturateFrom
+  saturateFrom-ends k sizes A h e = rw (saturateFrom, h, eq-eqb (length (round rules A .moves)) (length (A .moves)) e)
+
+  pub saturateFrom-goes-on : (k : ℕ) (sizes : List Size) (A : Automaton) → within lent A ≡ true → (length (round rules A .moves) ≡ length (A .moves) → ⊥)
+      → saturateFrom rules lent (suc k) sizes A ≡ saturateFrom rules lent k (sizes ++ sizeOf A ∷ []) (round rules A)
+  unfolding saturateFrom
+  saturateFrom-goes-on k sizes A h e = rw (saturateFrom, h, ne-eqb (length (round rules A .moves)) (length (A .moves)) e)
+
+  module _ (own : Automaton) where
+    -- what holds of a saturated table
+    pub record IsSaturated (T : Saturated) : Type 0 where
+      pub rounds : ℕ
+      pub table-is : T .table ≡ tableAfter rules own rounds
+      pub sizes-are : T .sizes ≡ sizesBefore rules own (suc rounds)
+      pub closed : Closed rules (T .table)
+      pub limits-kept : within lent (T .table) ≡ true
+
+    -- a saturated table, or a table that passes a limit
+    pub data Outcome : Option Saturated → Type 0 where
+      saturated : {T : Saturated} → IsSaturated T → Outcome (some T)
+      exceeds : (n : ℕ) → within lent (tableAfter rules own n) ≡ false → Outcome none
+
+    -- Each round that goes on adds a move, so the bound is used up only past 1,024 moves.
+    pub outcome : (k n : ℕ) → 1025 ≤ k + length (tableAfter rules own n .moves) → Outcome (saturateFrom rules lent k (sizesBefore rules own n) (tableAfter rules own n))
+    unfolding saturateFrom sizesBefore tableAfter
+    outcome zero n l = by-test (within lent (tableAfter rules own n))
+        (λ t. let f : length (tableAfter rules own n .moves) ≤ min (lent .moves) 1024 = within-fits lent (tableAfter rules own n) t .moves-fit in absurd (omega arith))
+        (λ t. exceeds n t)
+    outcome (suc k) n l =
+        let A : Automaton = tableAfter rules own n in
+        let sizes : List Size = sizesBefore rules own n in
+        by-test (within lent A)
+        (λ t. by-test (eqb (length (round rules A .moves)) (length (A .moves)))
+        (λ u.
+        let e : length (round rules A .moves) ≡ length (A .moves) = eqb-true (length (round rules A .moves)) (length (A .moves)) u in
+        rw (saturateFrom-ends k sizes A t e)
+        (saturated (record { rounds = n; table-is = refl; sizes-are = refl; closed = still-closed rules A e; limits-kept = t })))
+        (λ u.
+        let e : length (round rules A .moves) ≡ length (A .moves) → ⊥ = eqb-false (length (round rules A .moves)) (length (A .moves)) u in
+        let g : length (A .moves) < length (round rules A .moves) = round-adds rules A e in
+        rw (saturateFrom-goes-on k sizes A t e) (outcome k (suc n) (omega arith))))
+        (λ t. rw (saturateFrom-exceeds k sizes A t) (exceeds n t))
+
+    pub saturate-outcome : Outcome (saturate rules lent own)
+    unfolding saturate sizesBefore tableAfter
+    saturate-outcome = outcome 1025 0 (omega arith)
+
+    -- ---- a saturated table, exactly where all rounds keep the limits
+
+    pub saturate-some : {T : Saturated} → saturate rules lent own ≡ some T → IsSaturated T
+    saturate-some {T} e = go (saturate rules lent own) saturate-outcome e
+      where
+        go : (o : Option Saturated) → Outcome o → o ≡ some T → IsSaturated T
+        go (some U) (saturated s) z = subst IsSaturated (Option·some-injective U T z) s
+        go none (exceeds n h) z = absurd (Option·none-ne-some T z)
+
+    pub saturate-none : saturate rules lent own ≡ none → (n : ℕ) × (within lent (tableAfter rules own n) ≡ false)
+    saturate-none e = go (saturate rules lent own) saturate-outcome e
+      where
+        go : (o : Option Saturated) → Outcome o → o ≡ none → (n : ℕ) × (within lent (tableAfter rules own n) ≡ false)
+        go (some U) (saturated s) z = absurd (Option·some-ne-none U z)
+        go none (exceeds n h) z = (n, h)
+
+    -- the table after any number of rounds keeps the limits that a saturated table keeps
+    pub all-within : {T : Saturated} → IsSaturated T → (n : ℕ) → within lent (tableAfter rules own n) ≡ true
+    all-within {T} s n =
+        let w : within lent (tableAfter rules own (s .rounds)) ≡ true = ap (within lent) (sym (s .table-is)) ∙ s .limits-kept in
+        by-test (leb n (s .rounds))
+        (λ t. within-part lent (after-extends rules own n (s .rounds) (leb-true n (s .rounds) t)) w)
+        (λ t.
+        let l : s .rounds ≤ n = lt-le (leb-false n (s .rounds) t) in
+        ap (within lent) (after-closed rules own (s .rounds) n l (subst (Closed rules) (s .table-is) (s .closed))) ∙ w)
+
+    pub exceeds-none : (n : ℕ) → within lent (tableAfter rules own n) ≡ false → saturate rules lent own ≡ none
+    exceeds-none n h = go (saturate rules lent own) saturate-outcome
+      where
+        go : (o : Option Saturated) → Outcome o → o ≡ none
+        go (some U) (saturated s) = absurd (false≢true (sym h ∙ all-within s n))
+        go none (exceeds m k) = refl
+
+    pub within-some : ((n : ℕ) → within lent (tableAfter rules own n) ≡ true) → (T : Saturated) × (saturate rules lent own ≡ some T)
+    within-some h = go (saturate rules lent own) saturate-outcome
+      where
+        go : (o : Option Saturated) → Outcome o → (T : Saturated) × (o ≡ some T)
+        go (some U) (saturated s) = (U, refl)
+        go none (exceeds n k) = absurd (false≢true (sym k ∙ h n))
