@@ -17,13 +17,14 @@ use Rattle.words.specs.Lists.Laws.{by-test, only-in, only-out, only-no}
 use Rattle.words.specs.Order.{sorted}
 use Rattle.words.specs.Order.Laws.{sorted-out, sorted-keeps}
 use Rattle.automata.specs.Automaton.{Automaton, Move, noMove, moveAt, entryAt}
+use Rattle.automata.specs.Acceptance.Laws.{extends-moveAt}
 use Rattle.automata.specs.Derivation.Numbers.{entryAt-entry}
 use Rattle.automata.specs.Derivation.Laws.{resultKey-eq}
 use Rattle.automata.specs.Derivation.{Result, resultKey, resultOf}
 use Rattle.automata.specs.Saturation.{held, entryNumber, add, addAll, extend}
 use Rattle.automata.specs.Facts.{Extends}
 use Rattle.rounds.specs.Entries.{entry, entryAt-range, withEntry-appends, entryNumber-at}
-use Rattle.rounds.specs.Extension.{extends-refl, extends-trans, moves-grow, moveAt-kept, entryAt-kept, resultOf-same}
+use Rattle.rounds.specs.Extension.{extends-refl, extends-trans, moves-grow, entryAt-kept, resultOf-same}
 use Rattle.rounds.specs.Held.{Holds, holds-result, holds-held, holds-kept, held-kept}
 
 -- ---- what was there is kept
@@ -122,7 +123,7 @@ pub record Stands (A : Automaton) (i : ℕ) (x : Result) : Type 0 where
 
 pub stands-kept : {A C : Automaton} {i : ℕ} {x : Result} → Extends A C → Stands A i x → Stands C i x
 stands-kept {A} {C} {i} {x} e s =
-    let k : moveAt C i ≡ moveAt A i = moveAt-kept e i (s .below) in
+    let k : moveAt C i ≡ moveAt A i = extends-moveAt e i (s .below) in
     record {
       below = let g = moves-grow e in let b : i < length (A .moves) = s .below in omega arith;
       of-entry = rw k (entryAt-kept e (moveAt A i .state) (s .of-entry));

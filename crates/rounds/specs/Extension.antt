@@ -1,17 +1,16 @@
 -- Extension of an automaton by more entries and moves: it is an order, and it keeps what was there under the same numbers.
 -- Assumes nothing.
-use Prim.Native.Nat.{ℕ, suc, _+_, _-_, _≤_, _<_}
+use Prim.Native.Nat.{ℕ, _+_, _-_, _≤_, _<_}
 use mathlib.Core.Bool.{true, false}
-use mathlib.Core.Path.{_≡_, refl, ap, ap₂, sym, _∙_}
+use mathlib.Core.Path.{_≡_, refl, ap, sym, _∙_}
 use mathlib.Core.Option.{some}
-use mathlib.Core.List.{List, [], _∷_, _++_, append-nil, append-assoc, List·Memᴰ, Memᴰ·append-left}
-use native.Mathlib.Nat.{add-zero}
+use mathlib.Core.List.{List, [], _++_, append-nil, append-assoc, List·Memᴰ, Memᴰ·append-left}
 use native.Mathlib.Omega.{arith}
 use lib.ListN.{length, getD, getElem?, length-append, List·getD-append}
 use lib.Dec.{leb}
 use borrow.Author.Tests.{leb-true}
 use Rattle.words.specs.Lists.Laws.{by-test, getElem?-below}
-use Rattle.automata.specs.Automaton.{Automaton, Move, Edge, Entry, noMove, noEdge, noEntry, entryEdges, edges, edgeAt, moveAt, entryAt, entryOf, entryControl, entrySet}
+use Rattle.automata.specs.Automaton.{Automaton, Move, Entry, noEntry, entryAt, entryOf, entryControl, entrySet}
 use Rattle.automata.specs.Derivation.Numbers.{entryAt-entry}
 use Rattle.automata.specs.Derivation.{resultOf}
 use Rattle.automata.specs.Facts.{Extends}
@@ -53,14 +52,6 @@ extends-trans {A} x y =
 abbrev pub states : Automaton → ℕ
 states A = A .J + length (A .entries)
 
-pub entryEdges-append : (r : ℕ) (es fs : List Entry) → entryEdges r (es ++ fs) ≡ entryEdges r es ++ entryEdges (r + length es) fs
-unfolding entryEdges
-entryEdges-append r [] fs = ap (λ (n : ℕ). entryEdges n fs) (sym (add-zero r))
-entryEdges-append r (e ∷ es) fs =
-    let n : suc r + length es ≡ r + suc (length es) = omega arith in
-    ap (λ (l : List Edge). record { state = e .control; first = r; S = e .S } ∷ l)
-    (entryEdges-append (suc r) es fs ∙ ap (λ (k : ℕ). entryEdges (suc r) es ++ entryEdges k fs) n)
-
 module _ {A C : Automaton} (x : Extends A C) where
   pub moves-more : length (C .moves) ≡ length (A .moves) + length (x .more-moves)
   moves-more = ap length (x .moves-are) ∙ length-append (A .moves) (x .more-moves)
@@ -82,10 +73,6 @@ module _ {A C : Automaton} (x : Extends A C) where
 
   pub entry-kept : {e : Entry} → List·Memᴰ e (A .entries) → List·Memᴰ e (C .entries)
   entry-kept j = rw (x .entries-are) (Memᴰ·append-left (x .more-entries) j)
-
-  pub moveAt-kept : (i : ℕ) → i < length (A .moves) → moveAt C i ≡ moveAt A i
-  unfolding moveAt
-  moveAt-kept i h = ap (λ (l : List Move). getD l i noMove) (x .moves-are) ∙ List·getD-append (A .moves) (x .more-moves) noMove i h
 
   pub getEntry-kept : (i : ℕ) → i < length (A .entries) → getElem? (C .entries) i ≡ getElem? (A .entries) i
   getEntry-kept i h =
@@ -132,16 +119,3 @@ module _ {A C : Automaton} (x : Extends A C) where
       let p = entryControl-same (m .state) h in
       let q = entrySet-same (m .state) h in
       rw (p, q)
-
-  pub edges-are : edges C ≡ edges A ++ entryEdges (states A) (x .more-entries)
-  unfolding edges
-  edges-are =
-      ap (λ (l : List Edge). l ++ entryEdges (C .J) (C .entries)) (x .same-inner)
-      ∙ ap₂ (λ (n : ℕ) (l : List Entry). A .inner ++ entryEdges n l) (x .same-J) (x .entries-are)
-      ∙ ap (λ (l : List Edge). A .inner ++ l) (entryEdges-append (A .J) (A .entries) (x .more-entries))
-      ∙ sym (append-assoc (A .inner) (entryEdges (A .J) (A .entries)) (entryEdges (states A) (x .more-entries)))
-
-  pub edgeAt-kept : (n : ℕ) → n < length (edges A) → edgeAt C n ≡ edgeAt A n
-  unfolding edgeAt
-  edgeAt-kept n h =
-      ap (λ (l : List Edge). getD l n noEdge) edges-are ∙ List·getD-append (edges A) (entryEdges (states A) (x .more-entries)) noEdge n h

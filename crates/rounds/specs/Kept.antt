@@ -1,17 +1,17 @@
 -- Rounds keep the facts of a table.
 -- Assumes nothing.
-use Prim.Native.Nat.{ℕ, zero, suc, _+_, _≤_, _<_, max}
+use Prim.Native.Nat.{ℕ, zero, suc, _+_, _≤_, _<_}
 use mathlib.Core.Bool.{not}
-use mathlib.Core.Path.{_≡_, refl, ap₂, sym, _∙_, subst}
+use mathlib.Core.Path.{_≡_, refl, sym, subst}
 use mathlib.Core.Logic.{⊎-elim}
-use mathlib.Core.Option.{some, Option·some-injective, Option·none-ne-some}
+use mathlib.Core.Option.{some}
 use mathlib.Core.List.{List, [], _∷_, List·Memᴰ, List·Memᴰ·head, List·Memᴰ·tail, List·Memᴰ·append-cases, List·Memᴰ·eq-of-singleton, Memᴰ·of-map}
 use native.Mathlib.Omega.{arith}
 use lib.ListN.{length, getD, List·getD-eq-default}
 use lib.Dec.{ltb}
 use borrow.Author.Tests.{ltb-true, ltb-false}
-use Rattle.words.specs.Sets.{join, single}
-use Rattle.words.specs.Sets.Laws.{Has, join-self, has-empty, has-single, has-join-left, has-join-right, zero-or-member}
+use Rattle.words.specs.Sets.{single}
+use Rattle.words.specs.Sets.Laws.{Has, has-empty, has-single}
 use Rattle.words.specs.Lists.{only}
 use Rattle.words.specs.Lists.Laws.{by-test, only-out, getD-in, getElem?-in}
 use Rattle.words.specs.Order.{sorted}
@@ -19,60 +19,31 @@ use Rattle.words.specs.Order.Laws.{sorted-out}
 use Rattle.stacks.specs.Stack.{Operation, rewrite, push1, push2, copy, pop1, pop2, collapse1, collapse2}
 use Rattle.stacks.specs.System.{Rule}
 use Rattle.automata.specs.Automaton.{Automaton, Move, noMove, moveAt}
-use Rattle.automata.specs.Derivation.{Result, resultKey, Derivation, derivations, Joins, clash, joinMove, joinMoves, joinAll}
+use Rattle.automata.specs.Derivation.{Result, resultKey, Derivation, derivations, Joins, joinsOf, joinAll}
+use Rattle.automata.specs.Derivation.Joining.{NoteFacts, joinAll-facts}
 use Rattle.automata.specs.Derivation.Laws.{Concludes, Says, Derives, derivations-out}
 use Rattle.automata.specs.Saturation.{held, withEntry, entryNumber, add, addAll, extend, results, round, tableAfter}
 use Rattle.automata.specs.Facts.{RuleFacts, MoveFacts, TableFacts}
 use Rattle.rounds.specs.Added.{newMove}
-use Rattle.rounds.specs.Entries.{by-option, withEntry-out, withEntry-once, withEntry-grows, entryNumber-below}
+use Rattle.rounds.specs.Entries.{withEntry-out, withEntry-once, withEntry-grows, entryNumber-below}
 
--- ---- orders and annotation sets
-
--- of an order and an annotation set: B is empty exactly at order 0
-pub record NoteFacts (k B : ℕ) : Type 0 where
-  pub order-small : k ≤ 2
-  pub none-empty : k ≡ 0 → B ≡ 0
-  pub empty-none : B ≡ 0 → k ≡ 0
-
-pub join-zero-left : (a b : ℕ) → join a b ≡ 0 → a ≡ 0
-join-zero-left a b e = ⊎-elim (λ z. z) (λ x. absurd (has-empty (subst (λ (s : ℕ). Has s (x .0)) e (has-join-left b (x .1))))) (zero-or-member a)
-
-pub join-zero-right : (a b : ℕ) → join a b ≡ 0 → b ≡ 0
-join-zero-right a b e = ⊎-elim (λ z. z) (λ x. absurd (has-empty (subst (λ (s : ℕ). Has s (x .0)) e (has-join-right a (x .1))))) (zero-or-member b)
-
-pub single-nonempty : (q : ℕ) → single q ≡ 0 → ⊥
-single-nonempty q e = has-empty (subst (λ (s : ℕ). Has s q) e (has-single q))
-
-pub note-none : NoteFacts 0 0
-note-none = record { order-small = omega arith; none-empty = λ e. refl; empty-none = λ e. refl }
-
-pub note-single : (k q : ℕ) → k ≤ 2 → (k ≡ 0 → ⊥) → NoteFacts k (single q)
-note-single k q l n = record { order-small = l; none-empty = λ e. absurd (n e); empty-none = λ e. absurd (single-nonempty q e) }
-
-pub note-join : {k l B C : ℕ} → NoteFacts k B → NoteFacts l C → NoteFacts (max k l) (join B C)
-note-join {k} {l} {B} {C} x y =
-    record {
-      order-small = let a : k ≤ 2 = x .order-small in let b : l ≤ 2 = y .order-small in omega arith;
-      none-empty = λ e. ap₂ join (x .none-empty (omega arith)) (y .none-empty (omega arith)) ∙ join-self 0;
-      empty-none = λ e.
-          let a : k ≡ 0 = x .empty-none (join-zero-left B C e) in
-          let b : l ≡ 0 = y .empty-none (join-zero-right B C e) in
-          omega arith;
-    }
+-- ---- what is known of a result
 
 -- of a result: its control exists, and B is empty exactly at order 0
 pub record ResultFacts (P : ℕ) (x : Result) : Type 0 where
   pub control-exists : x .control < P
-  pub note : NoteFacts (x .order) (x .B)
+  pub note : NoteFacts (record { order = x .order; B = x .B; R = x .R })
 
-abbrev JoinsFacts : Joins → Type 0
-JoinsFacts j = NoteFacts (j .order) (j .B)
+pub note-none : (R : ℕ) → NoteFacts (record { order = 0; B = 0; R = R })
+note-none R = record { order-small = omega arith; none-empty = λ e. refl; empty-none = λ e. refl }
 
-pub joinMove-facts : (j : Joins) (m : Move) {k : Joins} → JoinsFacts j → NoteFacts (m .order) (m .B) → joinMove j m ≡ some k → JoinsFacts k
-unfolding joinMove
-joinMove-facts j m {k} x y e = by-test (clash (j .order) (m .order))
-    (λ t. absurd (Option·none-ne-some k (rw (joinMove, t) at e)))
-    (λ t. subst JoinsFacts (Option·some-injective _ k (rw (joinMove, t) at e)) (note-join x y))
+pub note-single : (k q : ℕ) → k ≤ 2 → (k ≡ 0 → ⊥) → NoteFacts (record { order = k; B = single q; R = 0 })
+note-single k q l n =
+    record {
+      order-small = l;
+      none-empty = λ e. absurd (n e);
+      empty-none = λ e. absurd (has-empty (subst (λ (s : ℕ). Has s q) e (has-single q)));
+    }
 
 pub moveFacts-more : {n k : ℕ} {m : Move} → n ≤ k → MoveFacts n m → MoveFacts k m
 moveFacts-more {n} {k} {m} l f =
@@ -85,34 +56,28 @@ moveFacts-more {n} {k} {m} l f =
 
 module _ {P : ℕ} {A : Automaton} (F : TableFacts P A) where
   -- also of the move past the last
-  pub moveAt-note : (i : ℕ) → NoteFacts (moveAt A i .order) (moveAt A i .B)
+  pub moveAt-note : (i : ℕ) → NoteFacts (joinsOf (moveAt A i))
   unfolding moveAt
   moveAt-note i = by-test (ltb i (length (A .moves)))
       (λ t.
       let f = F .move-facts (getD (A .moves) i noMove) (getD-in (A .moves) i noMove (ltb-true i (length (A .moves)) t)) in
       record { order-small = f .order-small; none-empty = f .none-empty; empty-none = f .empty-none })
-      (λ t. rw (List·getD-eq-default (A .moves) noMove (ltb-false i (length (A .moves)) t)) note-none)
+      (λ t. rw (List·getD-eq-default (A .moves) noMove (ltb-false i (length (A .moves)) t)) (note-none 0))
 
-  pub joinAll-note : (j : Joins) (ms : List ℕ) {k : Joins} → JoinsFacts j → joinAll A j ms ≡ some k → JoinsFacts k
-  unfolding joinAll joinMoves
-  joinAll-note j [] {k} x e = subst JoinsFacts (Option·some-injective j k e) x
-  joinAll-note j (i ∷ ms) {k} x e = by-option (joinMove j (moveAt A i))
-      (λ z. absurd (Option·none-ne-some k (rw (joinMoves, z) at e)))
-      (λ l z. joinAll-note l ms (joinMove-facts j (moveAt A i) x (moveAt-note i) z) (rw (joinMoves, z) at e))
-
-  -- ---- results
-
-  concluded-facts : {ρ : Rule} {premise es ms : List ℕ} {S : ℕ} {j : Joins} {d : Derivation} → RuleFacts P ρ → Concludes ρ premise es ms S j d → JoinsFacts j
+  concluded-facts : {ρ : Rule} {premise es ms : List ℕ} {S : ℕ} {j : Joins} {d : Derivation} → RuleFacts P ρ → Concludes ρ premise es ms S j d → NoteFacts j
       → ResultFacts P (d .result)
-  concluded-facts r c f = record { control-exists = rw (c .control-is) (r .control-exists); note = rw (c .order-is, c .B-is) f }
+  concluded-facts r c f = record { control-exists = rw (c .control-is) (r .control-exists); note = rw (c .order-is, c .B-is, c .R-is) f }
+
+  joined-facts : {j k : Joins} (ms : List ℕ) → NoteFacts j → joinAll A j ms ≡ some k → NoteFacts k
+  joined-facts {j} ms f e = joinAll-facts A j ms e f (λ i l. moveAt-note i)
 
   pub says-facts : (ρ : Rule) (op : Operation) (d : Derivation) → RuleFacts P ρ → Says A ρ op d → ResultFacts P (d .result)
   says-facts ρ (rewrite b) d r h = concluded-facts r (h .concluded) (moveAt-note (h .move))
-  says-facts ρ (push1 b) d r h = concluded-facts r (h .concluded) (joinAll-note _ (d .moves) note-none (h .joined))
-  says-facts ρ (push2 b) d r h = concluded-facts r (h .concluded) (joinAll-note _ (d .moves) note-none (h .joined))
-  says-facts ρ copy d r h = concluded-facts r (h .concluded) (joinAll-note _ (d .moves) (moveAt-note (h .move)) (h .joined))
-  says-facts ρ pop1 d r h = concluded-facts r (h .concluded) note-none
-  says-facts ρ pop2 d r h = concluded-facts r h note-none
+  says-facts ρ (push1 b) d r h = concluded-facts r (h .concluded) (joined-facts (d .moves) (note-none _) (h .joined))
+  says-facts ρ (push2 b) d r h = concluded-facts r (h .concluded) (joined-facts (d .moves) (note-none 0) (h .joined))
+  says-facts ρ copy d r h = concluded-facts r (h .concluded) (joined-facts (d .moves) (moveAt-note (h .move)) (h .joined))
+  says-facts ρ pop1 d r h = concluded-facts r (h .concluded) (note-none _)
+  says-facts ρ pop2 d r h = concluded-facts r h (note-none 0)
   says-facts ρ collapse1 d r h = concluded-facts r (h .concluded) (note-single 1 _ (omega arith) (omega arith))
   says-facts ρ collapse2 d r h = concluded-facts r h (note-single 2 _ (omega arith) (omega arith))
 
@@ -124,7 +89,7 @@ module _ {P : ℕ} {A : Automaton} (F : TableFacts P A) where
 
   -- ---- the table
 
-  newMove-facts : (x : Result) → NoteFacts (x .order) (x .B) → MoveFacts (A .J + length (withEntry (x .control) (x .S) (A .entries))) (newMove A x)
+  newMove-facts : (x : Result) → NoteFacts (record { order = x .order; B = x .B; R = x .R }) → MoveFacts (A .J + length (withEntry (x .control) (x .S) (A .entries))) (newMove A x)
   unfolding newMove
   newMove-facts x f =
       let l : entryNumber (x .control) (x .S) (A .entries) < length (withEntry (x .control) (x .S) (A .entries)) = entryNumber-below (x .control) (x .S) (A .entries) in
