@@ -1,5 +1,6 @@
 -- Start files.
 -- Assumes nothing.
+pub mod Laws
 use Prim.Native.Nat.{ℕ, zero, suc}
 use mathlib.Core.Bool.{Bool, true, false, not, _&&_}
 use mathlib.Core.List.{List, [], _∷_, map}

@@ -8,3 +8,8 @@ pub mod Prefixes
 pub mod Limits
 pub mod Before
 pub mod Kept
+pub mod Contains
+pub mod Joining
+pub mod Readings
+pub mod Monotone
+pub mod Least

@@ -6,7 +6,7 @@ use mathlib.Core.Logic.{_⊎_, inl, inr}
 use mathlib.Core.List.{List, [], _∷_, _++_}
 use native.Mathlib.Nat.{add-zero, zero-add}
 use native.Mathlib.Omega.{arith}
-use lib.ListN.{length, getD, List·getD-append}
+use lib.ListN.{length, getD, List·getD-append, List·getD-eq-default}
 use lib.Seq.{getD-append-add}
 use lib.Dec.{ltb}
 use borrow.Author.Tests.{ltb-true, ltb-false}
@@ -40,6 +40,13 @@ Refers cells n (above w t) = (w < n) × (t < n) × (orderAt cells w ≡ 1) × (o
 -- every cell refers so
 pub record Formed (cells : List Cell) : Type 0 where
   pub refers : (n : ℕ) → Refers cells n (cellAt cells n)
+
+pub formed-below : (cells : List Cell) → ((n : ℕ) → n < length cells → Refers cells n (cellAt cells n)) → Formed cells
+formed-below cells h = record {
+  refers = λ n. by-test (ltb n (length cells))
+      (λ e. h n (ltb-true n (length cells) e))
+      (λ e. rw (List·getD-eq-default cells empty1 (ltb-false n (length cells) e)) tt);
+}
 
 pub formed-symbol : {cells : List Cell} {n a u s : ℕ} → Formed cells → cellAt cells n ≡ symbol a u s → (u < n) × (s < n) × (orderAt cells s ≡ 1)
 formed-symbol {cells} {n} x e = subst (Refers cells n) e (x .refers n)

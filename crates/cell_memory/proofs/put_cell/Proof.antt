@@ -1,0 +1,137 @@
+-- `cell_memory::put_cell` meets its contract.
+-- Assumes nothing.
+use Prim.Native.Nat.{ℕ, _+_, _*_, _-_}
+use mathlib.Core.Path.{_≡_, ap, sym, _∙_}
+use mathlib.Core.List.{List}
+use native.Mathlib.Omega.{arith}
+use Rattle.cell_memory.specs.declared.Cell.the-variants.{Empty1, Symbol, Empty2, Above}
+use Rattle.cell_memory.specs.Memory.{fields, withCell}
+use Rattle.cell_memory.specs.Memory.Laws.{put-is}
+use borrow.Author.Needs.{needs}
+use Rattle.cell_memory.proofs.put_cell.Statement.{statement}
+use Rattle.cell_memory.proofs.put_cell.Tie as tie
+
+mul-at : tie.Need-mul-at
+mul-at c = search needs
+
+add-end : tie.Need-add-end
+add-end c = search needs
+
+mul-zero-cells : tie.Need-mul-zero-cells
+mul-zero-cells c = search needs
+
+sub-zero-cells : tie.Need-sub-zero-cells
+sub-zero-cells c = search needs
+
+part-zero-cells-start : tie.Need-part-zero-cells-start
+part-zero-cells-start c = search needs
+
+part-zero-cells-end : tie.Need-part-zero-cells-end
+part-zero-cells-end c = search needs
+
+zero-cells-requires : tie.Need-zero-cells-requires
+zero-cells-requires c κs = search needs
+
+enum-told : tie.Need-enum-told
+enum-told c = search needs
+
+put-fields-requires : tie.Need-put-fields-requires
+put-fields-requires c κs = search needs
+
+enum-known-cell : tie.Need-enum-known-cell
+enum-known-cell c = search needs
+
+put-fields-requires-2 : tie.Need-put-fields-requires-2
+put-fields-requires-2 c κs = search needs
+
+enum-told-2 : tie.Need-enum-told-2
+enum-told-2 c = search needs
+
+put-fields-requires-3 : tie.Need-put-fields-requires-3
+put-fields-requires-3 c κs = search needs
+
+enum-known-cell-2 : tie.Need-enum-known-cell-2
+enum-known-cell-2 c = search needs
+
+put-fields-requires-4 : tie.Need-put-fields-requires-4
+put-fields-requires-4 c κs = search needs
+
+same-length : tie.Need-same-length
+same-length c = search needs
+
+returns : tie.Need-returns
+unfolding fields
+returns c =
+    let x = c .before .before .before .before .before .before .before .before in
+    let ws : List ℕ = x .before .before .before .args .cells .now in
+    let i : ℕ = x .before .before .before .args .i in
+    let size : i * 68 + 68 - i * 68 ≡ 68 = omega arith in
+    put-is ws (x .zero-cells .last .0) (c .before .before .put-fields .last .0) i (i * 68 + 68 - i * 68) Empty1 (search needs) size (x .zero-cells .ensures) (c .before .before .put-fields .ensures)
+    ∙ ap (withCell ws i) (sym (c .before .before .before .before .enum-told .given .1))
+
+same-length-2 : tie.Need-same-length-2
+same-length-2 c = search needs
+
+returns-2 : tie.Need-returns-2
+unfolding fields
+returns-2 c =
+    let x = c .before .before .before .before .before .before .before .before .before in
+    let ws : List ℕ = x .before .before .before .args .cells .now in
+    let i : ℕ = x .before .before .before .args .i in
+    let size : i * 68 + 68 - i * 68 ≡ 68 = omega arith in
+    put-is ws (x .zero-cells .last .0) (c .before .before .put-fields2 .last .0) i (i * 68 + 68 - i * 68) (Symbol _ _ _) (search needs) size (x .zero-cells .ensures) (c .before .before .put-fields2 .ensures)
+    ∙ ap (withCell ws i) (sym (c .before .before .before .before .before .cell .given .1))
+
+same-length-3 : tie.Need-same-length-3
+same-length-3 c = search needs
+
+returns-3 : tie.Need-returns-3
+unfolding fields
+returns-3 c =
+    let x = c .before .before .before .before .before .before .before .before in
+    let ws : List ℕ = x .before .before .before .args .cells .now in
+    let i : ℕ = x .before .before .before .args .i in
+    let size : i * 68 + 68 - i * 68 ≡ 68 = omega arith in
+    put-is ws (x .zero-cells .last .0) (c .before .before .put-fields3 .last .0) i (i * 68 + 68 - i * 68) Empty2 (search needs) size (x .zero-cells .ensures) (c .before .before .put-fields3 .ensures)
+    ∙ ap (withCell ws i) (sym (c .before .before .before .before .enum-told2 .given .1))
+
+same-length-4 : tie.Need-same-length-4
+same-length-4 c = search needs
+
+returns-4 : tie.Need-returns-4
+unfolding fields
+returns-4 c =
+    let x = c .before .before .before .before .before .before .before .before .before in
+    let ws : List ℕ = x .before .before .before .args .cells .now in
+    let i : ℕ = x .before .before .before .args .i in
+    let size : i * 68 + 68 - i * 68 ≡ 68 = omega arith in
+    put-is ws (x .zero-cells .last .0) (c .before .before .put-fields4 .last .0) i (i * 68 + 68 - i * 68) (Above _ _) (search needs) size (x .zero-cells .ensures) (c .before .before .put-fields4 .ensures)
+    ∙ ap (withCell ws i) (sym (c .before .before .before .before .before .cell2 .given .1))
+
+pub put-cell-spec : {M : Type 1} → statement M
+put-cell-spec =
+    tie.close
+    (tie.spec
+    mul-at
+    add-end
+    mul-zero-cells
+    sub-zero-cells
+    part-zero-cells-start
+    part-zero-cells-end
+    zero-cells-requires
+    enum-told
+    put-fields-requires
+    enum-known-cell
+    put-fields-requires-2
+    enum-told-2
+    put-fields-requires-3
+    enum-known-cell-2
+    put-fields-requires-4
+    same-length
+    returns
+    same-length-2
+    returns-2
+    same-length-3
+    returns-3
+    same-length-4
+    returns-4)

@@ -1,0 +1,104 @@
+// Lent cells: a flat slice of 16-bit words, 68 words a cell: its kind, symbol, first and second, then the choice for each of 64 states.
+ghost use mathlib.Core.Path.{_≡_};
+ghost use Prim.Native.Nat.{_<_, _≤_, _+_, _*_};
+ghost use mathlib.Core.List.{[], _∷_};
+ghost use lib.ListN.{length, replicate};
+ghost use lib.Seq.{sets};
+ghost use Rattle.cell_memory.specs.Memory.{cellIn, choiceIn, withCell, withChoice, withChoices};
+
+// A cell by value.
+pub enum Cell {
+    Empty1,
+    Symbol(u16, u16, u16),
+    Empty2,
+    Above(u16, u16),
+}
+
+// Cell i.
+pub fn cell_at(cells: &[u16], i: usize) -> Cell
+    requires { ⌜ i * 68 + 68 ≤ length (now cells) ⌝ }
+    ensures { λ r. ⌜ r ≡ cellIn (now (cells .entry)) i ⌝ }
+{
+    let at = i * 68;
+    let kind = cells[at];
+    match kind {
+        2 => Cell::Symbol(cells[at + 1], cells[at + 2], cells[at + 3]),
+        3 => Cell::Empty2,
+        4 => Cell::Above(cells[at + 2], cells[at + 3]),
+        _ => Cell::Empty1,
+    }
+}
+
+// The choice of cell i for state q.
+pub fn choice_at(cells: &[u16], i: usize, q: u64) -> u16
+    requires { ⌜ i * 68 + 68 ≤ length (now cells) ⌝ }
+    ensures { λ r. ⌜ r ≡ choiceIn (now (cells .entry)) i q ⌝ }
+{
+    if q < 64 {
+        let at = i * 68 + 4 + q as usize;
+        cells[at]
+    } else {
+        0
+    }
+}
+
+// All words are zero.
+pub fn zero_cells(cells: &mut [u16])
+    ensures { λ r. ⌜ now (cells .exit) ≡ replicate (length (now (cells .entry))) 0 ⌝ }
+{
+    let n = cells.len();
+    let mut i: usize = 0;
+    while i < n {
+        cells[i] = 0;
+        i += 1;
+    }
+}
+
+// The four fields of the cell whose words begin at `at`.
+fn put_fields(cells: &mut [u16], at: usize, kind: u16, symbol: u16, first: u16, second: u16)
+    requires { ⌜ at + 4 ≤ length (now cells) ⌝ }
+    ensures { λ r. ⌜ now (cells .exit) ≡ sets (now (cells .entry)) at (kind ∷ symbol ∷ first ∷ second ∷ []) ⌝ }
+{
+    cells[at] = kind;
+    cells[at + 1] = symbol;
+    cells[at + 2] = first;
+    cells[at + 3] = second;
+}
+
+// Cell i is this cell, with no choice for any state.
+pub fn put_cell(cells: &mut [u16], i: usize, cell: Cell)
+    requires { ⌜ i * 68 + 68 ≤ length (now cells) ⌝ }
+    ensures { λ r. ⌜ now (cells .exit) ≡ withCell (now (cells .entry)) i cell ⌝ }
+{
+    let at = i * 68;
+    let end = at + 68;
+    zero_cells(&mut cells[at..end]);
+    match cell {
+        Cell::Empty1 => put_fields(cells, at, 1, 0, 0, 0),
+        Cell::Symbol(a, u, s) => put_fields(cells, at, 2, a, u, s),
+        Cell::Empty2 => put_fields(cells, at, 3, 0, 0, 0),
+        Cell::Above(w, t) => put_fields(cells, at, 4, 0, w, t),
+    }
+}
+
+// The choice of cell i for state q is n.
+pub fn put_choice(cells: &mut [u16], i: usize, q: u64, n: u16)
+    requires { ⌜ (i * 68 + 68 ≤ length (now cells)) × (q < 64) ⌝ }
+    ensures { λ r. ⌜ now (cells .exit) ≡ withChoice (now (cells .entry)) i q n ⌝ }
+{
+    let at = i * 68 + 4 + q as usize;
+    cells[at] = n;
+}
+
+// The choices of cell i are these.
+pub fn put_choices(cells: &mut [u16], i: usize, choices: &[u16])
+    requires { ⌜ (i * 68 + 68 ≤ length (now cells)) × (length (now choices) ≡ 64) ⌝ }
+    ensures { λ r. ⌜ now (cells .exit) ≡ withChoices (now (cells .entry)) i (now (choices .entry)) ⌝ }
+{
+    let from = i * 68 + 4;
+    let mut q: usize = 0;
+    while q < 64 {
+        cells[from + q] = choices[q];
+        q += 1;
+    }
+}
