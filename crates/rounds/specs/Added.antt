@@ -99,6 +99,9 @@ add-holds A x =
       R-is = refl;
     }
 
+pub add-held : (A : Automaton) (x : Result) → held (add A x) x ≡ true
+add-held A x = holds-held (add A x) x (add-holds A x)
+
 pub addAll-holds : (A : Automaton) {xs : List Result} {x : Result} → List·Memᴰ x xs → Holds (addAll A xs) x
 unfolding addAll
 addAll-holds A {x = x} (List·Memᴰ·head {x = y} {xs = xs} e) =

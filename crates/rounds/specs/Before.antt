@@ -12,11 +12,12 @@ use Rattle.automata.specs.Automaton.{Automaton, moveAt}
 use Rattle.automata.specs.Derivation.{Result, Derivation, derivations, resultOf, firstDerivation}
 use Rattle.automata.specs.Derivation.Laws.{firstDerivation-out}
 use Rattle.automata.specs.Saturation.{Size, tableAfter, Saturated, sizeOf, upTo, lastUpTo, before, ownMoves}
-use Rattle.automata.specs.Facts.{Extends}
+use Rattle.automata.specs.Facts.{RuleFacts, TableFacts, Extends}
 use Rattle.rounds.specs.Added.{Stands}
 use Rattle.rounds.specs.Rounds.{after-extends, own-extends}
 use Rattle.rounds.specs.First.{AddedAfter, added-after, derived, first-of}
-use Rattle.rounds.specs.Prefixes.{upTo-extends, lastUpTo-round, ownMoves-is}
+use Rattle.rounds.specs.Prefixes.{upTo-after, lastUpTo-round, ownMoves-is}
+use Rattle.rounds.specs.Kept.{after-facts}
 use Rattle.rounds.specs.Limits.{IsSaturated}
 
 -- Of a move of the table past the own ones.
@@ -46,7 +47,7 @@ module _ {rules : List Rule} {lent : Size} {own : Automaton} {T : Saturated} (s 
       let none : Size = record { moves = 0; entries = 0 } in
       let z : lastUpTo none (T .sizes) i ≡ sizeOf (tableAfter rules own n) =
       ap (λ (l : List Size). lastUpTo none l i) (s .sizes-are) ∙ lastUpTo-round rules own none a (s .rounds) h in
-      ap₂ upTo z (s .table-is) ∙ upTo-extends (after-extends rules own n (s .rounds) (le-of-lt h))
+      ap₂ upTo z (s .table-is) ∙ upTo-after rules own n (s .rounds) (le-of-lt h)
 
   -- from any derivation of what move i stands for
   later-by : {n i : ℕ} {d : Derivation} → before T i ≡ tableAfter rules own n → n < s .rounds → length (tableAfter rules own n .moves) ≤ i
@@ -76,3 +77,12 @@ module _ {rules : List Rule} {lent : Size} {own : Automaton} {T : Saturated} (s 
       let (n, k, a) = added-after rules own (s .rounds) i l (rw (s .table-is) at h) in
       let (d, j, f, stands) = derived rules own a (s .rounds) k in
       later-by (before-is a k) k (a .not-before) j (rw (s .table-is) stands)
+
+  -- ---- facts
+
+  module _ {P : ℕ} (rule-facts : (ρ : Rule) → List·Memᴰ ρ rules → RuleFacts P ρ) (F : TableFacts P own) where
+    pub table-facts : TableFacts P (T .table)
+    table-facts = subst (TableFacts P) (sym (s .table-is)) (after-facts rules rule-facts F (s .rounds))
+
+    pub before-facts : {i : ℕ} → Later rules own T i → TableFacts P (before T i)
+    before-facts l = subst (TableFacts P) (sym (l .before-after)) (after-facts rules rule-facts F (l .rounds-before))

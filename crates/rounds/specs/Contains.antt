@@ -7,10 +7,10 @@ use mathlib.Core.Option.{some, Option·some-injective}
 use mathlib.Core.List.{List·Memᴰ}
 use native.Mathlib.Omega.{arith}
 use lib.ListN.{getD}
-use Rattle.words.specs.Sets.{join, single}
-use Rattle.words.specs.Sets.Laws.{Has, All, all-empty, all-join, has-join-left, has-join-right, has-single, all-single, has-part, part-antisym}
 use lib.Dec.{ltb}
 use borrow.Author.Tests.{ltb-true, ltb-false}
+use Rattle.words.specs.Sets.{join, single}
+use Rattle.words.specs.Sets.Laws.{Has, All, all-empty, all-join, has-join-left, has-join-right, has-single, all-single, has-part, part-antisym}
 use Rattle.words.specs.Lists.Laws.{by-test, getElem?-some, getElem?-below}
 use Rattle.automata.specs.Automaton.{Automaton, Move, Edge, Entry, noEntry, entryKey, entryAt}
 use Rattle.automata.specs.Derivation.Numbers.{entryAt-some, entryAt-entry}
@@ -85,7 +85,7 @@ matched-equal {a} {b} x =
 pub equal-matched : {a b : ℕ} → a ≡ b → Matched _≡_ a b
 equal-matched {a} {b} e = record { forth = λ n h. (n, subst (λ (s : ℕ). Has s n) e h, refl); back = λ n h. (n, subst (λ (s : ℕ). Has s n) (sym e) h, refl) }
 
--- ---- a state is the same as at most one other
+-- ---- a state is the same as at most one other, both ways: `Same` is an injective renaming
 
 -- where each entry is there once, the entry determines the state
 pub entryAt-once : (A : Automaton) → Once (A .entries) → (r s : ℕ) {e : Entry} → entryAt A r ≡ some e → entryAt A s ≡ some e → r ≡ s

@@ -12,14 +12,10 @@ use lib.Seq.{getD-append-seam, getD-at}
 use lib.Dec.{eqb, ltb}
 use borrow.Author.Tests.{eqb-true, eq-eqb, ltb-true, ltb-false}
 use Rattle.words.specs.Lists.Laws.{by-test, and-left, and-right, getElem?-some, getElem?-below, getD-in}
+use Rattle.words.specs.Options.{by-option}
 use Rattle.automata.specs.Automaton.{Automaton, Entry, noEntry, entryKey, entryAt, entryOf, entryControl, entrySet}
 use Rattle.automata.specs.Derivation.Numbers.{entryAt-some}
 use Rattle.automata.specs.Saturation.{isEntry, entryNumber, withEntry}
-
--- by the value of an option
-pub by-option : {A : Type 0} (o : Option A) {X : Type 0} → (o ≡ none → X) → ((x : A) → o ≡ some x → X) → X
-by-option none f g = f refl
-by-option (some x) f g = g x refl
 
 -- entry [p,S]
 abbrev pub entry : ℕ → ℕ → Entry

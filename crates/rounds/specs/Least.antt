@@ -116,6 +116,7 @@ module _ {P : ℕ} (rules : List Rule) (rule-facts : (ρ : Rule) → List·Mem�
   closed-contains {C} c once h (suc n) =
       round-contains (closed-contains c once h n) (after-facts rules rule-facts F n) once rules rules (λ ρ j. j) (extends-refl C) (h .closed)
 
+  -- so it contains the saturated table
   pub least : {lent : Size} {T : Saturated} → IsSaturated rules lent own T → {C : Automaton} → Contains own C → Once (C .entries) → Closed rules C
       → Contains (T .table) C
   least s {C} c once h = subst (λ (A : Automaton). Contains A C) (sym (s .table-is)) (closed-contains c once h (s .rounds))

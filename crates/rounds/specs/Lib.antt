@@ -3,13 +3,15 @@ pub mod Extension
 pub mod Held
 pub mod Added
 pub mod Rounds
+pub mod Kept
 pub mod First
 pub mod Prefixes
 pub mod Limits
 pub mod Before
-pub mod Kept
 pub mod Contains
 pub mod Joining
 pub mod Readings
 pub mod Monotone
 pub mod Least
+pub mod Choices
+pub mod LeastChoice

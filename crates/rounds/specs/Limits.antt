@@ -22,15 +22,15 @@ use Rattle.rounds.specs.Prefixes.{sizesBefore}
 
 -- ---- within the limits
 
-pub record Fits (lent : Size) (A : Automaton) : Type 0 where
+pub record KeepsLimits (lent : Size) (A : Automaton) : Type 0 where
   pub moves-fit : length (A .moves) ≤ min (lent .moves) 1024
   pub entries-fit : length (A .entries) ≤ lent .entries
   pub states-fit : states A ≤ 64
 
 module _ (lent : Size) where
-  pub within-fits : (A : Automaton) → within lent A ≡ true → Fits lent A
+  pub within-keeps : (A : Automaton) → within lent A ≡ true → KeepsLimits lent A
   unfolding within
-  within-fits A h =
+  within-keeps A h =
       let a : Bool = leb (length (A .moves)) (min (lent .moves) 1024) in
       let b : Bool = leb (length (A .entries)) (lent .entries) in
       let c : Bool = leb (A .J + length (A .entries)) 64 in
@@ -41,9 +41,9 @@ module _ (lent : Size) where
         states-fit = leb-true (states A) 64 (and-right (a && b) c h);
       }
 
-  pub fits-within : (A : Automaton) → Fits lent A → within lent A ≡ true
+  pub keeps-within : (A : Automaton) → KeepsLimits lent A → within lent A ≡ true
   unfolding within
-  fits-within A f =
+  keeps-within A f =
       ap₂ _&&_
       (ap₂ _&&_
       (le-leb (length (A .moves)) (min (lent .moves) 1024) (f .moves-fit))
@@ -53,14 +53,20 @@ module _ (lent : Size) where
   -- what fits has only parts that fit
   pub within-part : {A C : Automaton} → Extends A C → within lent C ≡ true → within lent A ≡ true
   within-part {A} {C} x h =
-      let f : Fits lent C = within-fits C h in
-      fits-within A (record {
+      let f : KeepsLimits lent C = within-keeps C h in
+      keeps-within A (record {
         moves-fit = let l : length (C .moves) ≤ min (lent .moves) 1024 = f .moves-fit in let g = moves-grow x in omega arith;
         entries-fit = let l : length (C .entries) ≤ lent .entries = f .entries-fit in let g = entries-grow x in omega arith;
         states-fit = let l : states C ≤ 64 = f .states-fit in let g = states-grow x in omega arith;
       })
 
 -- ---- the loop
+
+-- what holds below n and at n holds below n + 1
+pub below-suc : (X : ℕ → Type 0) (n : ℕ) → ((m : ℕ) → m < n → X m) → X n → (m : ℕ) → m < suc n → X m
+below-suc X n f x m h = by-test (eqb m n)
+    (λ t. subst X (sym (eqb-true m n t)) x)
+    (λ t. let d : m ≡ n → ⊥ = eqb-false m n t in f m (omega arith))
 
 module _ (rules : List Rule) (lent : Size) where
   pub saturateFrom-exceeds : (k : ℕ) (sizes : List Size) (A : Automaton) → within lent A ≡ false → saturateFrom rules lent (suc k) sizes A ≡ none
@@ -78,11 +84,16 @@ module _ (rules : List Rule) (lent : Size) where
   saturateFrom-goes-on k sizes A h e = rw (saturateFrom, h, ne-eqb (length (round rules A .moves)) (length (A .moves)) e)
 
   module _ (own : Automaton) where
+    -- the round after the first n rounds adds a move
+    abbrev pub Adds : ℕ → Type 0
+    Adds n = length (tableAfter rules own n .moves) < length (tableAfter rules own (suc n) .moves)
+
     -- what holds of a saturated table
     pub record IsSaturated (T : Saturated) : Type 0 where
       pub rounds : ℕ
       pub table-is : T .table ≡ tableAfter rules own rounds
       pub sizes-are : T .sizes ≡ sizesBefore rules own (suc rounds)
+      pub each-adds : (n : ℕ) → n < rounds → Adds n
       pub closed : Closed rules (T .table)
       pub limits-kept : within lent (T .table) ≡ true
 
@@ -92,12 +103,13 @@ module _ (rules : List Rule) (lent : Size) where
       exceeds : (n : ℕ) → within lent (tableAfter rules own n) ≡ false → Outcome none
 
     -- Each round that goes on adds a move, so the bound is used up only past 1,024 moves.
-    pub outcome : (k n : ℕ) → 1025 ≤ k + length (tableAfter rules own n .moves) → Outcome (saturateFrom rules lent k (sizesBefore rules own n) (tableAfter rules own n))
+    pub outcome : (k n : ℕ) → 1025 ≤ k + length (tableAfter rules own n .moves) → ((m : ℕ) → m < n → Adds m)
+        → Outcome (saturateFrom rules lent k (sizesBefore rules own n) (tableAfter rules own n))
     unfolding saturateFrom sizesBefore tableAfter
-    outcome zero n l = by-test (within lent (tableAfter rules own n))
-        (λ t. let f : length (tableAfter rules own n .moves) ≤ min (lent .moves) 1024 = within-fits lent (tableAfter rules own n) t .moves-fit in absurd (omega arith))
+    outcome zero n l before = by-test (within lent (tableAfter rules own n))
+        (λ t. let f : length (tableAfter rules own n .moves) ≤ min (lent .moves) 1024 = within-keeps lent (tableAfter rules own n) t .moves-fit in absurd (omega arith))
         (λ t. exceeds n t)
-    outcome (suc k) n l =
+    outcome (suc k) n l before =
         let A : Automaton = tableAfter rules own n in
         let sizes : List Size = sizesBefore rules own n in
         by-test (within lent A)
@@ -105,16 +117,16 @@ module _ (rules : List Rule) (lent : Size) where
         (λ u.
         let e : length (round rules A .moves) ≡ length (A .moves) = eqb-true (length (round rules A .moves)) (length (A .moves)) u in
         rw (saturateFrom-ends k sizes A t e)
-        (saturated (record { rounds = n; table-is = refl; sizes-are = refl; closed = still-closed rules A e; limits-kept = t })))
+        (saturated (record { rounds = n; table-is = refl; sizes-are = refl; each-adds = before; closed = still-closed rules A e; limits-kept = t })))
         (λ u.
         let e : length (round rules A .moves) ≡ length (A .moves) → ⊥ = eqb-false (length (round rules A .moves)) (length (A .moves)) u in
         let g : length (A .moves) < length (round rules A .moves) = round-adds rules A e in
-        rw (saturateFrom-goes-on k sizes A t e) (outcome k (suc n) (omega arith))))
+        rw (saturateFrom-goes-on k sizes A t e) (outcome k (suc n) (omega arith) (below-suc Adds n before g))))
         (λ t. rw (saturateFrom-exceeds k sizes A t) (exceeds n t))
 
     pub saturate-outcome : Outcome (saturate rules lent own)
     unfolding saturate sizesBefore tableAfter
-    saturate-outcome = outcome 1025 0 (omega arith)
+    saturate-outcome = outcome 1025 0 (omega arith) (λ m h. absurd (omega arith))
 
     -- ---- a saturated table, exactly where all rounds keep the limits
 

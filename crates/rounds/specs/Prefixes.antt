@@ -27,6 +27,9 @@ upTo-extends {A} {C} x =
     ap (take (length (A .moves))) (x .moves-are) ∙ take-append-seam (A .moves) (x .more-moves) in
     λ i. record { J = x .same-J i; final1 = x .same-final1 i; final2 = x .same-final2 i; inner = x .same-inner i; entries = e i; moves = m i }
 
+pub upTo-after : (rules : List Rule) (own : Automaton) (n m : ℕ) → n ≤ m → upTo (sizeOf (tableAfter rules own n)) (tableAfter rules own m) ≡ tableAfter rules own n
+upTo-after rules own n m h = upTo-extends (after-extends rules own n m h)
+
 -- ---- the last size that has no more than i moves
 
 pub lastUpTo-yes : (z y : Size) (ys : List Size) (i : ℕ) → y .moves ≤ i → lastUpTo z (y ∷ ys) i ≡ lastUpTo y ys i

@@ -1,6 +1,7 @@
 -- Cells: stacks in shared storage, where a cell refers to cells of lower number; and the operations on cells.
 -- Assumes nothing.
 pub mod Formed
+pub mod Values
 pub mod Laws
 use Prim.Native.Nat.{ℕ, _+_}
 use mathlib.Core.List.{List, [], _∷_, _++_}

@@ -220,7 +220,9 @@ module _ (A : Automaton) where
   -- the order-1 state of each edge is named, and its set is a part of the joined sets
   pub named-in : {e : ℕ} {es : List ℕ} → List·Memᴰ e es → Has (named A es) (edgeAt A e .first)
   unfolding named
-  named-in {e} (List·Memᴰ·head {x = x} {xs = es} y) = has-join-left (named A es) (subst (λ (z : ℕ). Has (single (edgeAt A x .first)) (edgeAt A z .first)) (sym y) (has-single (edgeAt A x .first)))
+  named-in {e} (List·Memᴰ·head {x = x} {xs = es} y) =
+      has-join-left (named A es)
+      (subst (λ (z : ℕ). Has (single (edgeAt A x .first)) (edgeAt A z .first)) (sym y) (has-single (edgeAt A x .first)))
   named-in (List·Memᴰ·tail {x = x} i) = has-join-right (single (edgeAt A x .first)) (named-in i)
 
   pub edgeSets-part : {e : ℕ} {es : List ℕ} → List·Memᴰ e es → partOf (edgeAt A e .S) (edgeSets A es) ≡ true

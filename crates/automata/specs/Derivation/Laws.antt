@@ -109,6 +109,17 @@ module _ (A : Automaton) (ρ : Rule) where
   Says collapse1 d = ByEntry (λ r. record { order = 1; B = single r; R = 0 }) d
   Says collapse2 d = Concludes ρ [] [] [] 0 (record { order = 2; B = single (ρ .next); R = 0 }) d
 
+  -- a result goes to symbol a of an entry of p, the rule's own
+  pub says-goes : (o : Operation) (d : Derivation) → Says o d → (d .result .control ≡ ρ .control) × (d .result .symbol ≡ ρ .symbol)
+  says-goes (rewrite b) d h = (h .concluded .control-is, h .concluded .symbol-is)
+  says-goes (push1 b) d h = (h .concluded .control-is, h .concluded .symbol-is)
+  says-goes (push2 b) d h = (h .concluded .control-is, h .concluded .symbol-is)
+  says-goes copy d h = (h .concluded .control-is, h .concluded .symbol-is)
+  says-goes pop1 d h = (h .concluded .control-is, h .concluded .symbol-is)
+  says-goes pop2 d h = (h .control-is, h .symbol-is)
+  says-goes collapse1 d h = (h .concluded .control-is, h .concluded .symbol-is)
+  says-goes collapse2 d h = (h .control-is, h .symbol-is)
+
 -- d is by a rule of its number, and says what that rule's operation asks
 pub record Derives (A : Automaton) (rules : List Rule) (d : Derivation) : Type 0 where
   pub rule : Rule

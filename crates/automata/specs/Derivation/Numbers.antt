@@ -108,8 +108,15 @@ module _ (A : Automaton) where
       go none y = absurd (false≢true (rw (entryOf, y) at h))
       go (some x) y =
           let s = entryAt-some r y in
-          let g = getElem?-some (A .entries) (s .0) (s .2) in
-          (s .0, s .1, record { below = g .0; control-is = ap (λ (e : Entry). e .control) (g .1 noEntry) ∙ eqb-true _ _ (rw (entryOf, y) at h); set-is = ap (λ (e : Entry). e .S) (g .1 noEntry) ∙ rw (entrySet, y) })
+          let g = getElem?-some (A .entries) (s .0) (s .2) in (
+            s .0,
+            s .1,
+            record {
+              below = g .0;
+              control-is = ap (λ (e : Entry). e .control) (g .1 noEntry) ∙ eqb-true _ _ (rw (entryOf, y) at h);
+              set-is = ap (λ (e : Entry). e .S) (g .1 noEntry) ∙ rw (entrySet, y);
+            },
+          )
 
   -- move i is a move on b of entry [p,S]
   pub record EntryMove (p S b i : ℕ) : Type 0 where

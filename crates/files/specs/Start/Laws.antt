@@ -14,6 +14,7 @@ use Rattle.words.specs.Lists.{every}
 use Rattle.words.specs.Lists.Laws.{by-test, and-left, and-right, every-in}
 use Rattle.walks.specs.Cell.{Cell, empty1, symbol, empty2, above}
 use Rattle.walks.specs.Cell.Formed.{cellOrder, cellAt, orderAt, Refers, Formed, formed-below}
+use Rattle.walks.specs.Cell.Values.{getD-map-below}
 use Rattle.files.specs.Bytes.{placed, countOf, offsetOf, recordsOf, firstHit}
 use Rattle.files.specs.Bytes.Laws.{numbered, unrefused, bodies-first, bodies-end, placed-first, placed-bodies, length-recordsOf}
 use Rattle.files.specs.Bytes.Laws.{AllBytes, field-below, recordsOf-bytes}
@@ -110,12 +111,6 @@ cellsRight-at A cells n (x ∷ xs) d zero {m} e h l = by-test (cellRight A cells
 cellsRight-at A cells n (x ∷ xs) d (suc i) e h l = by-test (cellRight A cells n x)
     (λ p. cellsRight-at A cells (suc n) xs d i (omega arith) (rw (cellsRight, p) at h) (le-of-suc-le-suc l))
     (λ p. absurd (false≢true (rw (cellsRight, p) at h)))
-
-module _ {A B : Type 0} where
-  pub getD-map-below : (f : A → B) (l : List A) (i : ℕ) (d : A) (e : B) → i < length l → getD (map f l) i e ≡ f (getD l i d)
-  getD-map-below f [] i d e h = absurd (not-suc-le-zero h)
-  getD-map-below f (x ∷ xs) zero d e h = refl
-  getD-map-below f (x ∷ xs) (suc i) d e h = getD-map-below f xs i d e (le-of-suc-le-suc h)
 
 module _ (A : ℕ) (cells : List CellBytes) (right : cellsRight A cells 0 cells ≡ true) where
   right-at : (d : CellBytes) (n : ℕ) → n < length cells → RightCell A cells n (getD cells n d)

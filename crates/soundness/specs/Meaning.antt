@@ -1,0 +1,59 @@
+-- What it means that a state is right about a decorated stack: an inner state, that the own automaton accepts the stack; a control, that
+-- the walk arrives; an entry [p,S], that the walk from p arrives on whatever S is right about.
+-- Assumes nothing.
+use Prim.Native.Nat.{ℕ, _+_, _<_, _≤_}
+use mathlib.Core.Bool.{true}
+use mathlib.Core.Path.{_≡_, refl, _∙_}
+use mathlib.Core.Logic.{inl, inr}
+use mathlib.Core.List.{List}
+use native.Mathlib.Omega.{arith}
+use Rattle.words.specs.Sets.{partOf}
+use Rattle.words.specs.Sets.Laws.{All, all-part}
+use Rattle.stacks.specs.System.{Rule}
+use Rattle.automata.specs.Automaton.{Automaton, entryEdge}
+use Rattle.automata.specs.Acceptance.Laws.{Accepts1, Accepts2}
+use Rattle.automata.specs.Derivation.Numbers.{EntryIs}
+use Rattle.automata.specs.Derivation.Joining.{Fits}
+use Rattle.automata.specs.Saturation.{Saturated}
+use Rattle.soundness.specs.Facts.{SaturatedFacts}
+use Rattle.soundness.specs.Decorated.{Decorated1, Decorated2, cons2′, DecoratedNote, of1′, of2′, erase1, erase2, Arrives}
+
+-- F stands for P, own, rules and T.
+module _ {P : ℕ} {own : Automaton} {rules : List Rule} {T : Saturated} (F : SaturatedFacts P own rules T) where
+  -- order-2 state q is right about t
+  pub record Ok2 (q : ℕ) (t : Decorated2) : Type 0 where
+    pub inner : P ≤ q → Accepts2 own (erase2 t) q
+    pub control : q < P → Arrives rules T own (record { control = q; stack = t })
+
+  -- Order-1 state r is right about w. For entry e, which is [p,S], the order-2 cell on w must choose this entry for p.
+  pub record Ok1 (r : ℕ) (w : Decorated1) : Type 0 where
+    pub inner : r < T .table .J → Accepts1 own (erase1 w) r
+    pub entry : (p S e : ℕ) → r ≡ T .table .J + e → EntryIs (T .table) p S e → (t : Decorated2) → All S (λ q. Ok2 q t)
+        → (g : ℕ → ℕ) → g p ≡ entryEdge (T .table) e → Arrives rules T own (record { control = p; stack = cons2′ w t g })
+
+  -- the annotation is as a move of order k and annotation set B asks
+  pub data OkNote (k B : ℕ) : DecoratedNote → Type 0 where
+    any : {u : DecoratedNote} → k ≡ 0 → OkNote k B u
+    one : {w : Decorated1} → k ≡ 1 → All B (λ r. Ok1 r w) → OkNote k B (of1′ w)
+    two : {t : Decorated2} → k ≡ 2 → All B (λ q. Ok2 q t) → OkNote k B (of2′ t)
+
+  -- a part of an annotation set asks no more
+  pub okNote-part : {k B : ℕ} {u : DecoratedNote} (l C : ℕ) → Fits k l → partOf C B ≡ true → OkNote k B u → OkNote l C u
+  okNote-part l C (inl e) h x = any e
+  okNote-part l C (inr e) h (any z) = any (e ∙ z)
+  okNote-part {B = B} l C (inr e) h (one z f) = one (e ∙ z) (all-part C B h f)
+  okNote-part {B = B} l C (inr e) h (two z f) = two (e ∙ z) (all-part C B h f)
+
+  pub okNote-same : {k B l C : ℕ} {u : DecoratedNote} → k ≡ l → B ≡ C → OkNote k B u → OkNote l C u
+  okNote-same {u = u} e f x = rw (← e, ← f) x
+
+  -- at order 1 or 2 the annotation has that order
+  pub okNote-order1 : {k B : ℕ} {u : DecoratedNote} → k ≡ 1 → OkNote k B u → (w : Decorated1) × (u ≡ of1′ w) × All B (λ r. Ok1 r w)
+  okNote-order1 e (any z) = absurd (omega arith)
+  okNote-order1 e (one {w = w} z f) = (w, refl, f)
+  okNote-order1 e (two z f) = absurd (omega arith)
+
+  pub okNote-order2 : {k B : ℕ} {u : DecoratedNote} → k ≡ 2 → OkNote k B u → (t : Decorated2) × (u ≡ of2′ t) × All B (λ q. Ok2 q t)
+  okNote-order2 e (any z) = absurd (omega arith)
+  okNote-order2 e (one z f) = absurd (omega arith)
+  okNote-order2 e (two {t = t} z f) = (t, refl, f)

@@ -1,0 +1,97 @@
+-- What holds of the automaton that three tables hold.
+-- Assumes nothing.
+use Prim.Native.Nat.{ℕ, zero, suc, _+_, _-_, _*_, _≤_, _<_}
+use mathlib.Core.Bool.{Bool, true, false}
+use mathlib.Core.Path.{_≡_, refl, ap, sym, _∙_, subst}
+use mathlib.Core.Option.{Option, none, some}
+use mathlib.Core.List.{List, [], _∷_, _++_}
+use native.Mathlib.Nat.{add-zero}
+use native.Mathlib.Omega.{arith}
+use lib.ListN.{length, getD, getElem?, List·getD-append}
+use lib.Dec.{eqb, leb}
+use lib.Seq.{getD-append-add}
+use borrow.Author.Tests.{le-leb, lt-leb}
+use Rattle.words.specs.Lists.Laws.{getElem?-below, getElem?-past}
+use Rattle.automata.specs.Automaton.{Automaton, Edge, Entry, noEdge, noEntry, entryEdges, entryAt, entryOf, entrySet}
+use Rattle.tables.specs.declared.Table.{Table}
+use Rattle.tables.specs.Rows.{rowAt, rowsIn}
+use Rattle.tables.specs.Rows.Laws.{length-rowsIn, getD-rowsIn}
+use Rattle.tables.specs.Records.{moveRow, entryRow, edgeRow}
+use Rattle.tables.specs.Held.{automatonOf, tableOf, edgesIn, EdgesStand, EntriesStand}
+
+-- ---- edges by number
+
+pub getD-entryEdges : (r : ℕ) (l : List Entry) (k : ℕ) → k < length l
+    → getD (entryEdges r l) k noEdge ≡ record { state = getD l k noEntry .control; first = r + k; S = getD l k noEntry .S }
+unfolding entryEdges
+getD-entryEdges r [] k h = absurd (omega arith)
+getD-entryEdges r (e ∷ es) zero h = ap (λ (n : ℕ). record { state = e .control; first = n; S = e .S }) (sym (add-zero r))
+getD-entryEdges r (e ∷ es) (suc k) h =
+    getD-entryEdges (suc r) es k (omega arith)
+    ∙ ap (λ (n : ℕ). record { state = getD es k noEntry .control; first = n; S = getD es k noEntry .S }) (let z : suc r + k ≡ r + suc k = omega arith in z)
+
+pub first-small : (z : Table) (inner : List ℕ) (n : ℕ) (e : Edge) → EdgesStand z inner → n < z .edges → e ≡ rowAt edgeRow inner n → e .first < 64
+first-small z inner n e h l q = subst (λ (k : ℕ). k < 64) (ap (λ (x : Edge). x .first) (sym q)) (h .firsts-small n l)
+
+module _ (z : Table) (inner entries : List ℕ) where
+  pub edge-inner : (n : ℕ) → n < z .edges → rowAt edgeRow inner n ≡ getD (edgesIn z inner entries) n noEdge
+  edge-inner n h =
+      let len : length (rowsIn edgeRow (z .edges) inner) ≡ z .edges = length-rowsIn edgeRow (z .edges) inner in
+      sym
+      (List·getD-append (rowsIn edgeRow (z .edges) inner) (entryEdges (z .states) (rowsIn entryRow (z .entries) entries)) noEdge n (omega arith)
+      ∙ getD-rowsIn edgeRow (z .edges) inner n noEdge h)
+
+  pub edge-entry : (n : ℕ) (e : Entry) → z .edges ≤ n → n < z .edges + z .entries → e ≡ rowAt entryRow entries (n - z .edges)
+      → record { state = e .control; first = z .states + (n - z .edges); S = e .S } ≡ getD (edgesIn z inner entries) n noEdge
+  edge-entry n e h l q =
+      let inside : List Edge = rowsIn edgeRow (z .edges) inner in
+      let es : List Entry = rowsIn entryRow (z .entries) entries in
+      let k : ℕ = n - z .edges in
+      let len : length inside ≡ z .edges = length-rowsIn edgeRow (z .edges) inner in
+      let lenE : length es ≡ z .entries = length-rowsIn entryRow (z .entries) entries in
+      let at : n ≡ length inside + k = omega arith in
+      let is : getD es k noEntry ≡ e = getD-rowsIn entryRow (z .entries) entries k noEntry (omega arith) ∙ sym q in
+      sym
+      (ap (λ (i : ℕ). getD (edgesIn z inner entries) i noEdge) at
+      ∙ getD-append-add inside (entryEdges (z .states) es) k noEdge
+      ∙ getD-entryEdges (z .states) es k (omega arith)
+      ∙ ap (λ (x : Entry). record { state = x .control; first = z .states + k; S = x .S }) is)
+
+-- ---- the entry that an order-1 state is
+
+module _ (z : Table) (entries moves : List ℕ) (r : ℕ) where
+  pub entryAt-inner : r < z .states → entryAt (tableOf z entries moves) r ≡ Option.none
+  unfolding entryAt
+  entryAt-inner h = rw (entryAt, lt-leb (z .states) r h)
+
+  pub entryAt-past : z .states ≤ r → z .entries ≤ r - z .states → entryAt (tableOf z entries moves) r ≡ Option.none
+  unfolding entryAt
+  entryAt-past h l =
+      let len : length (rowsIn entryRow (z .entries) entries) ≡ z .entries = length-rowsIn entryRow (z .entries) entries in
+      rw (entryAt, le-leb (z .states) r h) (getElem?-past (rowsIn entryRow (z .entries) entries) (r - z .states) (omega arith))
+
+  pub entryAt-there : (e : Entry) → z .states ≤ r → r - z .states < z .entries → e ≡ rowAt entryRow entries (r - z .states)
+      → entryAt (tableOf z entries moves) r ≡ some e
+  unfolding entryAt
+  entryAt-there e h l q =
+      let len : length (rowsIn entryRow (z .entries) entries) ≡ z .entries = length-rowsIn entryRow (z .entries) entries in
+      rw (entryAt, le-leb (z .states) r h)
+      (getElem?-below (rowsIn entryRow (z .entries) entries) (r - z .states) noEntry (omega arith)
+      ∙ ap some (getD-rowsIn entryRow (z .entries) entries (r - z .states) noEntry l ∙ sym q))
+
+module _ (A : Automaton) (r : ℕ) where
+  pub none-of : (p : ℕ) → entryAt A r ≡ Option.none → entryOf A p r ≡ false
+  unfolding entryOf
+  none-of p h = rw (entryOf, h)
+
+  pub some-of-entry : (p : ℕ) (e : Entry) → entryAt A r ≡ some e → entryOf A p r ≡ eqb (e .control) p
+  unfolding entryOf
+  some-of-entry p e h = rw (entryOf, h)
+
+  pub none-set : entryAt A r ≡ Option.none → entrySet A r ≡ 0
+  unfolding entrySet
+  none-set h = rw (entrySet, h)
+
+  pub some-set : (e : Entry) → entryAt A r ≡ some e → entrySet A r ≡ e .S
+  unfolding entrySet
+  some-set e h = rw (entrySet, h)

@@ -1,0 +1,388 @@
+//! Case and start files (document 01, "Files").
+//!
+//! Decoding answers the refusal number of the table under "Three services and
+//! their halts". "The lowest number that applies is returned": the tests of a
+//! file are grouped by number, and all tests of one number come before any of
+//! the next.
+
+use crate::sets::{Set, is_part, range};
+
+/// A refusal number of document 01.
+pub type Refusal = u64;
+
+/// "At most 64 order-1 states": the inner ones and the entries together.
+pub const ORDER_ONE_STATES: usize = 64;
+
+/// A rule (p, a, operation, b, p').
+#[derive(Clone, Copy, Debug, PartialEq, Eq)]
+pub struct Rule {
+    pub from: u8,
+    pub symbol: u8,
+    pub code: u8,
+    pub put: u8,
+    pub to: u8,
+}
+
+/// An edge (r, S) of an order-2 state.
+#[derive(Clone, Copy, Debug, PartialEq, Eq, PartialOrd, Ord)]
+pub struct Edge {
+    pub state: u8,
+    pub one: u8,
+    pub set: Set,
+}
+
+/// An entry [p, S].
+#[derive(Clone, Copy, Debug, PartialEq, Eq, PartialOrd, Ord)]
+pub struct Entry {
+    pub control: u8,
+    pub set: Set,
+}
+
+/// A move (order-1 state, symbol, annotation order, annotation set, rest set).
+/// The derived order compares by that list.
+#[derive(Clone, Copy, Debug, PartialEq, Eq, PartialOrd, Ord, Hash)]
+pub struct Move {
+    pub state: u8,
+    pub symbol: u8,
+    pub order: u8,
+    pub note: Set,
+    pub rest: Set,
+}
+
+/// A sound case file.
+#[derive(Clone, Debug, PartialEq, Eq)]
+pub struct Case {
+    /// P
+    pub controls: u8,
+    /// I
+    pub inner_two: u8,
+    /// J
+    pub inner_one: u8,
+    /// A
+    pub symbols: u8,
+    pub final_two: Set,
+    pub final_one: Set,
+    pub rules: Vec<Rule>,
+    /// The entries of the file, numbered from J in file order.
+    pub entries: Vec<Entry>,
+    /// The edges of inner states, in file order.
+    pub edges: Vec<Edge>,
+    pub moves: Vec<Move>,
+}
+
+/// A cell of a start file; references are cell numbers.
+#[derive(Clone, Copy, Debug, PartialEq, Eq)]
+pub enum Cell {
+    EmptyOne,
+    Symbol { name: u8, note: u16, rest: u16 },
+    EmptyTwo,
+    Pair { top: u16, rest: u16 },
+}
+
+impl Cell {
+    /// The order of the stack that the cell stands for.
+    pub fn order(self) -> u8 {
+        match self {
+            Cell::EmptyOne | Cell::Symbol { .. } => 1,
+            Cell::EmptyTwo | Cell::Pair { .. } => 2,
+        }
+    }
+}
+
+/// A start: a control and a root cell.
+#[derive(Clone, Copy, Debug, PartialEq, Eq)]
+pub struct Start {
+    pub control: u8,
+    pub root: u16,
+}
+
+/// A sound start file.
+#[derive(Clone, Debug, PartialEq, Eq)]
+pub struct StartFile {
+    pub starts: Vec<Start>,
+    pub cells: Vec<Cell>,
+}
+
+/// What a contents table may say of one body.
+pub struct BodyRule {
+    pub record: usize,
+    pub least: usize,
+    pub most: usize,
+}
+
+const fn body(record: usize, least: usize, most: usize) -> BodyRule {
+    BodyRule {
+        record,
+        least,
+        most,
+    }
+}
+
+/// The bodies of a case file, kinds 1 to 4.
+pub const CASE_BODIES: [BodyRule; 4] = [
+    body(14, 1, 1),
+    body(5, 0, 256),
+    body(4, 0, 64),
+    body(19, 0, 1024),
+];
+
+/// The bodies of a start file, kinds 1 and 2.
+pub const START_BODIES: [BodyRule; 2] = [body(3, 1, 64), body(6, 1, 256)];
+
+/// The second byte of an edge that is an entry.
+pub const ENTRY_MARK: u8 = 255;
+
+/// "Numbers in files are unsigned, low byte first."
+fn number(bytes: &[u8]) -> u64 {
+    bytes
+        .iter()
+        .rev()
+        .fold(0, |value, &byte| value * 256 + u64::from(byte))
+}
+
+/// The bodies of a file, if its first byte, contents table, counts and length
+/// are right. "Each body begins where the one before it ends, and the last ends
+/// at the file's end."
+fn bodies<'a>(file: &'a [u8], kinds: &[BodyRule]) -> Option<Vec<&'a [u8]>> {
+    if usize::from(*file.first()?) != kinds.len() {
+        return None;
+    }
+    let mut at = 1 + 8 * kinds.len();
+    let contents = file.get(1..at)?;
+    let mut parts = Vec::new();
+    for ((kind, line), rule) in (1..).zip(contents.chunks(8)).zip(kinds) {
+        let count = number(&line[2..4]) as usize;
+        let sound = number(&line[..2]) == kind
+            && (rule.least..=rule.most).contains(&count)
+            && number(&line[4..]) == at as u64;
+        if !sound {
+            return None;
+        }
+        let end = at + count * rule.record;
+        parts.push(file.get(at..end)?);
+        at = end;
+    }
+    (at == file.len()).then_some(parts)
+}
+
+/// An edge as written, with its second byte.
+#[derive(Clone, Copy)]
+struct WrittenEdge {
+    state: u8,
+    second: u8,
+    set: Set,
+}
+
+fn read_rule(record: &[u8]) -> Rule {
+    Rule {
+        from: record[0],
+        symbol: record[1],
+        code: record[2],
+        put: record[3],
+        to: record[4],
+    }
+}
+
+fn read_edge(record: &[u8]) -> WrittenEdge {
+    WrittenEdge {
+        state: record[0],
+        second: record[1],
+        set: number(&record[2..4]),
+    }
+}
+
+fn read_move(record: &[u8]) -> Move {
+    Move {
+        state: record[0],
+        symbol: record[1],
+        order: record[2],
+        note: number(&record[3..11]),
+        rest: number(&record[11..19]),
+    }
+}
+
+/// Body 1 of a case, without its lists.
+fn read_fields(record: &[u8]) -> Case {
+    Case {
+        controls: record[0],
+        inner_two: record[1],
+        inner_one: record[2],
+        symbols: record[3],
+        final_two: number(&record[4..6]),
+        final_one: number(&record[6..14]),
+        rules: Vec::new(),
+        entries: Vec::new(),
+        edges: Vec::new(),
+        moves: Vec::new(),
+    }
+}
+
+impl Case {
+    /// The number of order-2 states, P + I.
+    pub fn order_two_states(&self) -> u8 {
+        self.controls + self.inner_two
+    }
+
+    /// The inner order-2 states.
+    pub fn inner_two_set(&self) -> Set {
+        range(self.controls, self.order_two_states())
+    }
+
+    /// The inner order-1 states.
+    pub fn inner_one_set(&self) -> Set {
+        range(0, self.inner_one)
+    }
+
+    /// Refusal 2: "a field of case body 1 is out of range". A final set that
+    /// names a state that is not inner is such a field.
+    fn fields_in_range(&self) -> bool {
+        (1..=8).contains(&self.controls)
+            && self.inner_two <= 8
+            && self.inner_one <= 16
+            && (1..=32).contains(&self.symbols)
+            && is_part(self.final_two, self.inner_two_set())
+            && is_part(self.final_one, self.inner_one_set())
+    }
+
+    /// "From code 4 on b is 0."
+    fn rule_in_range(&self, rule: &Rule) -> bool {
+        let put = match rule.code {
+            1..=3 => rule.put < self.symbols,
+            4..=8 => rule.put == 0,
+            _ => false,
+        };
+        put && rule.from < self.controls && rule.symbol < self.symbols && rule.to < self.controls
+    }
+
+    /// "For an inner state the second byte is an inner order-1 state. For a
+    /// control it is 255."
+    fn edge_in_range(&self, edge: &WrittenEdge) -> bool {
+        let second = if edge.state < self.controls {
+            edge.second == ENTRY_MARK
+        } else {
+            edge.state < self.order_two_states() && edge.second < self.inner_one
+        };
+        second && is_part(edge.set, self.inner_two_set())
+    }
+
+    /// "B is empty exactly at order 0"; sets "name inner states only".
+    fn move_in_range(&self, m: &Move) -> bool {
+        let note = match m.order {
+            0 => m.note == 0,
+            1 => m.note != 0 && is_part(m.note, self.inner_one_set()),
+            2 => m.note != 0 && is_part(m.note, self.inner_two_set()),
+            _ => false,
+        };
+        let states = usize::from(self.inner_one) + self.entries.len();
+        note && usize::from(m.state) < states
+            && m.symbol < self.symbols
+            && is_part(m.rest, self.inner_one_set())
+    }
+
+    /// Keeps the written edges as entries and inner edges, in file order.
+    fn take_edges(&mut self, written: &[WrittenEdge]) {
+        for edge in written {
+            if edge.state < self.controls {
+                self.entries.push(Entry {
+                    control: edge.state,
+                    set: edge.set,
+                });
+            } else {
+                self.edges.push(Edge {
+                    state: edge.state,
+                    one: edge.second,
+                    set: edge.set,
+                });
+            }
+        }
+    }
+}
+
+/// The case that the file holds, or the refusal 1, 2, 3 or 4.
+pub fn decode_case(file: &[u8]) -> Result<Case, Refusal> {
+    let parts = bodies(file, &CASE_BODIES).ok_or(1u64)?;
+    let mut case = read_fields(parts[0]);
+    if !case.fields_in_range() {
+        return Err(2);
+    }
+    case.rules = parts[1].chunks(5).map(read_rule).collect();
+    let written: Vec<WrittenEdge> = parts[2].chunks(4).map(read_edge).collect();
+    case.moves = parts[3].chunks(19).map(read_move).collect();
+    case.take_edges(&written);
+    let in_range = case.rules.iter().all(|rule| case.rule_in_range(rule))
+        && written.iter().all(|edge| case.edge_in_range(edge))
+        && usize::from(case.inner_one) + case.entries.len() <= ORDER_ONE_STATES
+        && case.moves.iter().all(|m| case.move_in_range(m));
+    if !in_range {
+        return Err(3);
+    }
+    let edges_rise = written.is_sorted_by(|x, y| edge_key(x) < edge_key(y));
+    let moves_rise = case.moves.is_sorted_by(|x, y| x < y);
+    if !(edges_rise && moves_rise) {
+        return Err(4);
+    }
+    Ok(case)
+}
+
+/// "Strictly increasing by (state, S, second byte)."
+fn edge_key(edge: &WrittenEdge) -> (u8, Set, u8) {
+    (edge.state, edge.set, edge.second)
+}
+
+/// The start file that the file holds, or the refusal 5 or 6.
+pub fn decode_start(file: &[u8], case: &Case) -> Result<StartFile, Refusal> {
+    let parts = bodies(file, &START_BODIES).ok_or(5u64)?;
+    let mut cells = Vec::new();
+    for record in parts[1].chunks(6) {
+        let cell = read_cell(record, &cells, case).ok_or(6u64)?;
+        cells.push(cell);
+    }
+    let mut starts = Vec::new();
+    for record in parts[0].chunks(3) {
+        let root = number(&record[1..3]) as u16;
+        if record[0] >= case.controls || order_of(&cells, root) != Some(2) {
+            return Err(6);
+        }
+        starts.push(Start {
+            control: record[0],
+            root,
+        });
+    }
+    Ok(StartFile { starts, cells })
+}
+
+/// The order of the cell numbered `at`, if it is among `cells`.
+fn order_of(cells: &[Cell], at: u16) -> Option<u8> {
+    cells.get(usize::from(at)).map(|cell| cell.order())
+}
+
+/// One cell, if it is in range. "References are to lower cell numbers; unused
+/// fields are 0."
+fn read_cell(record: &[u8], lower: &[Cell], case: &Case) -> Option<Cell> {
+    let name = record[1];
+    let first = number(&record[2..4]) as u16;
+    let second = number(&record[4..6]) as u16;
+    let unused = name == 0 && first == 0 && second == 0;
+    match record[0] {
+        1 if unused => Some(Cell::EmptyOne),
+        2 => {
+            let note = order_of(lower, first).is_some();
+            let rest = order_of(lower, second) == Some(1);
+            (name < case.symbols && note && rest).then_some(Cell::Symbol {
+                name,
+                note: first,
+                rest: second,
+            })
+        }
+        3 if unused => Some(Cell::EmptyTwo),
+        4 => {
+            let top = order_of(lower, first) == Some(1);
+            let rest = order_of(lower, second) == Some(2);
+            (name == 0 && top && rest).then_some(Cell::Pair {
+                top: first,
+                rest: second,
+            })
+        }
+        _ => None,
+    }
+}

@@ -1,0 +1,355 @@
+//! Generators of sound case and start files from fixed seeds.
+
+use std::collections::BTreeSet;
+
+use crate::encode::{encode_case, encode_start};
+use crate::file::{Case, Cell, Edge, Entry, Move, ORDER_ONE_STATES, Rule, Start, StartFile};
+use crate::plant::plant;
+use crate::random::Random;
+use crate::sets::{Set, members};
+
+/// The largest numbers of a generated pair of files.
+#[derive(Clone, Copy, Debug)]
+pub struct Shape {
+    pub name: &'static str,
+    pub controls: u8,
+    pub inner_two: u8,
+    pub inner_one: u8,
+    pub symbols: u8,
+    pub rules: usize,
+    /// Rules take their codes from this list.
+    pub codes: &'static [u8],
+    /// The chance, in percent, of a rule to lead to the next control.
+    pub onward: usize,
+    /// Whether the target is made to hold a configuration that the first start
+    /// reaches.
+    pub planted: bool,
+    /// Edges of each inner order-2 state, and entries of each control.
+    pub edges: usize,
+    /// Moves of each order-1 state.
+    pub moves: usize,
+    /// The chance, in percent, of a state to be a member of a set.
+    pub members: usize,
+    pub starts: usize,
+    pub cells: usize,
+}
+
+const SMALL: Shape = Shape {
+    name: "small",
+    controls: 3,
+    inner_two: 2,
+    inner_one: 2,
+    symbols: 2,
+    rules: 10,
+    codes: &[1, 2, 3, 4, 5, 6, 7, 8],
+    onward: 50,
+    planted: false,
+    edges: 1,
+    moves: 2,
+    members: 30,
+    starts: 4,
+    cells: 12,
+};
+
+/// The shapes of generated files: all operations; mostly pushes with their
+/// collapses; mostly copies; alternation, by larger sets and more edges; longer
+/// runs to a planted target; moves with several derivations; and more of
+/// everything.
+pub const SHAPES: [Shape; 7] = [
+    SMALL,
+    Shape {
+        name: "pushes",
+        controls: 4,
+        rules: 14,
+        codes: &[1, 2, 2, 3, 3, 5, 7, 7, 8, 8],
+        ..SMALL
+    },
+    Shape {
+        name: "copies",
+        controls: 4,
+        rules: 12,
+        codes: &[1, 4, 4, 4, 5, 6, 6, 2, 3],
+        ..SMALL
+    },
+    Shape {
+        name: "alternation",
+        inner_two: 3,
+        inner_one: 4,
+        edges: 2,
+        moves: 3,
+        members: 50,
+        ..SMALL
+    },
+    Shape {
+        name: "planted",
+        controls: 6,
+        inner_two: 3,
+        inner_one: 3,
+        symbols: 6,
+        rules: 12,
+        codes: &[1, 2, 3, 4, 5, 6, 7, 8],
+        onward: 30,
+        planted: true,
+        edges: 2,
+        moves: 5,
+        starts: 3,
+        cells: 40,
+        ..SMALL
+    },
+    Shape {
+        name: "choices",
+        controls: 4,
+        inner_two: 1,
+        inner_one: 1,
+        rules: 10,
+        codes: &[1, 2, 3, 4, 4, 4, 5, 6, 6, 8],
+        onward: 20,
+        planted: true,
+        cells: 20,
+        ..SMALL
+    },
+    Shape {
+        name: "larger",
+        controls: 5,
+        inner_two: 4,
+        inner_one: 6,
+        symbols: 4,
+        rules: 16,
+        edges: 2,
+        moves: 4,
+        members: 20,
+        starts: 8,
+        cells: 40,
+        ..SMALL
+    },
+];
+
+/// A sound case and a sound start file for it, with their bytes.
+#[derive(Clone, Debug)]
+pub struct Pair {
+    pub case: Case,
+    pub start: StartFile,
+    pub case_file: Vec<u8>,
+    pub start_file: Vec<u8>,
+}
+
+/// The pair of files of a seed and a shape.
+pub fn pair(seed: u64, shape: &Shape) -> Pair {
+    let mut random = Random::new(seed);
+    let mut case = case(&mut random, shape);
+    let start = start(&mut random, shape, &case);
+    if shape.planted {
+        plant(&mut random, &mut case, &start);
+    }
+    Pair {
+        case_file: encode_case(&case),
+        start_file: encode_start(&start),
+        case,
+        start,
+    }
+}
+
+/// A sound case of the shape.
+pub fn case(random: &mut Random, shape: &Shape) -> Case {
+    let mut case = Case {
+        controls: random.byte(1, shape.controls),
+        inner_two: random.byte(0, shape.inner_two),
+        inner_one: random.byte(0, shape.inner_one),
+        symbols: random.byte(1, shape.symbols),
+        final_two: 0,
+        final_one: 0,
+        rules: Vec::new(),
+        entries: Vec::new(),
+        edges: Vec::new(),
+        moves: Vec::new(),
+    };
+    case.final_two = random.part_of(case.inner_two_set(), 50);
+    case.final_one = random.part_of(case.inner_one_set(), 50);
+    case.rules = rules(random, shape, &case);
+    case.entries = entries(random, shape, &case);
+    case.edges = edges(random, shape, &case);
+    case.moves = moves(random, shape, &case);
+    case
+}
+
+/// Rules of any control on any symbol, or, with a planted target, one rule for
+/// nearly every control and symbol, so that runs are long and have few
+/// branches.
+fn rules(random: &mut Random, shape: &Shape, case: &Case) -> Vec<Rule> {
+    let mut rules = Vec::new();
+    if shape.planted {
+        for from in 0..case.controls {
+            for symbol in 0..case.symbols {
+                if random.chance(95) {
+                    rules.push(rule(random, shape, case, from, symbol));
+                }
+            }
+        }
+    }
+    for _ in 0..random.between(shape.rules / 4, shape.rules) {
+        let from = random.byte(0, case.controls - 1);
+        let symbol = random.byte(0, case.symbols - 1);
+        rules.push(rule(random, shape, case, from, symbol));
+    }
+    random.shuffle(&mut rules);
+    rules
+}
+
+fn rule(random: &mut Random, shape: &Shape, case: &Case, from: u8, symbol: u8) -> Rule {
+    let code = random.pick(shape.codes);
+    let put = random.byte(0, case.symbols - 1);
+    let last = case.controls - 1;
+    let to = if random.chance(shape.onward) {
+        last.min(from + 1)
+    } else {
+        random.byte(0, last)
+    };
+    Rule {
+        from,
+        symbol,
+        code,
+        put: if code < 4 { put } else { 0 },
+        to,
+    }
+}
+
+/// Entries for the last control, most often, and for a few of the others,
+/// strictly increasing.
+fn entries(random: &mut Random, shape: &Shape, case: &Case) -> Vec<Entry> {
+    let mut entries = BTreeSet::new();
+    for control in 0..case.controls {
+        let last = control == case.controls - 1;
+        if random.chance(if last { 95 } else { 20 }) {
+            for _ in 0..random.between(1, shape.edges) {
+                let set = random.part_of(case.inner_two_set(), shape.members);
+                entries.insert(Entry { control, set });
+            }
+        }
+    }
+    let most = ORDER_ONE_STATES - usize::from(case.inner_one);
+    entries.into_iter().take(most).collect()
+}
+
+/// Edges of the inner states, strictly increasing by (state, S, second byte).
+fn edges(random: &mut Random, shape: &Shape, case: &Case) -> Vec<Edge> {
+    if case.inner_one == 0 {
+        return Vec::new();
+    }
+    let mut edges = BTreeSet::new();
+    for state in members(case.inner_two_set()) {
+        for _ in 0..random.between(0, 2 * shape.edges) {
+            let set = random.part_of(case.inner_two_set(), shape.members);
+            edges.insert((state, set, random.byte(0, case.inner_one - 1)));
+        }
+    }
+    edges
+        .into_iter()
+        .map(|(state, set, one)| Edge { state, one, set })
+        .collect()
+}
+
+/// Moves of the order-1 states, strictly increasing.
+fn moves(random: &mut Random, shape: &Shape, case: &Case) -> Vec<Move> {
+    let states = case.inner_one + case.entries.len() as u8;
+    let mut moves = BTreeSet::new();
+    for state in 0..states {
+        let least = usize::from(random.chance(90));
+        for _ in 0..random.between(least, shape.moves) {
+            let symbol = random.byte(0, case.symbols - 1);
+            let (order, note) = note(random, shape, case);
+            let rest = random.part_of(case.inner_one_set(), shape.members);
+            moves.insert(Move {
+                state,
+                symbol,
+                order,
+                note,
+                rest,
+            });
+        }
+    }
+    moves.into_iter().collect()
+}
+
+/// An annotation order and its set, which is empty exactly at order 0.
+fn note(random: &mut Random, shape: &Shape, case: &Case) -> (u8, Set) {
+    let order = random.byte(0, 2);
+    let states = match order {
+        0 => 0,
+        1 => case.inner_one_set(),
+        _ => case.inner_two_set(),
+    };
+    match random.part_of(states, shape.members) {
+        0 => (0, 0),
+        set => (order, set),
+    }
+}
+
+/// A sound start file of the shape for the case.
+pub fn start(random: &mut Random, shape: &Shape, case: &Case) -> StartFile {
+    let mut cells = vec![Cell::EmptyOne, Cell::EmptyTwo];
+    if random.chance(50) {
+        cells.reverse();
+    }
+    for _ in 0..random.between(shape.cells / 4, shape.cells - 2) {
+        let cell = cell(random, case, &cells);
+        cells.push(cell);
+    }
+    let last = case.controls - 1;
+    let starts = (0..random.between(1, shape.starts))
+        .map(|_| Start {
+            control: random.byte(0, last).min(random.byte(0, last)),
+            root: root(random, &cells),
+        })
+        .collect();
+    StartFile { starts, cells }
+}
+
+/// An order-2 cell, most often one whose top symbol a rule can read.
+fn root(random: &mut Random, cells: &[Cell]) -> u16 {
+    let readable = |cell: &Cell| match cell {
+        Cell::Pair { top, .. } => matches!(cells[usize::from(*top)], Cell::Symbol { .. }),
+        _ => false,
+    };
+    let readable: Vec<u16> = numbers_of(cells, readable);
+    if readable.is_empty() || random.chance(10) {
+        lower(random, cells, Some(2))
+    } else {
+        random.pick(&readable)
+    }
+}
+
+/// One more cell; now and then an empty stack anew.
+fn cell(random: &mut Random, case: &Case, cells: &[Cell]) -> Cell {
+    match random.below(20) {
+        0 => Cell::EmptyOne,
+        1 => Cell::EmptyTwo,
+        2..=12 => Cell::Symbol {
+            name: random.byte(0, case.symbols - 1),
+            note: lower(random, cells, None),
+            rest: lower(random, cells, Some(1)),
+        },
+        _ => Cell::Pair {
+            top: lower(random, cells, Some(1)),
+            rest: lower(random, cells, Some(2)),
+        },
+    }
+}
+
+/// The number of one of the cells, of the given order if there is one. Most of
+/// the answers are among the last two, so that deep stacks occur.
+fn lower(random: &mut Random, cells: &[Cell], order: Option<u8>) -> u16 {
+    let fitting = numbers_of(cells, |cell| {
+        order.is_none_or(|order| cell.order() == order)
+    });
+    if random.chance(75) {
+        random.pick(&fitting[fitting.len().saturating_sub(2)..])
+    } else {
+        random.pick(&fitting)
+    }
+}
+
+/// The numbers of the cells with a property.
+fn numbers_of(cells: &[Cell], property: impl Fn(&Cell) -> bool) -> Vec<u16> {
+    let numbered = (0..).zip(cells).filter(|(_, cell)| property(cell));
+    numbered.map(|(number, _)| number).collect()
+}

@@ -1,0 +1,95 @@
+//! Memory lent to the services in tests. It holds words that are not zero
+//! before each call, so that a word left as it was is noticed.
+
+use crate::services::{
+    CELL_WORDS, ENTRY_WORDS, GuideReply, LISTING_CELLS, LISTING_ENTRIES, LISTING_MOVES,
+    LISTING_TRACE, MOVE_WORDS, guide, judge, saturate,
+};
+
+/// The lent slices.
+#[derive(Clone, Debug, PartialEq, Eq)]
+pub struct Lent {
+    pub moves: Vec<u64>,
+    pub entries: Vec<u64>,
+    pub answers: Vec<u8>,
+    pub cells: Vec<u16>,
+    pub trace: Vec<u16>,
+}
+
+impl Lent {
+    /// As much as the printing program lends, and an answer for each of 64
+    /// starts.
+    pub fn as_listing() -> Lent {
+        Lent::new(LISTING_MOVES, LISTING_ENTRIES, LISTING_CELLS, LISTING_TRACE)
+    }
+
+    /// The given numbers of moves, entries, cells and trace words.
+    pub fn new(moves: usize, entries: usize, cells: usize, trace: usize) -> Lent {
+        Lent {
+            moves: vec![0; moves * MOVE_WORDS],
+            entries: vec![0; entries * ENTRY_WORDS],
+            answers: vec![0; 64],
+            cells: vec![0; cells * CELL_WORDS],
+            trace: vec![0; trace],
+        }
+    }
+
+    /// Puts words other than zero everywhere.
+    fn fill(&mut self) {
+        self.moves.fill(u64::MAX);
+        self.entries.fill(u64::MAX);
+        self.answers.fill(u8::MAX);
+        self.cells.fill(u16::MAX);
+        self.trace.fill(u16::MAX);
+    }
+
+    pub fn saturate(&mut self, case: &[u8]) -> (u64, u64, u64) {
+        self.fill();
+        saturate(case, &mut self.moves, &mut self.entries)
+    }
+
+    pub fn judge(&mut self, case: &[u8], start: &[u8]) -> u64 {
+        self.fill();
+        judge(
+            case,
+            start,
+            &mut self.moves,
+            &mut self.entries,
+            &mut self.answers,
+        )
+    }
+
+    pub fn guide(&mut self, case: &[u8], start: &[u8], number: u64) -> GuideReply {
+        self.fill();
+        guide(
+            case,
+            start,
+            number,
+            &mut self.moves,
+            &mut self.entries,
+            &mut self.cells,
+            &mut self.trace,
+        )
+    }
+
+    /// Whether the lent tables are zero.
+    pub fn tables_are_zero(&self) -> bool {
+        let words = self.moves.iter().chain(&self.entries);
+        words.copied().all(|word| word == 0)
+    }
+
+    /// Whether the lent answers are zero.
+    pub fn answers_are_zero(&self) -> bool {
+        self.answers.iter().all(|&answer| answer == 0)
+    }
+
+    /// Whether the lent cells are zero.
+    pub fn cells_are_zero(&self) -> bool {
+        self.cells.iter().all(|&word| word == 0)
+    }
+
+    /// Whether the trace is zero from word `from` on.
+    pub fn trace_is_zero_from(&self, from: usize) -> bool {
+        self.trace[from..].iter().all(|&word| word == 0)
+    }
+}

@@ -1,0 +1,26 @@
+//! A second implementation of the three services and the listing of document
+//! 01, written from its sentences alone and meant for comparison in tests.
+//!
+//! Speed is no aim here. Each module names the section of document 01 that it
+//! follows; quoted sentences in comments are from there.
+
+// Comments write entries as document 01 does, [p,S]; these are no links.
+#![allow(rustdoc::broken_intra_doc_links)]
+
+pub mod automaton;
+pub mod damage;
+pub mod derivation;
+pub mod encode;
+pub mod file;
+pub mod generate;
+pub mod guide;
+pub mod lent;
+pub mod lines;
+pub mod plant;
+pub mod random;
+pub mod saturation;
+pub mod search;
+pub mod services;
+pub mod sets;
+pub mod stack;
+pub mod table;

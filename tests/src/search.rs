@@ -1,0 +1,88 @@
+//! A bounded forward search on nested stacks: whether a configuration of the
+//! target can be reached by the rules.
+
+use std::collections::HashSet;
+
+use crate::automaton::accepts;
+use crate::file::Case;
+use crate::stack::Configuration;
+use crate::table::Table;
+
+/// Where the search stops.
+#[derive(Clone, Copy, Debug)]
+pub struct Bounds {
+    /// The most steps from the start.
+    pub depth: usize,
+    /// The largest stack that is followed, see `Two::fits`.
+    pub size: usize,
+    /// The most configurations that are looked at.
+    pub configurations: usize,
+}
+
+/// What the search found.
+#[derive(Clone, Copy, Debug, PartialEq, Eq)]
+pub enum Outcome {
+    /// The target is reached, by this number of steps.
+    Reached(usize),
+    /// Every reachable configuration was looked at, none is in the target.
+    Exhausted,
+    /// None within the bounds is in the target.
+    Bounded,
+}
+
+/// Searches breadth-first. "The target is every configuration that the case's
+/// own automaton accepts from its control." If no configuration was left out,
+/// the number of steps found is the least.
+pub fn search(case: &Case, start: Configuration, bounds: Bounds) -> Outcome {
+    let own = Table::new(case);
+    let mut left_out = false;
+    let mut seen = HashSet::from([start.clone()]);
+    let mut level = vec![start];
+    for depth in 0.. {
+        if level
+            .iter()
+            .any(|configuration| accepts(&own, configuration))
+        {
+            return Outcome::Reached(depth);
+        }
+        if level.is_empty() {
+            break;
+        }
+        if depth == bounds.depth || seen.len() > bounds.configurations {
+            left_out = true;
+            break;
+        }
+        level = next_level(case, &level, bounds.size, &mut seen, &mut left_out);
+    }
+    if left_out {
+        Outcome::Bounded
+    } else {
+        Outcome::Exhausted
+    }
+}
+
+/// The configurations one step further that were not seen before. Stacks above
+/// the size are left out, which is noted.
+fn next_level(
+    case: &Case,
+    level: &[Configuration],
+    size: usize,
+    seen: &mut HashSet<Configuration>,
+    left_out: &mut bool,
+) -> Vec<Configuration> {
+    let mut next = Vec::new();
+    for configuration in level {
+        for after in case
+            .rules
+            .iter()
+            .filter_map(|rule| configuration.apply(rule))
+        {
+            if !after.stack.fits(size) {
+                *left_out = true;
+            } else if seen.insert(after.clone()) {
+                next.push(after);
+            }
+        }
+    }
+    next
+}

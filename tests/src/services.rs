@@ -1,0 +1,256 @@
+//! The three services and the listing (document 01, "Three services and their
+//! halts").
+
+use crate::automaton::accepting;
+use crate::file::{Case, Refusal, StartFile, decode_case, decode_start};
+use crate::guide::Walk;
+use crate::saturation::saturate as saturated_table;
+use crate::sets::has;
+use crate::table::{Size, Table};
+
+/// Words of a move and of an entry in lent tables.
+pub const MOVE_WORDS: usize = 5;
+pub const ENTRY_WORDS: usize = 2;
+
+/// Sixteen-bit words of a lent cell: four fields and a choice for each of 64
+/// states.
+pub const CELL_WORDS: usize = 68;
+
+/// "The lent cells, of which at most 4,096 count."
+pub const MOST_CELLS: usize = 4096;
+
+/// What the printing program lends.
+pub const LISTING_MOVES: usize = 1024;
+pub const LISTING_ENTRIES: usize = 64;
+pub const LISTING_CELLS: usize = 512;
+pub const LISTING_TRACE: usize = 1024;
+
+/// The answer of the guide.
+#[derive(Clone, Copy, Debug, PartialEq, Eq)]
+pub enum GuideReply {
+    Refused(Refusal),
+    NoRun,
+    Arrived { steps: u64, cells: u64 },
+    TraceFull { steps: u64, cells: u64 },
+    CellsShort { steps: u64, cells: u64 },
+}
+
+impl GuideReply {
+    /// The steps that the reply counts, 0 for a refusal and for no run.
+    pub fn steps(self) -> usize {
+        match self {
+            GuideReply::Refused(_) | GuideReply::NoRun => 0,
+            GuideReply::Arrived { steps, .. }
+            | GuideReply::TraceFull { steps, .. }
+            | GuideReply::CellsShort { steps, .. } => steps as usize,
+        }
+    }
+}
+
+/// "Only whole records count."
+fn lent_size(moves: &[u64], entries: &[u64]) -> Size {
+    Size {
+        moves: moves.len() / MOVE_WORDS,
+        entries: entries.len() / ENTRY_WORDS,
+    }
+}
+
+/// Fills the lent tables with the saturated table of the case. Answers 0 with
+/// the numbers of moves and entries, or the refusal with 0 and 0.
+pub fn saturate(case: &[u8], moves: &mut [u64], entries: &mut [u64]) -> (u64, u64, u64) {
+    moves.fill(0);
+    entries.fill(0);
+    let lent = lent_size(moves, entries);
+    let table = decode_case(case).and_then(|case| saturated_table(&case, lent).ok_or(9));
+    match table {
+        Ok(table) => {
+            write_moves(&table, moves);
+            write_entries(&table, entries);
+            let numbers = (table.moves().len(), table.entries().len());
+            (0, numbers.0 as u64, numbers.1 as u64)
+        }
+        Err(refusal) => (refusal, 0, 0),
+    }
+}
+
+/// "Five words of 64 bits each, the fields in the order of body 4."
+fn write_moves(table: &Table, lent: &mut [u64]) {
+    for (m, words) in table.moves().iter().zip(lent.chunks_mut(MOVE_WORDS)) {
+        let fields = [m.state, m.symbol, m.order].map(u64::from);
+        words[..3].copy_from_slice(&fields);
+        words[3] = m.note;
+        words[4] = m.rest;
+    }
+}
+
+/// "An entry table (p, S, a word each)."
+fn write_entries(table: &Table, lent: &mut [u64]) {
+    for (entry, words) in table.entries().iter().zip(lent.chunks_mut(ENTRY_WORDS)) {
+        words[0] = entry.control.into();
+        words[1] = entry.set;
+    }
+}
+
+/// Writes 1 or 0 for each start. Answers 0 or the refusal.
+pub fn judge(
+    case: &[u8],
+    start: &[u8],
+    moves: &mut [u64],
+    entries: &mut [u64],
+    answers: &mut [u8],
+) -> u64 {
+    moves.fill(0);
+    entries.fill(0);
+    answers.fill(0);
+    match marks(case, start, lent_size(moves, entries), answers.len()) {
+        Ok(marks) => {
+            for (answer, mark) in answers.iter_mut().zip(marks) {
+                *answer = mark.into();
+            }
+            0
+        }
+        Err(refusal) => refusal,
+    }
+}
+
+/// The mark of each start, or the refusal: 1 to 6, then 8, then 9.
+fn marks(case: &[u8], start: &[u8], lent: Size, answers: usize) -> Result<Vec<bool>, Refusal> {
+    let case = decode_case(case)?;
+    let file = decode_start(start, &case)?;
+    if answers < file.starts.len() {
+        return Err(8);
+    }
+    let table = saturated_table(&case, lent).ok_or(9u64)?;
+    Ok(marks_by(&table, &file))
+}
+
+/// The mark of each start of the file: whether the table accepts it.
+fn marks_by(table: &Table, file: &StartFile) -> Vec<bool> {
+    let accepting = accepting(table, &file.cells);
+    let root = |at: u16| accepting[usize::from(at)].states;
+    let starts = file.starts.iter();
+    starts
+        .map(|start| has(root(start.root), start.control))
+        .collect()
+}
+
+/// Writes the rule numbers of the guided run of one start into the trace.
+pub fn guide(
+    case: &[u8],
+    start: &[u8],
+    number: u64,
+    moves: &mut [u64],
+    entries: &mut [u64],
+    cells: &mut [u16],
+    trace: &mut [u16],
+) -> GuideReply {
+    moves.fill(0);
+    entries.fill(0);
+    cells.fill(0);
+    trace.fill(0);
+    let lent = lent_size(moves, entries);
+    let lent_cells = cells.len() / CELL_WORDS;
+    match prepare(case, start, number, lent) {
+        Ok((case, file, table)) => walk_start(&case, &table, &file, number, lent_cells, trace),
+        Err(refusal) => GuideReply::Refused(refusal),
+    }
+}
+
+/// What the guide works on, or the refusal: 1 to 7, then 9.
+fn prepare(
+    case: &[u8],
+    start: &[u8],
+    number: u64,
+    lent: Size,
+) -> Result<(Case, StartFile, Table), Refusal> {
+    let case = decode_case(case)?;
+    let file = decode_start(start, &case)?;
+    if number >= file.starts.len() as u64 {
+        return Err(7);
+    }
+    let table = saturated_table(&case, lent).ok_or(9u64)?;
+    Ok((case, file, table))
+}
+
+/// No run, then cells short for the start file, then the walk.
+fn walk_start(
+    case: &Case,
+    table: &Table,
+    file: &StartFile,
+    number: u64,
+    lent_cells: usize,
+    trace: &mut [u16],
+) -> GuideReply {
+    let number = number as usize;
+    if !marks_by(table, file)[number] {
+        return GuideReply::NoRun;
+    }
+    let lent_cells = lent_cells.min(MOST_CELLS);
+    if lent_cells < file.cells.len() {
+        return GuideReply::CellsShort { steps: 0, cells: 0 };
+    }
+    let walk = Walk::new(case, table, file, &file.starts[number]);
+    follow(walk, lent_cells, trace)
+}
+
+/// "A walk is tested for arrival first, then trace, then cells."
+fn follow(mut walk: Walk, lent_cells: usize, trace: &mut [u16]) -> GuideReply {
+    let mut taken = 0;
+    loop {
+        let steps = taken as u64;
+        let cells = walk.cells_used() as u64;
+        if walk.has_arrived() {
+            return GuideReply::Arrived { steps, cells };
+        }
+        if taken == trace.len() {
+            return GuideReply::TraceFull { steps, cells };
+        }
+        if walk.cells_used() + walk.next_cells() > lent_cells {
+            return GuideReply::CellsShort { steps, cells };
+        }
+        trace[taken] = walk.next_rule() as u16;
+        walk.step();
+        taken += 1;
+    }
+}
+
+/// What the printing program prints. Every line ends with a line end.
+pub fn listing(case: &[u8], start: &[u8]) -> String {
+    match listing_lines(case, start) {
+        Ok(text) => text,
+        Err(refusal) => format!("refused {refusal}\n"),
+    }
+}
+
+/// The lines of a listing that is no refusal. It lends an answer byte for each
+/// start, so the refusals are those of judge without 8.
+fn listing_lines(case: &[u8], start: &[u8]) -> Result<String, Refusal> {
+    let case = decode_case(case)?;
+    let file = decode_start(start, &case)?;
+    let lent = Size {
+        moves: LISTING_MOVES,
+        entries: LISTING_ENTRIES,
+    };
+    let table = saturated_table(&case, lent).ok_or(9u64)?;
+    let (moves, entries) = (table.moves().len(), table.entries().len());
+    let mut text = format!("moves {moves} entries {entries}\n");
+    for number in 0..file.starts.len() as u64 {
+        let mut trace = [0; LISTING_TRACE];
+        let reply = walk_start(&case, &table, &file, number, LISTING_CELLS, &mut trace);
+        text += &format!("start {number} {}\n", listing_answer(reply));
+    }
+    Ok(text)
+}
+
+/// What the listing prints for a start after its number. "The fields after yes
+/// are steps and cells; before them stands `trace` or `cells` if the walk halted
+/// so."
+pub fn listing_answer(reply: GuideReply) -> String {
+    match reply {
+        GuideReply::Refused(refusal) => unreachable!("refusal {refusal} has a line of its own"),
+        GuideReply::NoRun => "no".to_string(),
+        GuideReply::Arrived { steps, cells } => format!("yes {steps} {cells}"),
+        GuideReply::TraceFull { steps, cells } => format!("yes trace {steps} {cells}"),
+        GuideReply::CellsShort { steps, cells } => format!("yes cells {steps} {cells}"),
+    }
+}

@@ -1,0 +1,233 @@
+//! Damaged files: no panic, refusals in range, and all lent memory zero where a
+//! file is refused.
+
+use second::damage::{
+    bodies_swapped, changed, counts_off_by_one, cuts, lines_swapped, longer, offsets_off_by_one,
+};
+use second::encode::{encode_case, encode_start};
+use second::file::{decode_case, decode_start};
+use second::generate::{Pair, SHAPES, pair};
+use second::lent::Lent;
+use second::random::seeds;
+use second::services::GuideReply::{Arrived, NoRun, Refused};
+use second::services::listing;
+
+/// The replies of the three services: saturate, judge, and guide for start 0,
+/// where a reply that is no refusal counts as 0.
+#[derive(Clone, Copy, Debug, PartialEq, Eq)]
+struct Replies {
+    saturate: u64,
+    judge: u64,
+    guide: u64,
+}
+
+/// Runs the services; checks the range of refusals and the memory they leave.
+fn run(lent: &mut Lent, case: &[u8], start: &[u8]) -> Replies {
+    let (saturate, moves, entries) = lent.saturate(case);
+    assert!(matches!(saturate, 0..=4 | 9), "saturate {saturate}");
+    if saturate != 0 {
+        assert!(lent.tables_are_zero());
+        assert_eq!((moves, entries), (0, 0));
+    }
+    let judge = lent.judge(case, start);
+    assert!(matches!(judge, 0..=6 | 9), "judge {judge}");
+    assert!(lent.tables_are_zero());
+    assert!(judge == 0 || lent.answers_are_zero());
+    let reply = lent.guide(case, start, 0);
+    assert!(lent.tables_are_zero() && lent.cells_are_zero());
+    let guide = match reply {
+        Refused(number) => {
+            assert!(matches!(number, 1..=6 | 9), "guide {number}");
+            assert!(lent.trace_is_zero_from(0));
+            number
+        }
+        NoRun => {
+            assert!(lent.trace_is_zero_from(0));
+            0
+        }
+        Arrived { steps, .. } => {
+            assert!(lent.trace_is_zero_from(steps as usize));
+            0
+        }
+        _ => 0,
+    };
+    Replies {
+        saturate,
+        judge,
+        guide,
+    }
+}
+
+/// All services that read the file answer the refusal.
+fn assert_case_refused(lent: &mut Lent, case: &[u8], start: &[u8], refusal: u64) {
+    let all = Replies {
+        saturate: refusal,
+        judge: refusal,
+        guide: refusal,
+    };
+    assert_eq!(run(lent, case, start), all);
+    assert_eq!(listing(case, start), format!("refused {refusal}\n"));
+}
+
+fn assert_start_refused(lent: &mut Lent, case: &[u8], start: &[u8], refusal: u64) {
+    let replies = run(lent, case, start);
+    assert!(matches!(replies.saturate, 0 | 9));
+    assert_eq!((replies.judge, replies.guide), (refusal, refusal));
+    assert_eq!(listing(case, start), format!("refused {refusal}\n"));
+}
+
+/// Copies of a sound file whose contents table or length is wrong.
+fn wrong_contents(file: &[u8]) -> Vec<Vec<u8>> {
+    let mut copies: Vec<Vec<u8>> = cuts(file).collect();
+    copies.extend(counts_off_by_one(file));
+    copies.extend(offsets_off_by_one(file));
+    copies.extend(lines_swapped(file));
+    copies.push(longer(file, 0));
+    copies.extend(
+        (0..=255)
+            .filter(|&byte| byte != file[0])
+            .map(|byte| changed(file, 0, byte)),
+    );
+    copies
+}
+
+/// Small generated pairs whose tables fit.
+fn small_pairs(count: u64) -> Vec<Pair> {
+    let seeds = seeds(count);
+    let pairs = SHAPES
+        .iter()
+        .flat_map(|shape| seeds.clone().map(|seed| pair(seed, shape)));
+    let mut lent = memory();
+    pairs
+        .filter(|pair| pair.case_file.len() < 500 && pair.start_file.len() < 250)
+        .filter(|pair| lent.saturate(&pair.case_file).0 == 0)
+        .collect()
+}
+
+fn memory() -> Lent {
+    Lent::new(200, 64, 64, 20)
+}
+
+/// "The case's first byte, contents table, a count or the length is wrong": 1,
+/// the same of the start file: 5.
+#[test]
+fn wrong_contents_are_refused() {
+    let mut lent = memory();
+    for pair in small_pairs(6) {
+        for copy in wrong_contents(&pair.case_file) {
+            assert_case_refused(&mut lent, &copy, &pair.start_file, 1);
+        }
+        for copy in wrong_contents(&pair.start_file) {
+            assert_start_refused(&mut lent, &pair.case_file, &copy, 5);
+        }
+    }
+}
+
+/// Both files wrong: "the lowest number that applies is returned".
+#[test]
+fn the_case_is_refused_before_the_start_file() {
+    let mut lent = memory();
+    for pair in small_pairs(2) {
+        for copy in wrong_contents(&pair.case_file) {
+            assert_case_refused(&mut lent, &copy, &pair.start_file[1..], 1);
+        }
+    }
+}
+
+/// A byte changed anywhere, to values near it and at the ends of the range.
+#[test]
+fn every_byte_changed() {
+    let mut lent = memory();
+    for pair in small_pairs(4) {
+        for at in 0..pair.case_file.len() {
+            for value in values_near(pair.case_file[at]) {
+                let copy = changed(&pair.case_file, at, value);
+                check_changed_case(&mut lent, &copy, &pair.start_file);
+            }
+        }
+        for at in 0..pair.start_file.len() {
+            for value in values_near(pair.start_file[at]) {
+                let copy = changed(&pair.start_file, at, value);
+                check_changed_start(&mut lent, &pair, &copy);
+            }
+        }
+    }
+}
+
+fn values_near(byte: u8) -> Vec<u8> {
+    let mut values = vec![
+        byte.wrapping_add(1),
+        byte.wrapping_sub(1),
+        byte ^ 0x80,
+        0,
+        255,
+    ];
+    values.extend((0..8).map(|bit| byte ^ (1 << bit)));
+    values.retain(|&value| value != byte);
+    values
+}
+
+/// A changed file is refused, or it is the file of what it was read as.
+fn check_changed_case(lent: &mut Lent, copy: &[u8], start: &[u8]) {
+    let replies = run(lent, copy, start);
+    match decode_case(copy) {
+        Ok(case) => {
+            assert_eq!(encode_case(&case), copy);
+            assert!(matches!(replies.saturate, 0 | 9));
+            assert!(matches!(replies.judge, 0 | 5 | 6 | 9));
+        }
+        Err(refusal) => {
+            assert!((1..=4).contains(&refusal));
+            assert_eq!(
+                [replies.saturate, replies.judge, replies.guide],
+                [refusal; 3]
+            );
+        }
+    }
+}
+
+fn check_changed_start(lent: &mut Lent, pair: &Pair, copy: &[u8]) {
+    let replies = run(lent, &pair.case_file, copy);
+    assert!(matches!(replies.saturate, 0 | 9));
+    match decode_start(copy, &pair.case) {
+        Ok(start) => {
+            assert_eq!(encode_start(&start), copy);
+            assert!(matches!(replies.judge, 0 | 9));
+        }
+        Err(refusal) => {
+            assert!(matches!(refusal, 5 | 6));
+            assert_eq!((replies.judge, replies.guide), (refusal, refusal));
+        }
+    }
+}
+
+/// Bodies that change places leave the contents table and the length sound.
+#[test]
+fn swapped_bodies() {
+    let mut lent = memory();
+    for pair in small_pairs(40) {
+        for copy in bodies_swapped(&pair.case_file) {
+            check_changed_case(&mut lent, &copy, &pair.start_file);
+        }
+        for copy in bodies_swapped(&pair.start_file) {
+            check_changed_start(&mut lent, &pair, &copy);
+        }
+    }
+}
+
+/// An empty file, which also stands for a missing one, and a file longer than
+/// any sound one have a wrong length.
+#[test]
+fn empty_and_very_long_files() {
+    let mut lent = memory();
+    let pair = &small_pairs(1)[0];
+    assert_case_refused(&mut lent, &[], &pair.start_file, 1);
+    assert_start_refused(&mut lent, &pair.case_file, &[], 5);
+    let long = |file: &[u8]| {
+        let mut copy = file.to_vec();
+        copy.resize(100_000, 0);
+        copy
+    };
+    assert_case_refused(&mut lent, &long(&pair.case_file), &pair.start_file, 1);
+    assert_start_refused(&mut lent, &pair.case_file, &long(&pair.start_file), 5);
+}

@@ -1,0 +1,278 @@
+//! The worked models of document 01 and its sentence "At the edges", from bytes
+//! written by hand.
+
+use second::file::decode_case;
+use second::lent::Lent;
+use second::saturation::saturate;
+use second::services::GuideReply::{Arrived, NoRun, Refused};
+use second::services::{LISTING_ENTRIES, LISTING_MOVES, listing};
+use second::table::Size;
+
+/// "P 2, I 0, J 0, A 2; rules 0: (0,0,3,1,0), 1: (0,1,8,0,1); edge
+/// (1,255,empty); move (0,1,0,empty,empty). 80 bytes."
+#[rustfmt::skip]
+const CASE_A: [u8; 80] = [
+    4,
+    1, 0, 1, 0, 33, 0, 0, 0,
+    2, 0, 2, 0, 47, 0, 0, 0,
+    3, 0, 1, 0, 57, 0, 0, 0,
+    4, 0, 1, 0, 61, 0, 0, 0,
+    2, 0, 0, 2, 0, 0, 0, 0, 0, 0, 0, 0, 0, 0,
+    0, 0, 3, 1, 0,
+    0, 1, 8, 0, 1,
+    1, 255, 0, 0,
+    0, 1, 0, 0, 0, 0, 0, 0, 0, 0, 0, 0, 0, 0, 0, 0, 0, 0, 0,
+];
+
+/// "0 empty order-1; 1 symbol 1 on 0 annotated 0; 2 empty order-2; 3 is 1 on 2;
+/// 4 symbol 0 on 0 annotated 0; 5 is 4 on 3. Starts (0,5), (1,3), (0,3)."
+#[rustfmt::skip]
+const START_A: [u8; 62] = [
+    2,
+    1, 0, 3, 0, 17, 0, 0, 0,
+    2, 0, 6, 0, 26, 0, 0, 0,
+    0, 5, 0,
+    1, 3, 0,
+    0, 3, 0,
+    1, 0, 0, 0, 0, 0,
+    2, 1, 0, 0, 0, 0,
+    3, 0, 0, 0, 0, 0,
+    4, 0, 1, 0, 2, 0,
+    2, 0, 0, 0, 0, 0,
+    4, 0, 4, 0, 3, 0,
+];
+
+/// "Target as A, rule (0,0,5,0,1)."
+#[rustfmt::skip]
+const CASE_B: [u8; 75] = [
+    4,
+    1, 0, 1, 0, 33, 0, 0, 0,
+    2, 0, 1, 0, 47, 0, 0, 0,
+    3, 0, 1, 0, 52, 0, 0, 0,
+    4, 0, 1, 0, 56, 0, 0, 0,
+    2, 0, 0, 2, 0, 0, 0, 0, 0, 0, 0, 0, 0, 0,
+    0, 0, 5, 0, 1,
+    1, 255, 0, 0,
+    0, 1, 0, 0, 0, 0, 0, 0, 0, 0, 0, 0, 0, 0, 0, 0, 0, 0, 0,
+];
+
+/// Starts with control 0: "symbol 0 above 1" and "symbol 0 alone", each on the
+/// empty order-2 stack and annotated by the empty order-1 stack.
+#[rustfmt::skip]
+const START_B: [u8; 65] = [
+    2,
+    1, 0, 2, 0, 17, 0, 0, 0,
+    2, 0, 7, 0, 23, 0, 0, 0,
+    0, 4, 0,
+    0, 6, 0,
+    1, 0, 0, 0, 0, 0,
+    2, 1, 0, 0, 0, 0,
+    3, 0, 0, 0, 0, 0,
+    2, 0, 0, 0, 1, 0,
+    4, 0, 3, 0, 2, 0,
+    2, 0, 0, 0, 0, 0,
+    4, 0, 5, 0, 2, 0,
+];
+
+/// "P 2, I 0, J 0, A 1, target [1,empty] on symbol 0; rules 0: (0,0,4,0,0),
+/// 1: (0,0,6,0,1)."
+#[rustfmt::skip]
+const CASE_C: [u8; 80] = [
+    4,
+    1, 0, 1, 0, 33, 0, 0, 0,
+    2, 0, 2, 0, 47, 0, 0, 0,
+    3, 0, 1, 0, 57, 0, 0, 0,
+    4, 0, 1, 0, 61, 0, 0, 0,
+    2, 0, 0, 1, 0, 0, 0, 0, 0, 0, 0, 0, 0, 0,
+    0, 0, 4, 0, 0,
+    0, 0, 6, 0, 1,
+    1, 255, 0, 0,
+    0, 0, 0, 0, 0, 0, 0, 0, 0, 0, 0, 0, 0, 0, 0, 0, 0, 0, 0,
+];
+
+/// "[[0]], a file of four cells".
+#[rustfmt::skip]
+const START_C_ONE: [u8; 44] = [
+    2,
+    1, 0, 1, 0, 17, 0, 0, 0,
+    2, 0, 4, 0, 20, 0, 0, 0,
+    0, 3, 0,
+    1, 0, 0, 0, 0, 0,
+    2, 0, 0, 0, 0, 0,
+    3, 0, 0, 0, 0, 0,
+    4, 0, 1, 0, 2, 0,
+];
+
+/// "[[0],[0]]".
+#[rustfmt::skip]
+const START_C_TWO: [u8; 50] = [
+    2,
+    1, 0, 1, 0, 17, 0, 0, 0,
+    2, 0, 5, 0, 20, 0, 0, 0,
+    0, 4, 0,
+    1, 0, 0, 0, 0, 0,
+    2, 0, 0, 0, 0, 0,
+    3, 0, 0, 0, 0, 0,
+    4, 0, 1, 0, 2, 0,
+    4, 0, 1, 0, 3, 0,
+];
+
+/// Judges the starts; the answers after them and the tables must be zero.
+fn marks(case: &[u8], start: &[u8], starts: usize) -> Vec<u8> {
+    let mut lent = Lent::as_listing();
+    assert_eq!(lent.judge(case, start), 0);
+    assert!(lent.tables_are_zero());
+    assert!(lent.answers[starts..].iter().all(|&answer| answer == 0));
+    lent.answers[..starts].to_vec()
+}
+
+/// The trace of a start that arrives with these cells; all else must be zero.
+fn arrived_trace(case: &[u8], start: &[u8], number: u64, steps: usize, used: u64) -> Vec<u16> {
+    let mut lent = Lent::as_listing();
+    let arrived = Arrived {
+        steps: steps as u64,
+        cells: used,
+    };
+    assert_eq!(lent.guide(case, start, number), arrived);
+    assert!(lent.tables_are_zero() && lent.cells_are_zero());
+    assert!(lent.trace_is_zero_from(steps));
+    lent.trace[..steps].to_vec()
+}
+
+/// The start has no run, and all lent memory is zero.
+fn assert_no_run(case: &[u8], start: &[u8], number: u64) {
+    let mut lent = Lent::as_listing();
+    assert_eq!(lent.guide(case, start, number), NoRun);
+    assert!(lent.tables_are_zero() && lent.cells_are_zero());
+    assert!(lent.trace_is_zero_from(0));
+}
+
+/// "The table gains entry [0,empty] with (1, order 2 {1}, empty), then [0,{1}]
+/// with (0, empty, empty), then ends." The entry of the file has number 0.
+#[test]
+fn model_a_table() {
+    let mut lent = Lent::as_listing();
+    assert_eq!(lent.saturate(&CASE_A), (0, 3, 3));
+    assert_eq!(lent.entries[..6], [1, 0, 0, 0, 0, 0b10]);
+    let moves = [[0, 1, 0, 0, 0], [1, 1, 2, 0b10, 0], [2, 0, 0, 0, 0]];
+    assert_eq!(lent.moves[..15], *moves.as_flattened());
+    assert!(lent.entries[6..].iter().all(|&word| word == 0));
+    assert!(lent.moves[15..].iter().all(|&word| word == 0));
+}
+
+/// The rounds of the same sentence.
+#[test]
+fn model_a_rounds() {
+    let lent = Size {
+        moves: LISTING_MOVES,
+        entries: LISTING_ENTRIES,
+    };
+    let case = decode_case(&CASE_A).expect("a sound case");
+    let table = saturate(&case, lent).expect("a table that fits");
+    let sizes = [1, 2, 3].map(|n| Size {
+        moves: n,
+        entries: n,
+    });
+    assert_eq!(table.sizes(), sizes);
+}
+
+/// "Yes, by rules 0, 1. Yes, no step. No."
+#[test]
+fn model_a_starts() {
+    assert_eq!(marks(&CASE_A, &START_A, 3), [1, 1, 0]);
+    assert_eq!(arrived_trace(&CASE_A, &START_A, 0, 2, 9), [0, 1]);
+    assert_eq!(arrived_trace(&CASE_A, &START_A, 1, 0, 6), []);
+    assert_no_run(&CASE_A, &START_A, 2);
+}
+
+/// "With two moves lent: 9."
+#[test]
+fn model_a_with_two_moves_lent() {
+    let mut lent = Lent::new(2, 64, 512, 1024);
+    assert_eq!(lent.saturate(&CASE_A), (9, 0, 0));
+    assert!(lent.tables_are_zero());
+    assert_eq!(lent.judge(&CASE_A, &START_A), 9);
+    assert!(lent.tables_are_zero() && lent.answers_are_zero());
+    assert_eq!(lent.guide(&CASE_A, &START_A, 0), Refused(9));
+    assert!(lent.tables_are_zero() && lent.cells_are_zero());
+    assert!(lent.trace_is_zero_from(0));
+}
+
+#[test]
+fn model_a_listing() {
+    let printed = "\
+moves 3 entries 3
+start 0 yes 2 9
+start 1 yes 0 6
+start 2 no
+";
+    assert_eq!(listing(&CASE_A, &START_A), printed);
+}
+
+/// "Symbol 0 above 1: yes. Symbol 0 alone: no, its top is empty after the pop."
+#[test]
+fn model_b() {
+    assert_eq!(marks(&CASE_B, &START_B, 2), [1, 0]);
+    assert_eq!(arrived_trace(&CASE_B, &START_B, 0, 1, 8), [0]);
+    assert_no_run(&CASE_B, &START_B, 1);
+}
+
+/// "[[0]], a file of four cells: yes, rules 0, 1, 8 cells."
+#[test]
+fn model_c_with_one_stack() {
+    assert_eq!(marks(&CASE_C, &START_C_ONE, 1), [1]);
+    assert_eq!(arrived_trace(&CASE_C, &START_C_ONE, 0, 2, 8), [0, 1]);
+}
+
+/// "[[0],[0]]: yes, rule 1 alone."
+#[test]
+fn model_c_with_two_stacks() {
+    assert_eq!(marks(&CASE_C, &START_C_TWO, 1), [1]);
+    assert_eq!(arrived_trace(&CASE_C, &START_C_TWO, 0, 1, 5), [1]);
+}
+
+/// Model A's case with `count` rules: its two, then repeats of rule 1.
+fn case_a_with_rules(count: usize) -> Vec<u8> {
+    let mut file = CASE_A[..57].to_vec();
+    for _ in 2..count {
+        file.extend([0, 1, 8, 0, 1]);
+    }
+    file.extend(&CASE_A[57..]);
+    file[11..13].copy_from_slice(&(count as u16).to_le_bytes());
+    let edges = 47 + 5 * count as u32;
+    file[21..25].copy_from_slice(&edges.to_le_bytes());
+    file[29..33].copy_from_slice(&(edges + 4).to_le_bytes());
+    file
+}
+
+/// Model A's start file with `count` starts: its three, then repeats of the
+/// first.
+fn start_a_with_starts(count: usize) -> Vec<u8> {
+    let mut file = START_A[..26].to_vec();
+    for _ in 3..count {
+        file.extend([0, 5, 0]);
+    }
+    file.extend(&START_A[26..]);
+    file[3..5].copy_from_slice(&(count as u16).to_le_bytes());
+    let cells = 17 + 3 * count as u32;
+    file[13..17].copy_from_slice(&cells.to_le_bytes());
+    file
+}
+
+/// "64 starts pass, 65 give 5; 256 rules pass, 257 give 1; a cell naming itself
+/// gives 6."
+#[test]
+fn at_the_edges() {
+    let mut lent = Lent::as_listing();
+    assert_eq!(lent.judge(&CASE_A, &start_a_with_starts(64)), 0);
+    assert_eq!(lent.answers[3..], [1; 61]);
+    assert_eq!(lent.judge(&CASE_A, &start_a_with_starts(65)), 5);
+    assert_eq!(lent.saturate(&case_a_with_rules(256)), (0, 3, 3));
+    assert_eq!(lent.saturate(&case_a_with_rules(257)), (1, 0, 0));
+    // The annotation of cell 4, then both fields of cell 5.
+    for (at, own_number) in [(52, 4), (58, 5), (60, 5)] {
+        let mut naming_itself = START_A;
+        naming_itself[at] = own_number;
+        assert_eq!(lent.judge(&CASE_A, &naming_itself), 6);
+    }
+}

@@ -1,0 +1,322 @@
+//! Generated files: traces replayed on nested stacks, marks compared with a
+//! bounded search, and the guide's halts for all small numbers of cells and
+//! trace words.
+
+use second::automaton::{accepting, accepts};
+use second::file::{decode_case, decode_start};
+use second::generate::{Pair, SHAPES, Shape, pair};
+use second::lent::Lent;
+use second::random::seeds;
+use second::search::{Bounds, Outcome, search};
+use second::services::GuideReply::{self, Arrived, CellsShort, NoRun, Refused, TraceFull};
+use second::services::{LISTING_ENTRIES, LISTING_MOVES, MOST_CELLS};
+use second::sets::has;
+use second::stack::{Configuration, configuration, new_cells, replay};
+use second::table::Table;
+
+/// The generated pairs of all shapes, with what names them in a failure.
+fn pairs(count: u64) -> impl Iterator<Item = (String, Pair)> {
+    let seeds = seeds(count);
+    SHAPES.iter().flat_map(move |shape: &Shape| {
+        let seeds = seeds.clone();
+        seeds.map(move |seed| (format!("{} {seed}", shape.name), pair(seed, shape)))
+    })
+}
+
+/// Memory with all cells that count and a long trace.
+fn ample() -> Lent {
+    Lent::new(LISTING_MOVES, LISTING_ENTRIES, MOST_CELLS, 4096)
+}
+
+/// The marks of the pair's starts, or nothing if judge refuses with 9.
+fn marks(lent: &mut Lent, pair: &Pair, name: &str) -> Option<Vec<bool>> {
+    match lent.judge(&pair.case_file, &pair.start_file) {
+        0 => {
+            let answers = &lent.answers[..pair.start.starts.len()];
+            Some(answers.iter().map(|&answer| answer == 1).collect())
+        }
+        9 => None,
+        other => panic!("{name}: judge refuses a sound pair with {other}"),
+    }
+}
+
+fn start_configuration(pair: &Pair, number: usize) -> Configuration {
+    configuration(&pair.start, &pair.start.starts[number])
+}
+
+/// The end of the run that the trace is from the start, each rule applying.
+fn end_of_run(pair: &Pair, number: usize, trace: &[u16], name: &str) -> Configuration {
+    replay(&pair.case.rules, start_configuration(pair, number), trace)
+        .unwrap_or_else(|| panic!("{name} start {number}: a rule does not apply"))
+}
+
+/// The cells used after the rules of the trace.
+fn cells_after(pair: &Pair, trace: &[u16]) -> usize {
+    let new = |&rule: &u16| new_cells(pair.case.rules[usize::from(rule)].code);
+    pair.start.cells.len() + trace.iter().map(new).sum::<usize>()
+}
+
+#[test]
+fn generated_files_are_sound() {
+    for (name, pair) in pairs(400) {
+        assert_eq!(
+            decode_case(&pair.case_file),
+            Ok(pair.case.clone()),
+            "{name}"
+        );
+        let start = decode_start(&pair.start_file, &pair.case);
+        assert_eq!(start, Ok(pair.start), "{name}");
+    }
+}
+
+/// A cell and the nested stack it stands for are accepted by the same states.
+#[test]
+fn cells_and_stacks_are_accepted_alike() {
+    for (name, pair) in pairs(100) {
+        let own = Table::new(&pair.case);
+        let by_cell = accepting(&own, &pair.start.cells);
+        for (number, start) in pair.start.starts.iter().enumerate() {
+            let states = by_cell[usize::from(start.root)].states;
+            let accepted = accepts(&own, &start_configuration(&pair, number));
+            assert_eq!(accepted, has(states, start.control), "{name}");
+        }
+    }
+}
+
+/// Every trace is a run on nested stacks; one that arrived ends in the target.
+/// Every operation occurs in the runs that arrived.
+#[test]
+fn traces_are_runs_to_the_target() {
+    let mut lent = ample();
+    let mut taken = [0; 9];
+    for (name, pair) in pairs(400) {
+        let Some(marks) = marks(&mut lent, &pair, &name) else {
+            continue;
+        };
+        for (number, &mark) in marks.iter().enumerate() {
+            let reply = lent.guide(&pair.case_file, &pair.start_file, number as u64);
+            assert_eq!(reply != NoRun, mark, "{name} start {number}");
+            if let Arrived { steps, cells } = reply {
+                let trace = &lent.trace[..steps as usize];
+                check_arrived(&pair, number, trace, cells, &name);
+                for &rule in trace {
+                    taken[usize::from(pair.case.rules[usize::from(rule)].code)] += 1;
+                }
+            } else if mark {
+                check_unfinished(&pair, number, reply, &lent, &name);
+            }
+        }
+    }
+    println!("steps by code 1 to 8: {:?}", &taken[1..]);
+    assert!(taken[1..].iter().all(|&steps| steps >= 20), "{taken:?}");
+}
+
+fn check_arrived(pair: &Pair, number: usize, trace: &[u16], cells: u64, name: &str) {
+    let end = end_of_run(pair, number, trace, name);
+    let own = Table::new(&pair.case);
+    assert!(
+        accepts(&own, &end),
+        "{name} start {number} is not in the target"
+    );
+    let used = cells_after(pair, trace) as u64;
+    assert_eq!(cells, used, "{name} start {number}");
+}
+
+/// A walk that halted before its arrival still wrote a run.
+fn check_unfinished(pair: &Pair, number: usize, reply: GuideReply, lent: &Lent, name: &str) {
+    let (TraceFull { cells, .. } | CellsShort { cells, .. }) = reply else {
+        panic!("{name} start {number}: {reply:?}");
+    };
+    let trace = &lent.trace[..reply.steps()];
+    end_of_run(pair, number, trace, name);
+    let used = cells_after(pair, trace) as u64;
+    assert_eq!(cells, used, "{name} start {number}");
+}
+
+/// No start marked no reaches the target within the bounds, and no start marked
+/// yes is one whose reachable configurations are all outside the target.
+#[test]
+fn marks_agree_with_the_search() {
+    let bounds = Bounds {
+        depth: 12,
+        size: 60,
+        configurations: 400,
+    };
+    let mut lent = ample();
+    let (mut reached, mut exhausted, mut bounded) = (0, 0, 0);
+    for (name, pair) in pairs(300) {
+        let Some(marks) = marks(&mut lent, &pair, &name) else {
+            continue;
+        };
+        for (number, &mark) in marks.iter().enumerate() {
+            match search(&pair.case, start_configuration(&pair, number), bounds) {
+                Outcome::Reached(_) => {
+                    assert!(mark, "{name} start {number} reaches the target");
+                    reached += 1;
+                }
+                Outcome::Exhausted => {
+                    assert!(!mark, "{name} start {number} cannot reach the target");
+                    exhausted += 1;
+                }
+                Outcome::Bounded => bounded += 1,
+            }
+        }
+    }
+    println!("reached {reached}, exhausted {exhausted}, bounded {bounded}");
+    assert!(reached >= 500 && exhausted >= 500);
+}
+
+/// The search finds every start marked yes whose run is short, by no more steps
+/// than the guide takes.
+#[test]
+fn short_runs_are_found_by_the_search() {
+    let mut lent = ample();
+    let (mut found, mut left_out) = (0, 0);
+    for (name, pair) in pairs(300) {
+        for number in 0..pair.start.starts.len() {
+            let reply = lent.guide(&pair.case_file, &pair.start_file, number as u64);
+            let Arrived { steps, .. } = reply else {
+                continue;
+            };
+            let bounds = Bounds {
+                depth: steps as usize,
+                size: 500,
+                configurations: 5000,
+            };
+            match search(&pair.case, start_configuration(&pair, number), bounds) {
+                Outcome::Reached(least) => {
+                    assert!(least <= steps as usize, "{name} start {number}");
+                    found += usize::from(steps > 0);
+                }
+                Outcome::Exhausted => panic!("{name} start {number} is not found"),
+                Outcome::Bounded => left_out += 1,
+            }
+        }
+    }
+    println!("found {found}, left out {left_out}");
+    assert!(found >= 300 && 10 * left_out < found);
+}
+
+/// What the guide must answer with `c` cells and `t` trace words: "m being the
+/// least number where the run has arrived, m = t, or step m + 1 would bring the
+/// cells used above c, and it answers the first of these that holds, in that
+/// order".
+fn expected_reply(pair: &Pair, run: &[u16], c: usize, t: usize) -> GuideReply {
+    if c < pair.start.cells.len() {
+        return CellsShort { steps: 0, cells: 0 };
+    }
+    for m in 0.. {
+        let steps = m as u64;
+        let cells = cells_after(pair, &run[..m]) as u64;
+        if m == run.len() {
+            return Arrived { steps, cells };
+        }
+        if m == t {
+            return TraceFull { steps, cells };
+        }
+        if cells_after(pair, &run[..m + 1]) > c {
+            return CellsShort { steps, cells };
+        }
+    }
+    unreachable!("the run is finite")
+}
+
+/// The guide with every small `c` and `t`: reply, trace and zeroed memory.
+fn check_halts(pair: &Pair, number: usize, run: &[u16], name: &str) {
+    for c in 0..=cells_after(pair, run) + 1 {
+        for t in 0..=run.len() + 1 {
+            let mut lent = Lent::new(LISTING_MOVES, LISTING_ENTRIES, c, t);
+            // Words that do not make up a whole cell do not count.
+            lent.cells.extend([0; 67]);
+            let reply = lent.guide(&pair.case_file, &pair.start_file, number as u64);
+            let named = format!("{name} start {number} cells {c} trace {t}");
+            assert_eq!(reply, expected_reply(pair, run, c, t), "{named}");
+            let steps = reply.steps();
+            assert_eq!(lent.trace[..steps], run[..steps], "{named}");
+            assert!(lent.trace_is_zero_from(steps), "{named}");
+            assert!(lent.tables_are_zero() && lent.cells_are_zero(), "{named}");
+        }
+    }
+}
+
+#[test]
+fn halts_for_all_small_cells_and_traces() {
+    let mut lent = ample();
+    let mut checked = 0;
+    for (name, pair) in pairs(20) {
+        for number in 0..pair.start.starts.len() {
+            let reply = lent.guide(&pair.case_file, &pair.start_file, number as u64);
+            if let Arrived { steps: 1..=10, .. } = reply {
+                let run = lent.trace[..reply.steps()].to_vec();
+                check_halts(&pair, number, &run, &name);
+                checked += 1;
+            }
+        }
+    }
+    println!("{checked} runs with all small cells and traces");
+    assert!(checked >= 10);
+}
+
+/// A start without a run is answered so for every number of cells.
+#[test]
+fn no_run_is_tested_before_the_cells() {
+    let mut ample = ample();
+    let mut no_cells = Lent::new(LISTING_MOVES, LISTING_ENTRIES, 0, 0);
+    for (name, pair) in pairs(50) {
+        for number in 0..pair.start.starts.len() as u64 {
+            let reply = ample.guide(&pair.case_file, &pair.start_file, number);
+            let without = no_cells.guide(&pair.case_file, &pair.start_file, number);
+            match reply {
+                NoRun | Refused(_) => assert_eq!(without, reply, "{name}"),
+                _ => assert_eq!(without, CellsShort { steps: 0, cells: 0 }, "{name}"),
+            }
+        }
+    }
+}
+
+/// A table is refused with 9 exactly if fewer whole moves or entries are lent
+/// than it has; the words after the last record are zero.
+#[test]
+fn every_length_of_lent_tables() {
+    for (name, pair) in pairs(4) {
+        let mut whole = Lent::as_listing();
+        let (code, moves, entries) = whole.saturate(&pair.case_file);
+        if code == 9 || moves > 40 {
+            continue;
+        }
+        let sizes = (moves as usize, entries as usize);
+        for words in 0..=5 * sizes.0 + 6 {
+            let mut lent = whole.clone();
+            lent.moves = vec![0; words];
+            check_lent_tables(&mut lent, &whole, &pair, sizes, &name);
+        }
+        for words in 0..=2 * sizes.1 + 3 {
+            let mut lent = whole.clone();
+            lent.entries = vec![0; words];
+            check_lent_tables(&mut lent, &whole, &pair, sizes, &name);
+        }
+    }
+}
+
+fn check_lent_tables(
+    lent: &mut Lent,
+    whole: &Lent,
+    pair: &Pair,
+    (moves, entries): (usize, usize),
+    name: &str,
+) {
+    let fits = lent.moves.len() / 5 >= moves && lent.entries.len() / 2 >= entries;
+    let reply = lent.saturate(&pair.case_file);
+    if fits {
+        assert_eq!(reply, (0, moves as u64, entries as u64), "{name}");
+        assert_eq!(lent.moves[..], whole.moves[..lent.moves.len()], "{name}");
+        assert_eq!(
+            lent.entries[..],
+            whole.entries[..lent.entries.len()],
+            "{name}"
+        );
+    } else {
+        assert_eq!(reply, (9, 0, 0), "{name}");
+        assert!(lent.tables_are_zero(), "{name}");
+    }
+}

@@ -1,0 +1,164 @@
+//! The vectors and the larger files that came with document 01.
+
+use std::fs;
+use std::path::{Path, PathBuf};
+
+use second::automaton::accepts;
+use second::file::{decode_case, decode_start};
+use second::lent::Lent;
+use second::saturation::saturate;
+use second::services::GuideReply::{Arrived, CellsShort};
+use second::services::{LISTING_ENTRIES, LISTING_MOVES, MOST_CELLS, listing, listing_answer};
+use second::stack::{configuration, replay};
+use second::table::{Size, Table};
+
+fn data(name: &str) -> PathBuf {
+    Path::new(env!("CARGO_MANIFEST_DIR"))
+        .join("tests/data")
+        .join(name)
+}
+
+/// The bytes that a field of vectors.txt stands for; "an empty file is `-`".
+fn bytes_of(field: &str) -> Vec<u8> {
+    if field == "-" {
+        return Vec::new();
+    }
+    (0..field.len() / 2)
+        .map(|at| u8::from_str_radix(&field[2 * at..2 * at + 2], 16).expect("two hex digits"))
+        .collect()
+}
+
+/// A line of vectors.txt.
+struct Vector {
+    name: String,
+    case: Vec<u8>,
+    start: Vec<u8>,
+    printed: String,
+}
+
+fn vectors() -> Vec<Vector> {
+    let text = fs::read_to_string(data("vectors.txt")).expect("vectors.txt");
+    let vector = |line: &str| {
+        let fields: Vec<&str> = line.splitn(4, ' ').collect();
+        Vector {
+            name: fields[0].to_string(),
+            case: bytes_of(fields[1]),
+            start: bytes_of(fields[2]),
+            printed: fields[3].replace('|', "\n") + "\n",
+        }
+    };
+    text.lines().map(vector).collect()
+}
+
+#[test]
+fn every_vector() {
+    let vectors = vectors();
+    assert_eq!(vectors.len(), 254);
+    for vector in vectors {
+        let printed = listing(&vector.case, &vector.start);
+        assert_eq!(printed, vector.printed, "{}", vector.name);
+    }
+}
+
+/// The services answer as the listing says, and the traces of the vectors are
+/// runs on nested stacks that end in the target if they arrived.
+#[test]
+fn every_trace_of_the_vectors() {
+    let mut lent = Lent::as_listing();
+    for vector in vectors() {
+        let refusal = lent.judge(&vector.case, &vector.start);
+        if refusal == 0 {
+            check_traces(&mut lent, &vector);
+        } else {
+            let printed = format!("refused {refusal}\n");
+            assert_eq!(printed, vector.printed, "{}", vector.name);
+        }
+    }
+}
+
+fn check_traces(lent: &mut Lent, vector: &Vector) {
+    let name = &vector.name;
+    let case = decode_case(&vector.case).expect("a sound case");
+    let file = decode_start(&vector.start, &case).expect("a sound start file");
+    let own = Table::new(&case);
+    let mut lines = vector.printed.lines().skip(1);
+    for (number, start) in (0..).zip(&file.starts) {
+        let reply = lent.guide(&vector.case, &vector.start, number);
+        let line = format!("start {number} {}", listing_answer(reply));
+        assert_eq!(Some(line.as_str()), lines.next(), "{name}");
+        let trace = &lent.trace[..reply.steps()];
+        let end = replay(&case.rules, configuration(&file, start), trace);
+        let end = end.unwrap_or_else(|| panic!("{name} start {number}: no run"));
+        let arrived = matches!(reply, Arrived { .. });
+        assert!(!arrived || accepts(&own, &end), "{name} start {number}");
+    }
+}
+
+/// "The lent cells, of which at most 4,096 count": a run that needs more.
+#[test]
+fn more_cells_than_count() {
+    let all = vectors();
+    let vector = all.iter().find(|vector| vector.name == "doubling12");
+    let vector = vector.expect("the vector doubling12");
+    let starts = vector.printed.lines().count() as u64 - 1;
+    let halts = (0..starts).map(|number| {
+        let replies = [MOST_CELLS, MOST_CELLS + 1000].map(|cells| {
+            let mut lent = Lent::new(LISTING_MOVES, LISTING_ENTRIES, cells, 65536);
+            let reply = lent.guide(&vector.case, &vector.start, number);
+            (reply, lent.trace)
+        });
+        assert_eq!(replies[0], replies[1], "start {number}");
+        replies[0].0
+    });
+    let short = halts.filter(|reply| matches!(reply, CellsShort { .. }));
+    assert!(short.count() > 0, "no run needs more than 4,096 cells");
+}
+
+#[test]
+fn every_larger_file_with_an_expected_listing() {
+    let names = [
+        "copy-1008338",
+        "copy-1031611",
+        "deep-1002280",
+        "large-880",
+        "mid-1013239",
+        "mid-1021568",
+    ];
+    for name in names {
+        let file = |part: &str| data("bench").join(name).join(part);
+        let case = fs::read(file("case.bin")).expect("case.bin");
+        let start = fs::read(file("start.bin")).expect("start.bin");
+        let expected = fs::read_to_string(file("expected.txt")).expect("expected.txt");
+        assert_eq!(listing(&case, &start), expected, "{name}");
+    }
+}
+
+/// The table sizes that the vectors' README gives: moves, entries, rounds.
+#[test]
+fn every_larger_table() {
+    let sizes = [
+        ("chain-999", 1003, 8, 999),
+        ("copies-8", 129, 1, 0),
+        ("copies-60", 961, 1, 0),
+        ("copy-1008338", 758, 6, 8),
+        ("copy-1031611", 988, 6, 6),
+        ("deep-1002280", 802, 9, 6),
+        ("large-880", 1007, 45, 9),
+        ("mid-1013239", 999, 6, 7),
+        ("mid-1021568", 801, 22, 9),
+        ("power-2", 69, 1, 1),
+        ("power-5", 545, 1, 1),
+    ];
+    let lent = Size {
+        moves: LISTING_MOVES,
+        entries: LISTING_ENTRIES,
+    };
+    for (name, moves, entries, rounds) in sizes {
+        let path = data("bench").join(name).join("case.bin");
+        let case = decode_case(&fs::read(path).expect("case.bin")).expect("a sound case");
+        let table = saturate(&case, lent).expect("a table that fits");
+        let size = (table.moves().len(), table.entries().len());
+        assert_eq!(size, (moves, entries), "{name}");
+        assert_eq!(table.sizes().len() - 1, rounds, "{name}");
+    }
+}
