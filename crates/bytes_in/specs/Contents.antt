@@ -7,7 +7,7 @@ use mathlib.Core.List.{List, [], _∷_}
 use lib.ListN.{length, getD}
 use lib.Dec.{eqb, leb}
 use borrow.Author.Tests.{eqb-true, leb-true, eq-eqb, ne-eqb}
-use native.Mathlib.Nat.{mul-le-mul}
+use native.Mathlib.Nat.{mul-le-mul, add-zero, zero-add, add-suc, suc-add}
 use native.Mathlib.Numerals.{add-one}
 use native.Mathlib.Omega.{arith}
 use Rattle.words.specs.Lists.Laws.{by-test, and-left, and-right}
@@ -141,6 +141,39 @@ placed-short bs file h =
     let z : 1 + 8 * length bs ≤ length file = placed-within file 0 _ bs (and-right (eqb (getD file 0 0) (length bs)) _ e) in
     absurd (omega arith))
     (λ e. e)
+
+-- what is known of the body of line n, where all bodies are in place
+pub record InPlace (file : List ℕ) (n : ℕ) (b : Body) : Type 0 where
+  pub contents : 9 + 8 * n ≤ length file
+  pub least : b .least ≤ countOf file n
+  pub most : countOf file n ≤ b .most
+  pub ends : offsetOf file n + countOf file n * b .size ≤ length file
+
+placed-tail : (file : List ℕ) (n offset : ℕ) (b : Body) (bs : List Body) → bodiesPlaced file n offset (b ∷ bs) ≡ true
+    → bodiesPlaced file (suc n) (offset + countOf file n * b .size) bs ≡ true
+placed-tail file n offset b bs e = and-right (lineRight file n offset b) _ (sym (placed-cons file n offset b bs) ∙ e)
+
+line-in-place : (file : List ℕ) (n offset : ℕ) (b : Body) (bs : List Body) → bodiesPlaced file n offset (b ∷ bs) ≡ true
+    → 9 + 8 * n ≤ length file → InPlace file n b
+line-in-place file n offset b bs e l =
+    let line : Line file n offset b = line-says file n offset b (and-left (lineRight file n offset b) _ (sym (placed-cons file n offset b bs) ∙ e)) in
+    let within : offset + countOf file n * b .size ≤ length file = placed-within file (suc n) _ bs (placed-tail file n offset b bs e) in
+    record { contents = l; least = line .least; most = line .most; ends = omega arith }
+
+bodies-in-place : (file : List ℕ) (m offset : ℕ) (bs : List Body) (n : ℕ) (d : Body) → bodiesPlaced file m offset bs ≡ true
+    → n < length bs → 1 + 8 * (m + length bs) ≤ length file → InPlace file (m + n) (getD bs n d)
+bodies-in-place file m offset [] n d e h l = absurd (omega arith)
+bodies-in-place file m offset (b ∷ bs) zero d e h l = rw add-zero (line-in-place file m offset b bs e (omega arith))
+bodies-in-place file m offset (b ∷ bs) (suc n) d e h l =
+    rw (add-suc, ← suc-add m n)
+    (bodies-in-place file (suc m) _ bs n d (placed-tail file m offset b bs e) (omega arith) (omega arith))
+
+pub placed-in : (bs : List Body) (file : List ℕ) (n : ℕ) (d : Body) → placed bs file ≡ true → n < length bs → InPlace file n (getD bs n d)
+unfolding placed
+placed-in bs file n d e h =
+    let all : bodiesPlaced file 0 (1 + 8 * length bs) bs ≡ true = and-right (eqb (getD file 0 0) (length bs)) _ e in
+    let l : 1 + 8 * length bs ≤ length file = placed-within file 0 _ bs all in
+    rw zero-add at (bodies-in-place file 0 _ bs n d all h (omega arith))
 
 -- ---- a loop over the lines
 

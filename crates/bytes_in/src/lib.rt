@@ -5,6 +5,7 @@ ghost use lib.ListN.{length, getD};
 ghost use Rattle.files.specs.Bytes.{field, countOf, offsetOf, lineRight, bodiesPlaced};
 ghost use Rattle.files.specs.Bytes;
 ghost use Rattle.bytes_in.specs.Contents.{theBody, nextBody, bodyIn, bodiesFrom, bodiesIn};
+ghost use Rattle.bytes_in.specs.Records.{bodyOf};
 
 // The byte as a number.
 fn wide(x: u8) -> u64
@@ -174,4 +175,14 @@ pub fn placed(file: &[u8], table: &[u16]) -> bool
         return false;
     }
     bodies_placed(file, table, n, contents)
+}
+
+// The body of line n, with records of this size.
+pub fn body_part(file: &[u8], n: usize, size: usize) -> &[u8]
+    requires { ⌜ (9 + 8 * n ≤ length (now file)) × (size < 2 ^ 16) × (offsetOf (now file) n + countOf (now file) n * size ≤ length (now file)) ⌝ }
+    ensures { λ r. ⌜ now r ≡ bodyOf (now (file .entry)) n size ⌝ }
+{
+    let a = offset_of(file, n);
+    let e = a + count_of(file, n) * size;
+    &file[a..e]
 }

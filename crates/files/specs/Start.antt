@@ -87,6 +87,10 @@ startTests =
     ∷ record { fails = λ f. not (startFileRight f); refusal = 6 }
     ∷ []
 
+-- 0 for a start file that is sound for its case, else its refusal
+unfoldable pub startRefusal : Files → ℕ
+startRefusal f = firstHit startTests f
+
 -- the cell of these fields
 unfoldable pub cellOf : CellBytes → Cell
 cellOf x = elim (eqb (x .kind) 1) [

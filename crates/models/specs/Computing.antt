@@ -22,7 +22,7 @@ unfolding Case.caseBodies Case.headOf Case.head Case.inner1 Case.inner2 Case.hea
 open-case = 0
 
 unfoldable pub open-start : ℕ
-unfolding Start.startBodies Start.startOf Start.cellBytes Start.startsOf Start.cellRecords Start.orderOf Start.refersTo Start.cellRight Start.cellsRight Start.startRight Start.startFileRight Start.startTests Start.cellOf Start.cellsOf Start.configurationOf
+unfolding Start.startBodies Start.startOf Start.cellBytes Start.startsOf Start.cellRecords Start.orderOf Start.refersTo Start.cellRight Start.cellsRight Start.startRight Start.startFileRight Start.startTests Start.startRefusal Start.cellOf Start.cellsOf Start.configurationOf
 open-start = 0
 
 unfoldable pub open-guide : ℕ

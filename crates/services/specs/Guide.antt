@@ -1,5 +1,6 @@
 -- The service guide.
 -- Assumes nothing.
+pub mod Laws
 use Prim.Native.Nat.{ℕ, _/_, min}
 use mathlib.Core.Bool.{Bool, true, false}
 use mathlib.Core.Option.{Option, none, some}
@@ -41,7 +42,7 @@ numberTests = record { fails = λ x. leb (length (startsOf (x .start))) (x .numb
 -- refusals 1 to 7 and 9
 unfoldable pub guideRefusal : GuideInput → ℕ
 guideRefusal =
-    firstHit (testsOn (λ x. x .case) caseTests ++ testsOn guideFiles startTests ++ numberTests ++ testsOn guideLent sizeTests)
+    firstHit (testsOn (λ x. x .case) caseTests ++ (testsOn guideFiles startTests ++ (numberTests ++ testsOn guideLent sizeTests)))
 
 -- A lent cell is 68 words of 16 bits: its four fields and a choice for each of 64 states.
 unfoldable pub cellWords : ℕ

@@ -1,5 +1,6 @@
 -- The service judge.
 -- Assumes nothing.
+pub mod Laws
 use Prim.Native.Nat.{ℕ}
 use mathlib.Core.Bool.{Bool, true, false}
 use mathlib.Core.Option.{Option, none, some}
@@ -37,7 +38,7 @@ answerTests = record { fails = λ x. ltb (x .answers) (length (startsOf (x .star
 -- refusals 1 to 6, 8 and 9
 unfoldable pub judgeRefusal : JudgeInput → ℕ
 judgeRefusal =
-    firstHit (testsOn (λ x. x .case) caseTests ++ testsOn judgeFiles startTests ++ answerTests ++ testsOn judgeLent sizeTests)
+    firstHit (testsOn (λ x. x .case) caseTests ++ (testsOn judgeFiles startTests ++ (answerTests ++ testsOn judgeLent sizeTests)))
 
 -- the table accepts the start's stack from its control
 unfoldable pub accepted : Automaton → List ℕ → Start → Bool

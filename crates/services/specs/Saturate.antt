@@ -1,5 +1,6 @@
 -- The service saturate.
 -- Assumes nothing.
+pub mod Laws
 use Prim.Native.Nat.{ℕ}
 use mathlib.Core.Bool.{Bool, true, false}
 use mathlib.Core.Option.{Option, none, some}

@@ -1,0 +1,35 @@
+-- `case_records::note_right` meets its contract.
+-- Assumes nothing.
+use mathlib.Core.Path.{sym, _∙_}
+use native.Mathlib.Omega.{arith}
+use Rattle.files.specs.Case.{noteRight}
+use Rattle.case_records.specs.Bounds.{head-ranges, note-empty, note-one, note-two, note-more}
+use Rattle.case_records.proofs.note_right.Statement.{statement}
+use Rattle.case_records.proofs.note_right.Tie as tie
+
+returns : tie.Need-returns
+unfolding noteRight
+returns c = rw (c .if1 .taken)
+
+returns-2 : tie.Need-returns-2
+returns-2 c = sym (note-empty _ _ _ (c .before .if1 .left) (c .if2 .taken))
+
+inner1-requires : tie.Need-inner1-requires
+inner1-requires c κs = head-ranges _ (c .before .before .before .pre) .inner-1
+
+inner2-requires : tie.Need-inner2-requires
+inner2-requires c κs = (head-ranges _ (c .before .before .before .pre) .controls, head-ranges _ (c .before .before .before .pre) .inner-2)
+
+returns-3 : tie.Need-returns-3
+returns-3 c = c .inner1 .ensures ∙ sym (note-one _ _ _ (c .before .match .keys1) (c .before .before .if2 .left))
+
+returns-4 : tie.Need-returns-4
+returns-4 c = c .inner2 .ensures ∙ sym (note-two _ _ _ (c .before .match .keys2) (c .before .before .if2 .left))
+
+returns-5 : tie.Need-returns-5
+returns-5 c = sym (note-more _ _ _ (omega arith))
+
+pub note-right-spec : {M : Type 1} → statement M
+note-right-spec =
+    tie.close
+    (tie.spec returns returns-2 inner1-requires inner2-requires returns-3 returns-4 returns-5)

@@ -1,0 +1,4 @@
+pub mod Values
+pub mod Inner
+pub mod Bounds
+pub mod Keys

@@ -1,0 +1,66 @@
+-- What the values of the code stand for: heads, operations, rules, edges and moves.
+-- Assumes nothing.
+use Prim.Native.Nat.{ℕ, zero, suc, _≤_, _<_}
+use mathlib.Core.Path.{_≡_, refl}
+use native.Mathlib.Omega.{arith}
+use Rattle.stacks.specs.Stack as Stack
+use Rattle.stacks.specs.System as System
+use Rattle.automata.specs.Automaton as Automaton
+use Rattle.files.specs.Case as Case
+use Rattle.files.specs.Case.{operationOf}
+use Rattle.case_records.specs.declared.Head.{Head}
+use Rattle.case_records.specs.declared.Operation.{Operation}
+use Rattle.case_records.specs.declared.Operation.the-variants.{Rewrite, Push1, Push2, Copy, Pop1, Pop2, Collapse1, Collapse2}
+use Rattle.case_records.specs.declared.Rule.{Rule}
+use Rattle.case_records.specs.declared.Edge.{Edge}
+use Rattle.case_records.specs.declared.Move.{Move}
+
+abbrev pub theHead : Head → Case.Head
+theHead h =
+    record {
+      P = h .controls;
+      I = h .inner2;
+      J = h .inner1;
+      A = h .symbols;
+      final2 = h .final2;
+      final1 = h .final1;
+    }
+
+abbrev pub theOperation : Operation → Stack.Operation
+theOperation (Rewrite b) = Stack.rewrite b
+theOperation (Push1 b) = Stack.push1 b
+theOperation (Push2 b) = Stack.push2 b
+theOperation Copy = Stack.copy
+theOperation Pop1 = Stack.pop1
+theOperation Pop2 = Stack.pop2
+theOperation Collapse1 = Stack.collapse1
+theOperation Collapse2 = Stack.collapse2
+
+abbrev pub theRule : Rule → System.Rule
+theRule ρ =
+    record { control = ρ .control; symbol = ρ .symbol; operation = theOperation (ρ .operation); next = ρ .next }
+
+abbrev pub theEdge : Edge → Case.EdgeBytes
+theEdge e = record { state = e .state; second = e .second; S = e .others }
+
+abbrev pub theMove : Move → Automaton.Move
+theMove m = record { state = m .state; symbol = m .symbol; order = m .order; B = m .annotation; R = m .rest }
+
+-- Code 0 is read as 1 and codes above 8 as 8; a sound case has neither.
+pub operation-first : (code b : ℕ) → code < 2 → operationOf code b ≡ Stack.rewrite b
+unfolding operationOf
+operation-first zero b h = refl
+operation-first (suc zero) b h = refl
+operation-first (suc (suc k)) b h = absurd (omega arith)
+
+pub operation-last : (code b : ℕ) → 8 ≤ code → operationOf code b ≡ Stack.collapse2
+unfolding operationOf
+operation-last zero b h = absurd (omega arith)
+operation-last (suc zero) b h = absurd (omega arith)
+operation-last (suc (suc zero)) b h = absurd (omega arith)
+operation-last (suc (suc (suc zero))) b h = absurd (omega arith)
+operation-last (suc (suc (suc (suc zero)))) b h = absurd (omega arith)
+operation-last (suc (suc (suc (suc (suc zero))))) b h = absurd (omega arith)
+operation-last (suc (suc (suc (suc (suc (suc zero)))))) b h = absurd (omega arith)
+operation-last (suc (suc (suc (suc (suc (suc (suc zero))))))) b h = absurd (omega arith)
+operation-last (suc (suc (suc (suc (suc (suc (suc (suc k)))))))) b h = refl

@@ -1,0 +1,342 @@
+// The records of a case file: what each one's bytes stand for, and whether it keeps the bounds of its body.
+ghost use mathlib.Core.Path.{_≡_};
+ghost use mathlib.Core.Bool.{true};
+ghost use Prim.Native.Nat.{_<_, _≤_, _+_, _*_, _^_};
+ghost use lib.ListN.{length};
+ghost use Rattle.files.specs.Case;
+ghost use Rattle.files.specs.Case.{headOf, headRight, ruleBytes, ruleRight, operationOf, ruleOf, edgeBytes, edgeRight, moveOf, noteRight, moveRight, edgeKey, moveKey};
+ghost use Rattle.words.specs.Order.{less};
+ghost use Rattle.bytes_in.specs.Records.{recordAt};
+ghost use Rattle.case_records.specs.Values.{theHead, theOperation, theRule, theEdge, theMove};
+ghost use Rattle.case_records.specs.Bounds.{operandRight, secondRight};
+ghost use Rattle.case_records.specs.Keys.{lessThen};
+
+// ---- values
+
+// The numbers of controls P, inner order-2 states I, inner order-1 states J and symbols A, and the final sets.
+pub struct Head {
+    pub controls: u64,
+    pub inner2: u64,
+    pub inner1: u64,
+    pub symbols: u64,
+    pub final2: u64,
+    pub final1: u64,
+}
+
+// The eight operations; the first three name a symbol b.
+pub enum Operation {
+    Rewrite(u64),
+    Push1(u64),
+    Push2(u64),
+    Copy,
+    Pop1,
+    Pop2,
+    Collapse1,
+    Collapse2,
+}
+
+// The rule (p, a, operation, b, p').
+pub struct Rule {
+    pub control: u64,
+    pub symbol: u64,
+    pub operation: Operation,
+    pub next: u64,
+}
+
+// An edge's order-2 state, its second byte and its set S.
+pub struct Edge {
+    pub state: u64,
+    pub second: u64,
+    pub others: u64,
+}
+
+// The move (order-1 state, symbol, annotation order, B, R).
+pub struct Move {
+    pub state: u64,
+    pub symbol: u64,
+    pub order: u64,
+    pub annotation: u64,
+    pub rest: u64,
+}
+
+// ---- readers
+
+// Body 1's record.
+pub fn read_head(b: &[u8]) -> Head
+    requires { ⌜ length (now b) ≡ 14 ⌝ }
+    ensures { λ r. ⌜ theHead r ≡ headOf (now (b .entry)) ⌝ }
+{
+    Head {
+        controls: bytes_in::byte_at(b, 0),
+        inner2: bytes_in::byte_at(b, 1),
+        inner1: bytes_in::byte_at(b, 2),
+        symbols: bytes_in::byte_at(b, 3),
+        final2: bytes_in::number2(b, 4),
+        final1: bytes_in::number8(b, 6),
+    }
+}
+
+// The operation of a code from 1 to 8.
+fn operation_of(code: u64, b: u64) -> Operation
+    ensures { λ r. ⌜ theOperation r ≡ operationOf code b ⌝ }
+{
+    match code {
+        0 | 1 => Operation::Rewrite(b),
+        2 => Operation::Push1(b),
+        3 => Operation::Push2(b),
+        4 => Operation::Copy,
+        5 => Operation::Pop1,
+        6 => Operation::Pop2,
+        7 => Operation::Collapse1,
+        _ => Operation::Collapse2,
+    }
+}
+
+// A record of body 2.
+pub fn read_rule(b: &[u8]) -> Rule
+    requires { ⌜ length (now b) ≡ 5 ⌝ }
+    ensures { λ r. ⌜ theRule r ≡ ruleOf (ruleBytes (now (b .entry))) ⌝ }
+{
+    let code = bytes_in::byte_at(b, 2);
+    let symbol = bytes_in::byte_at(b, 3);
+    let operation = operation_of(code, symbol);
+    Rule {
+        control: bytes_in::byte_at(b, 0),
+        symbol: bytes_in::byte_at(b, 1),
+        operation,
+        next: bytes_in::byte_at(b, 4),
+    }
+}
+
+// A record of body 3.
+pub fn read_edge(b: &[u8]) -> Edge
+    requires { ⌜ length (now b) ≡ 4 ⌝ }
+    ensures { λ r. ⌜ theEdge r ≡ edgeBytes (now (b .entry)) ⌝ }
+{
+    Edge {
+        state: bytes_in::byte_at(b, 0),
+        second: bytes_in::byte_at(b, 1),
+        others: bytes_in::number2(b, 2),
+    }
+}
+
+// A record of body 4.
+pub fn read_move(b: &[u8]) -> Move
+    requires { ⌜ length (now b) ≡ 19 ⌝ }
+    ensures { λ r. ⌜ theMove r ≡ moveOf (now (b .entry)) ⌝ }
+{
+    Move {
+        state: bytes_in::byte_at(b, 0),
+        symbol: bytes_in::byte_at(b, 1),
+        order: bytes_in::byte_at(b, 2),
+        annotation: bytes_in::number8(b, 3),
+        rest: bytes_in::number8(b, 11),
+    }
+}
+
+// Record number i of body 2.
+pub fn rule_at(body: &[u8], i: usize) -> Rule
+    requires { ⌜ i * 5 + 5 ≤ length (now body) ⌝ }
+    ensures { λ r. ⌜ theRule r ≡ ruleOf (ruleBytes (recordAt 5 i (now (body .entry)))) ⌝ }
+{
+    let a = i * 5;
+    let e = a + 5;
+    read_rule(&body[a..e])
+}
+
+// Record number i of body 3.
+pub fn edge_at(body: &[u8], i: usize) -> Edge
+    requires { ⌜ i * 4 + 4 ≤ length (now body) ⌝ }
+    ensures { λ r. ⌜ theEdge r ≡ edgeBytes (recordAt 4 i (now (body .entry))) ⌝ }
+{
+    let a = i * 4;
+    let e = a + 4;
+    read_edge(&body[a..e])
+}
+
+// Record number i of body 4.
+pub fn move_at(body: &[u8], i: usize) -> Move
+    requires { ⌜ i * 19 + 19 ≤ length (now body) ⌝ }
+    ensures { λ r. ⌜ theMove r ≡ moveOf (recordAt 19 i (now (body .entry))) ⌝ }
+{
+    let a = i * 19;
+    let e = a + 19;
+    read_move(&body[a..e])
+}
+
+// ---- bounds
+
+// The set names inner order-1 states only.
+pub fn inner1(h: Head, s: u64) -> bool
+    requires { ⌜ h .inner1 ≤ 16 ⌝ }
+    ensures { λ r. ⌜ r ≡ Case.inner1 (theHead h) s ⌝ }
+{
+    s >> h.inner1 == 0
+}
+
+// The set names inner order-2 states only.
+pub fn inner2(h: Head, s: u64) -> bool
+    requires { ⌜ (h .controls ≤ 8) × (h .inner2 ≤ 8) ⌝ }
+    ensures { λ r. ⌜ r ≡ Case.inner2 (theHead h) s ⌝ }
+{
+    if s % sets::one_bit(h.controls) != 0 {
+        return false;
+    }
+    s >> (h.controls + h.inner2) == 0
+}
+
+// The numbers and the final sets are in range.
+pub fn head_right(h: Head) -> bool
+    ensures { λ r. ⌜ r ≡ headRight (theHead h) ⌝ }
+{
+    if h.controls < 1 {
+        return false;
+    }
+    if 8 < h.controls {
+        return false;
+    }
+    if 8 < h.inner2 {
+        return false;
+    }
+    if 16 < h.inner1 {
+        return false;
+    }
+    if h.symbols < 1 {
+        return false;
+    }
+    if 32 < h.symbols {
+        return false;
+    }
+    if inner2(h, h.final2) {
+        return inner1(h, h.final1);
+    }
+    false
+}
+
+// Whether b is right for the code: a symbol for the codes below 4, and 0 from there on.
+fn operand_right(h: Head, code: u64, b: u64) -> bool
+    ensures { λ r. ⌜ r ≡ operandRight (theHead h) code b ⌝ }
+{
+    if code < 4 {
+        return b < h.symbols;
+    }
+    b == 0
+}
+
+// The record of body 2 names a control, a symbol, a code, a right b and a control.
+pub fn rule_right(h: Head, b: &[u8]) -> bool
+    requires { ⌜ length (now b) ≡ 5 ⌝ }
+    ensures { λ r. ⌜ r ≡ ruleRight (theHead h) (ruleBytes (now (b .entry))) ⌝ }
+{
+    let code = bytes_in::byte_at(b, 2);
+    if h.controls <= bytes_in::byte_at(b, 0) {
+        return false;
+    }
+    if h.symbols <= bytes_in::byte_at(b, 1) {
+        return false;
+    }
+    if code < 1 {
+        return false;
+    }
+    if 8 < code {
+        return false;
+    }
+    if h.controls <= bytes_in::byte_at(b, 4) {
+        return false;
+    }
+    operand_right(h, code, bytes_in::byte_at(b, 3))
+}
+
+// Whether the second byte is right for the state: 255 for a control, and an inner order-1 state for an inner state.
+fn second_right(h: Head, e: Edge) -> bool
+    ensures { λ r. ⌜ r ≡ secondRight (theHead h) (theEdge e) ⌝ }
+{
+    if e.state < h.controls {
+        return e.second == 255;
+    }
+    e.second < h.inner1
+}
+
+// The edge names a state, a right second byte and inner order-2 states.
+pub fn edge_right(h: Head, e: Edge) -> bool
+    requires { ⌜ headRight (theHead h) ≡ true ⌝ }
+    ensures { λ r. ⌜ r ≡ edgeRight (theHead h) (theEdge e) ⌝ }
+{
+    if second_right(h, e) {
+        if h.controls + h.inner2 <= e.state {
+            return false;
+        }
+        return inner2(h, e.others);
+    }
+    false
+}
+
+// B is empty exactly at order 0, and names inner states of the annotation's order.
+fn note_right(h: Head, order: u64, b: u64) -> bool
+    requires { ⌜ headRight (theHead h) ≡ true ⌝ }
+    ensures { λ r. ⌜ r ≡ noteRight (theHead h) order b ⌝ }
+{
+    if order == 0 {
+        return b == 0;
+    }
+    if b == 0 {
+        return false;
+    }
+    match order {
+        1 => inner1(h, b),
+        2 => inner2(h, b),
+        _ => false,
+    }
+}
+
+// The move names an order-1 state, of which there are n, a symbol, a right B and inner order-1 states.
+pub fn move_right(h: Head, n: u64, m: Move) -> bool
+    requires { ⌜ headRight (theHead h) ≡ true ⌝ }
+    ensures { λ r. ⌜ r ≡ moveRight (theHead h) n (theMove m) ⌝ }
+{
+    if n <= m.state {
+        return false;
+    }
+    if h.symbols <= m.symbol {
+        return false;
+    }
+    if note_right(h, m.order, m.annotation) {
+        return inner1(h, m.rest);
+    }
+    false
+}
+
+// ---- order
+
+// The order of two keys that begin with x and y, the order of their rests being known.
+fn key_before(x: u64, y: u64, rest: bool) -> bool
+    ensures { λ r. ⌜ r ≡ lessThen x y rest ⌝ }
+{
+    if x < y {
+        return true;
+    }
+    if x == y {
+        return rest;
+    }
+    false
+}
+
+// The edge x comes before y by (state, S, second byte).
+pub fn edge_before(x: Edge, y: Edge) -> bool
+    ensures { λ r. ⌜ r ≡ less (edgeKey (theEdge x)) (edgeKey (theEdge y)) ⌝ }
+{
+    let second = key_before(x.second, y.second, false);
+    let others = key_before(x.others, y.others, second);
+    key_before(x.state, y.state, others)
+}
+
+// The move x comes before y by (state, symbol, order, B, R).
+pub fn move_before(x: Move, y: Move) -> bool
+    ensures { λ r. ⌜ r ≡ less (moveKey (theMove x)) (moveKey (theMove y)) ⌝ }
+{
+    let rest = key_before(x.rest, y.rest, false);
+    let annotation = key_before(x.annotation, y.annotation, rest);
+    let order = key_before(x.order, y.order, annotation);
+    let symbol = key_before(x.symbol, y.symbol, order);
+    key_before(x.state, y.state, symbol)
+}

@@ -1,0 +1,3 @@
+pub mod FromBytes
+pub mod Reach
+pub mod Demand2

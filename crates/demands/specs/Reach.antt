@@ -1,0 +1,52 @@
+-- Yes and no: a saturated table accepts a configuration from its control exactly if a finite run of the rules leads from it into the target.
+-- Assumes nothing.
+use Prim.Native.Nat.{ℕ}
+use mathlib.Core.Bool.{Bool, true, false}
+use mathlib.Core.Path.{_≡_}
+use mathlib.Core.Logic.{_↔_}
+use mathlib.Core.List.{List, List·Memᴰ, map}
+use Rattle.stacks.specs.System.{Configuration, Rule, Run}
+use Rattle.stacks.specs.Published.{Transitions, publishedRule}
+use Rattle.stacks.specs.Published.Laws.{run-transitions, transitions-run}
+use Rattle.automata.specs.Automaton.{Automaton}
+use Rattle.automata.specs.Acceptance.{accepts2, inTarget}
+use Rattle.automata.specs.Facts.{RuleFacts, TableFacts, OwnFacts}
+use Rattle.automata.specs.Saturation.{Size, Saturated}
+use Rattle.rounds.specs.Limits.{IsSaturated}
+use Rattle.rounds.specs.Before.{table-extends}
+use Rattle.completeness.specs.Complete.{run-accepted}
+use Rattle.soundness.specs.Facts.{SaturatedFacts}
+use Rattle.soundness.specs.Theorem.{sound}
+use Rattle.demands.specs.FromBytes.{saturated-facts}
+
+-- a finite run of the rules leads from c into the target of the own automaton
+pub record Reaches (rules : List Rule) (own : Automaton) (c : Configuration) : Type 0 where
+  pub trace : List ℕ
+  pub end : Configuration
+  pub run : Run rules c trace end
+  pub in-target : inTarget own end ≡ true
+
+-- the same by transitions of the published system
+pub record PublishedReaches (rules : List Rule) (own : Automaton) (c : Configuration) : Type 0 where
+  pub end : Configuration
+  pub transitions : Transitions (map publishedRule rules) c end
+  pub in-target : inTarget own end ≡ true
+
+pub reaches-published : {rules : List Rule} {own : Automaton} {c : Configuration} → Reaches rules own c ↔ PublishedReaches rules own c
+reaches-published {rules} = (
+  λ x. record { end = x .end; transitions = run-transitions rules (x .run); in-target = x .in-target },
+  λ x. let (ns, r) = transitions-run rules (x .transitions) in record { trace = ns; end = x .end; run = r; in-target = x .in-target },
+)
+
+module _ {P : ℕ} {own : Automaton} {rules : List Rule} (table : TableFacts P own) (inner : OwnFacts P own)
+    (rule : (ρ : Rule) → List·Memᴰ ρ rules → RuleFacts P ρ) {lent : Size} {T : Saturated} (s : IsSaturated rules lent own T) where
+  facts : SaturatedFacts P own rules T
+  facts = saturated-facts table inner rule s
+
+  -- yes means a run
+  pub accepted-reaches : (c : Configuration) → accepts2 (T .table) (c .stack) (c .control) ≡ true → Reaches rules own c
+  accepted-reaches c h = let (ns, d, r, e) = sound facts c h in record { trace = ns; end = d; run = r; in-target = e }
+
+  -- no means no run
+  pub reaches-accepted : (c : Configuration) → Reaches rules own c → accepts2 (T .table) (c .stack) (c .control) ≡ true
+  reaches-accepted c x = run-accepted rules (T .table) (facts .table) rule (s .closed) (table-extends s) (x .run) (x .in-target)

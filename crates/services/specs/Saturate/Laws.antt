@@ -1,0 +1,82 @@
+-- What saturate answers, case by case.
+-- Assumes nothing.
+use Prim.Native.Nat.{ℕ}
+use mathlib.Core.Bool.{Bool, true, false}
+use mathlib.Core.Path.{_≡_, refl, ap, sym, _∙_, subst}
+use mathlib.Core.Option.{Option, none, some}
+use mathlib.Core.List.{List, [], _∷_, _++_}
+use lib.Dec.{eqb}
+use borrow.Author.Tests.{eqb-true, eqb-false, ne-eqb}
+use Rattle.words.specs.Lists.{every}
+use Rattle.words.specs.Lists.Laws.{by-test}
+use Rattle.words.specs.Options.{by-option}
+use Rattle.automata.specs.Saturation.{Saturated}
+use Rattle.files.specs.Bytes.{Test, firstHit, testsOn}
+use Rattle.files.specs.Bytes.Laws.{numbered, firstHit-past, firstHit-stays, firstHit-testsOn, numbered-testsOn, firstHit-fails, firstHit-passes}
+use Rattle.files.specs.Case.{caseTests, caseRefusal}
+use Rattle.services.specs.Saturate.{Lent, saturated, tooLarge, sizeTests, saturateRefusal, SaturateDone, saturateRefused, saturateFilled, saturateAnswer, saturateService}
+
+-- the size test fails exactly where there is no saturated table
+pub too-large-none : (x : Lent) → saturated x ≡ none → tooLarge x ≡ true
+unfolding tooLarge
+too-large-none x e = rw (tooLarge, e)
+
+pub too-large-some : (x : Lent) {T : Saturated} → saturated x ≡ some T → tooLarge x ≡ false
+unfolding tooLarge
+too-large-some x e = rw (tooLarge, e)
+
+pub size-refused : (x : Lent) → saturated x ≡ none → firstHit sizeTests x ≡ 9
+unfolding sizeTests
+size-refused x e = firstHit-fails (record { fails = tooLarge; refusal = 9 }) [] x (too-large-none x e)
+
+pub size-passed : (x : Lent) {T : Saturated} → saturated x ≡ some T → firstHit sizeTests x ≡ 0
+unfolding sizeTests firstHit
+size-passed x e = firstHit-passes (record { fails = tooLarge; refusal = 9 }) [] x (too-large-some x e)
+
+pub case-numbered : numbered caseTests ≡ true
+unfolding numbered caseTests every
+case-numbered = refl
+
+-- the case's refusal comes first
+pub case-first : {Y : Type 0} (part : Y → List ℕ) (more : List (Test Y)) (y : Y) → (caseRefusal (part y) ≡ 0 → ⊥)
+    → firstHit (testsOn part caseTests ++ more) y ≡ caseRefusal (part y)
+unfolding caseRefusal
+case-first part more y h =
+    firstHit-stays (testsOn part caseTests) more y (λ e. h (sym (firstHit-testsOn part caseTests y) ∙ e)) ∙ firstHit-testsOn part caseTests y
+
+-- a sound case leaves the tests that follow
+pub case-passed : {Y : Type 0} (part : Y → List ℕ) (more : List (Test Y)) (y : Y) → caseRefusal (part y) ≡ 0
+    → firstHit (testsOn part caseTests ++ more) y ≡ firstHit more y
+unfolding caseRefusal
+case-passed part more y h =
+    firstHit-past (testsOn part caseTests) more y (numbered-testsOn part caseTests ∙ case-numbered) (firstHit-testsOn part caseTests y ∙ h)
+
+-- ---- the cases
+
+-- what saturate answers to x
+pub data SaturateCase (x : Lent) : SaturateDone → Type 0 where
+  case-refused : (caseRefusal (x .case) ≡ 0 → ⊥) → SaturateCase x (saturateRefused x (caseRefusal (x .case)))
+  size-exceeded : caseRefusal (x .case) ≡ 0 → saturated x ≡ none → SaturateCase x (saturateRefused x 9)
+  filled : (T : Saturated) → caseRefusal (x .case) ≡ 0 → saturated x ≡ some T → SaturateCase x (saturateFilled x T)
+
+answer-refused : (x : Lent) (n : ℕ) → (n ≡ 0 → ⊥) → saturateAnswer x n ≡ saturateRefused x n
+unfolding saturateAnswer
+answer-refused x n h = rw (saturateAnswer, ne-eqb n 0 h)
+
+answer-filled : (x : Lent) {T : Saturated} → saturated x ≡ some T → saturateAnswer x 0 ≡ saturateFilled x T
+unfolding saturateAnswer
+answer-filled x e = rw (saturateAnswer, e)
+
+pub saturate-cases : (x : Lent) → SaturateCase x (saturateService x)
+unfolding saturateService saturateRefusal
+saturate-cases x =
+    by-test (eqb (caseRefusal (x .case)) 0)
+    (λ e.
+    let sound = eqb-true _ 0 e in
+    let passed : saturateRefusal x ≡ firstHit sizeTests x = case-passed (λ (y : Lent). y .case) sizeTests x sound in
+    by-option (saturated x)
+    (λ h. subst (SaturateCase x) (sym (ap (saturateAnswer x) (passed ∙ size-refused x h) ∙ answer-refused x 9 (eqb-false 9 0 refl))) (size-exceeded sound h))
+    (λ T h. subst (SaturateCase x) (sym (ap (saturateAnswer x) (passed ∙ size-passed x h) ∙ answer-filled x h)) (filled T sound h)))
+    (λ e.
+    let bad = eqb-false _ 0 e in
+    subst (SaturateCase x) (sym (ap (saturateAnswer x) (case-first (λ (y : Lent). y .case) sizeTests x bad) ∙ answer-refused x _ bad)) (case-refused bad))
