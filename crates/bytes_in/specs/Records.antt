@@ -13,7 +13,7 @@ use native.Mathlib.Omega.{arith}
 use Rattle.words.specs.Lists.{every}
 use Rattle.words.specs.Lists.Laws.{by-test, every-append, every-cons}
 use Rattle.words.specs.Order.{less, rising, risingFrom}
-use Rattle.words.specs.Order.Laws.{less-transitive, append-rising-less, rising-snoc}
+use Rattle.words.specs.Order.Laws.{less-transitive, append-rising-less, append-rising-left, rising-snoc}
 use Rattle.files.specs.Bytes.{countOf, offsetOf, records, recordsOf}
 
 -- ---- definitions
@@ -153,3 +153,12 @@ module _ {A : Type 0} (f : List ℕ → A) (size : ℕ) (b : List ℕ) where
         (false≢true
         (sym t ∙ append-rising-less key _ (rw (map-split n (i + 1) h) at r) (last-in i) (List·Memᴰ·head refl))))
         (λ r. r)
+
+    pub rising-fewer : (n m : ℕ) → n ≤ m → rising key (map f (records m size b)) ≡ true → rising key (map f (records n size b)) ≡ true
+    rising-fewer n m h r =
+        let e : m ≡ n + (m - n) = omega arith in
+        let split : map f (records m size b) ≡ map f (records n size b) ++ map f (records (m - n) size (drop (n * size) b)) =
+        ap (λ (k : ℕ). map f (records k size b)) e
+        ∙ ap (map f) (records-add n (m - n) size b)
+        ∙ map-append f (records n size b) _ in
+        append-rising-left key (map f (records n size b)) _ (rw split at r)

@@ -1,2 +1,5 @@
 pub mod Run
 pub mod Prefix
+pub mod Decoration
+pub mod Simulation
+pub mod Arrival

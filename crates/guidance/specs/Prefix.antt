@@ -257,8 +257,7 @@ module _ (rules : List Rule) (T : Saturated) where
             let h : c < length (v .cells) = leb-false (length (v .cells)) c b in
             absurd (x .least m (r .0) cells-short (omega arith) (r .1) (is-short (y .0) (y .1) (y .2) (λ p. omega arith) (omega arith))))
 
-  -- "It arrives exactly when c and t suffice": the reply is an arrival exactly if the trace has a word for each step of the full run and the
-  -- cells of its end are at most c.
+  -- The reply is an arrival exactly if the trace has a word for each step of the full run and the cells of its end are at most c.
   pub guided-arrives : (c t M : ℕ) (w : Walk) {v : Walk} → ArrivesAfter M w v → M ≤ t → length (v .cells) ≤ c
       → guided rules T c t [] w ≡ outcome (Arrived (record { steps = M; cells = length (v .cells) })) (traceAfter rules T M w)
   unfolding haltBy

@@ -3,7 +3,7 @@
 use Prim.Native.Nat.{ℕ, zero, suc, _+_, _≤_}
 use mathlib.Core.Path.{_≡_, refl, ap, sym, _∙_}
 use mathlib.Core.Option.{Option, none, some, Option·some-injective, Option·none-ne-some}
-use mathlib.Core.List.{List, _∷_, _++_, zipWith}
+use mathlib.Core.List.{List, [], _∷_, _++_, zipWith}
 use native.Mathlib.Nat.{le-of-eq, zero-add, suc-add, not-suc-le-zero, le-of-suc-le-suc}
 use native.Mathlib.Omega.{arith}
 use lib.ListN.{length, getElem?, take, length-append}
@@ -54,6 +54,10 @@ to-word e = ap wordOf e
 pub to-walk : {n m : ℕ} {v u : Walk} → to n v ≡ to m u → v ≡ u
 unfolding walkOf
 to-walk {v = v} e = ap (walkOf v) e
+
+pub arrived-stuck : arrived ≡ stuck → ⊥
+unfolding answerCode
+arrived-stuck e = let z = ap answerCode e in absurd (omega arith)
 
 -- ---- the new cells of a step
 
@@ -210,3 +214,24 @@ module _ (rules : List Rule) (T : Saturated) where
       let r = run-first w (k + j) (ap (λ (i : ℕ). walkAfter rules T i w) (sym (suc-add k j)) ∙ h) in
       let q = run-split k j (r .1) (r .3) in
       (q .0, walkAfter-to w (r .2) k ∙ q .1, q .2)
+
+-- ---- the cells used
+
+-- the new cells of the steps by these rules
+unfoldable pub cellsOfSteps : List Rule → List ℕ → ℕ
+cellsOfSteps rules [] = 0
+cellsOfSteps rules (n ∷ ns) = elim (getElem? rules n) [ none ↦ 0 | some ρ ↦ newCells (ρ .operation) ] + cellsOfSteps rules ns
+
+-- "After m steps the cells used are the start file's cells and the new cells of those steps."
+pub run-cells-used : (rules : List Rule) (T : Saturated) (m : ℕ) (w : Walk) {v : Walk} → walkAfter rules T m w ≡ some v
+    → length (v .cells) ≡ length (w .cells) + cellsOfSteps rules (traceAfter rules T m w)
+unfolding walkAfter traceAfter cellsOfSteps
+run-cells-used rules T zero w {v} h =
+    let e : length (v .cells) ≡ length (w .cells) = ap (λ (u : Walk). length (u .cells)) (sym (Option·some-injective w v h)) in
+    omega arith
+run-cells-used rules T (suc m) w {v} h =
+    let r = run-first rules T w m h in
+    let x = stepped rules T (r .2) in
+    let a : length (r .1 .cells) ≡ length (w .cells) + newCells (x .rule .operation) = step-cells rules T x in
+    let b : length (v .cells) ≡ length (r .1 .cells) + cellsOfSteps rules (traceAfter rules T m (r .1)) = run-cells-used rules T m (r .1) (r .3) in
+    rw (traceAfter-to rules T w (r .2) m, cellsOfSteps, x .rule-is) (omega arith)

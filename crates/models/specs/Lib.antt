@@ -1,3 +1,4 @@
 pub mod Files
 pub mod Computing
 pub mod Examples
+pub mod Instances

@@ -13,7 +13,7 @@ use borrow.Author.Tests.{eqb-true, ltb-true, ltb-false, not-false}
 use Rattle.words.specs.Lists.{every}
 use Rattle.words.specs.Lists.Laws.{by-test, and-left, and-right, every-in}
 use Rattle.walks.specs.Cell.{Cell, empty1, symbol, empty2, above}
-use Rattle.walks.specs.Cell.Formed.{cellOrder, cellAt, orderAt, Refers, Formed, formed-below}
+use Rattle.walks.specs.Cell.Formed.{cellOrder, cellAt, orderAt, Refers, Formed, formed-below, formed-symbol, formed-above}
 use Rattle.walks.specs.Cell.Values.{getD-map-below}
 use Rattle.files.specs.Bytes.{placed, countOf, offsetOf, recordsOf, firstHit}
 use Rattle.files.specs.Bytes.Laws.{numbered, unrefused, bodies-first, bodies-end, placed-first, placed-bodies, length-recordsOf}
@@ -181,6 +181,16 @@ module _ (f : Files) (sound : firstHit startTests f ≡ 0) where
   pub start-symbols : (n : ℕ) → SymbolBelow (head (f .case) .A) (cellAt (cellsOf (f .start)) n)
   unfolding cellsOf
   start-symbols = cells-symbols (head (f .case) .A) (cellRecords (f .start)) cells-right
+
+  pub start-symbol : {n a u s : ℕ} → cellAt (cellsOf (f .start)) n ≡ symbol a u s
+      → (u < n) × (s < n) × (orderAt (cellsOf (f .start)) s ≡ 1) × (a < head (f .case) .A)
+  start-symbol {n} e =
+      let r = formed-symbol start-cells e in
+      (r .0, r .1, r .2, subst (SymbolBelow (head (f .case) .A)) e (start-symbols n))
+
+  pub start-above : {n w t : ℕ} → cellAt (cellsOf (f .start)) n ≡ above w t
+      → (w < n) × (t < n) × (orderAt (cellsOf (f .start)) w ≡ 1) × (orderAt (cellsOf (f .start)) t ≡ 2)
+  start-above e = formed-above start-cells e
 
   -- "A root has order 2."
   pub start-facts : {x : Start} → List·Memᴰ x (startsOf (f .start)) → StartFacts (head (f .case) .P) (cellsOf (f .start)) x

@@ -93,11 +93,11 @@ module _ (x : GuideInput) where
   unfolding guideRun
   run-walk T e = rw (guideRun, e)
 
-  walk-short : (T : Saturated) → cellsLent x < length (cellsOf (x .start)) → guideWalk x T ≡ outcome (CellsShort (record { steps = 0; cells = 0 })) []
+  pub walk-short : (T : Saturated) → cellsLent x < length (cellsOf (x .start)) → guideWalk x T ≡ outcome (CellsShort (record { steps = 0; cells = 0 })) []
   unfolding guideWalk
   walk-short T l = rw (guideWalk, lt-leb _ _ l)
 
-  walk-goes : (T : Saturated) → length (cellsOf (x .start)) ≤ cellsLent x
+  pub walk-goes : (T : Saturated) → length (cellsOf (x .start)) ≤ cellsLent x
       → guideWalk x T ≡ guided (rulesOf (x .case)) T (cellsLent x) (x .trace) []
       (startWalk (T .table) (cellsOf (x .start)) (startNamed x .control) (startNamed x .root))
   unfolding guideWalk

@@ -66,7 +66,7 @@ stacks-append cells more =
     stacksFrom-pass [] (cells ++ more) ∙ pass-append stackOf [] cells more
     ∙ ap (λ (us : List Annotation). pass stackOf us more) (sym (stacksFrom-pass [] cells)) ∙ sym (stacksFrom-pass (stacks cells) more)
 
--- "adding cells changes no earlier one"
+-- adding cells changes no earlier one
 pub stacks-extend : (cells more : List Cell) → (us : List Annotation) × (stacks (cells ++ more) ≡ stacks cells ++ us)
 stacks-extend cells more =
     let r = values-extend stackKind cells more in

@@ -116,7 +116,7 @@ module _ {C F X : Type 0} (K : Valuation C F X) where
   unfolding values
   values-append cs more = pass-append valueOf [] cs more
 
-  -- "adding cells changes no earlier one"
+  -- adding cells changes no earlier one
   pub values-extend : (cs more : List C) → (xs : List X) × (values (cs ++ more) ≡ values cs ++ xs)
   values-extend cs more = let r = pass-extends valueOf (values cs) more in (r .0, values-append cs more ∙ r .1)
 

@@ -1,0 +1,32 @@
+-- `case_file::file_rules_right` meets its contract.
+-- Assumes nothing.
+use Prim.Native.Nat.{ℕ}
+use mathlib.Core.Path.{ap, _∙_}
+use mathlib.Core.List.{List, map}
+use Rattle.words.specs.Lists.{every}
+use Rattle.files.specs.Case.{ruleBytes, ruleRight, ruleRecords}
+use Rattle.case_records.specs.Values.{theHead}
+use Rattle.case_file.specs.Bodies.{case-in-place, body-fits, records-here}
+use borrow.Author.Needs.{needs}
+use Rattle.case_file.proofs.file_rules_right.Statement.{statement}
+use Rattle.case_file.proofs.file_rules_right.Tie as tie
+
+rule-body-requires : tie.Need-rule-body-requires
+rule-body-requires c κs = search needs
+
+count-of-requires : tie.Need-count-of-requires
+count-of-requires c κs = case-in-place _ (c .before .before .pre) .rules .contents
+
+rules-right-requires : tie.Need-rules-right-requires
+rules-right-requires c κs = body-fits _ _ _ _ _ (case-in-place _ (c .before .before .before .pre) .rules) (c .before .rule-body .ensures) (c .count-of .ensures .0)
+
+returns : tie.Need-returns
+unfolding ruleRecords
+returns c =
+    c .rules-right .ensures
+    ∙ ap (λ (xs : List (List ℕ)). every (ruleRight (theHead (c .before .before .before .before .args .h))) (map ruleBytes xs))
+    (records-here _ _ _ _ _ (c .before .before .rule-body .ensures) (c .before .count-of .ensures .0))
+
+pub file-rules-right-spec : {M : Type 1} → statement M
+file-rules-right-spec =
+    tie.close (tie.spec rule-body-requires count-of-requires rules-right-requires returns)

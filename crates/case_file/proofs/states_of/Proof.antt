@@ -1,0 +1,37 @@
+-- `case_file::states_of` meets its contract.
+-- Assumes nothing.
+use Prim.Native.Nat.{ℕ, _+_}
+use mathlib.Core.Path.{ap, _∙_}
+use mathlib.Core.List.{List, map}
+use lib.ListN.{length}
+use Rattle.files.specs.Case.{edgeBytes, edgeRecords, entriesOf}
+use Rattle.case_records.specs.Values.{theHead}
+use Rattle.case_file.specs.Bodies.{case-in-place, body-fits, records-here}
+use borrow.Author.Needs.{needs}
+use Rattle.case_file.proofs.states_of.Statement.{statement}
+use Rattle.case_file.proofs.states_of.Tie as tie
+
+edge-body-requires : tie.Need-edge-body-requires
+edge-body-requires c κs = search needs
+
+count-of-requires : tie.Need-count-of-requires
+count-of-requires c κs = case-in-place _ (c .before .before .pre .0) .edges .contents
+
+entries-in-requires : tie.Need-entries-in-requires
+entries-in-requires c κs = body-fits _ _ _ _ _ (case-in-place _ (c .before .before .before .pre .0) .edges) (c .before .edge-body .ensures) (c .count-of .ensures .0)
+
+add-result : tie.Need-add-result
+add-result c = search needs
+
+returns : tie.Need-returns
+unfolding edgeRecords
+returns c =
+    ap (λ (n : ℕ). c .before .before .before .before .before .args .h .inner1 + n)
+    (c .before .entries-in .ensures .0
+    ∙ ap (λ (xs : List (List ℕ)). length (entriesOf (theHead (c .before .before .before .before .before .args .h)) (map edgeBytes xs)))
+    (records-here _ _ _ _ _ (c .before .before .before .edge-body .ensures) (c .before .before .count-of .ensures .0)))
+
+pub states-of-spec : {M : Type 1} → statement M
+states-of-spec =
+    tie.close
+    (tie.spec edge-body-requires count-of-requires entries-in-requires add-result returns)

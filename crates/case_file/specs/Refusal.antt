@@ -1,0 +1,41 @@
+-- The refusal of a case by its four tests.
+-- Assumes nothing.
+use Prim.Native.Nat.{ℕ}
+use mathlib.Core.Bool.{Bool, true, false, not, _&&_}
+use mathlib.Core.Path.{_≡_, refl}
+use mathlib.Core.List.{List}
+use Rattle.words.specs.Order.{rising}
+use Rattle.files.specs.Bytes.{placed, firstHit}
+use Rattle.files.specs.Case.{caseBodies, head, headRight, recordsRight, edgeKey, edgeRecords, moveKey, moveRecords, caseTests, caseRefusal}
+
+-- the number of the first test that fails
+unfoldable pub refusalBy : Bool → Bool → Bool → Bool → ℕ
+refusalBy false head-right records-right ordered = 1
+refusalBy true false records-right ordered = 2
+refusalBy true true false ordered = 3
+refusalBy true true true false = 4
+refusalBy true true true true = 0
+
+by-tests : (p h r s : Bool) → ℕ
+by-tests p h r s =
+    elim (not p) [
+      | true ↦ 1
+      | false ↦ elim (not h) [ true ↦ 2 | false ↦ elim (not r) [ true ↦ 3 | false ↦ elim (not s) [ true ↦ 4 | false ↦ 0 ] ] ]
+    ]
+
+tests-by : (p h r s : Bool) → by-tests p h r s ≡ refusalBy p h r s
+unfolding by-tests refusalBy
+tests-by false h r s = refl
+tests-by true false r s = refl
+tests-by true true false s = refl
+tests-by true true true false = refl
+tests-by true true true true = refl
+
+pub refusal-is : (file : List ℕ)
+    → caseRefusal file
+    ≡ refusalBy (placed caseBodies file) (headRight (head file)) (recordsRight file)
+    (rising edgeKey (edgeRecords file) && rising moveKey (moveRecords file))
+unfolding caseRefusal caseTests firstHit by-tests
+refusal-is file =
+    tests-by (placed caseBodies file) (headRight (head file)) (recordsRight file)
+    (rising edgeKey (edgeRecords file) && rising moveKey (moveRecords file))

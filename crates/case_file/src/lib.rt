@@ -1,0 +1,247 @@
+// The check of a case file, body by body.
+ghost use mathlib.Core.Path.{_≡_};
+ghost use mathlib.Core.Bool.{true, _&&_};
+ghost use mathlib.Core.List.{[], _∷_, map};
+ghost use Prim.Native.Nat.{_<_, _≤_, _+_, _*_};
+ghost use lib.ListN.{length};
+ghost use Rattle.words.specs.Lists.{every};
+ghost use Rattle.words.specs.Order.{rising};
+ghost use Rattle.files.specs.Bytes.{placed, records};
+ghost use Rattle.files.specs.Case;
+ghost use Rattle.files.specs.Case.{caseBodies, headRight, ruleBytes, ruleRight, ruleRecords, edgeBytes, edgeRight, edgeKey, edgeRecords, entriesOf, moveOf, moveRight, moveKey, moveRecords, recordsRight, caseRefusal};
+ghost use Rattle.bytes_in.specs.Records.{bodyOf};
+ghost use Rattle.case_records.specs.Values.{theHead, theEdge};
+use case_records::Edge;
+use case_records::Head;
+
+// Kind, least and most number of records and bytes of a record of each body.
+const BODIES: [u16; 16] = [1, 1, 1, 14, 2, 0, 256, 5, 3, 0, 64, 4, 4, 0, 1024, 19];
+
+// The first byte, the contents, the counts and the length are right.
+pub fn case_placed(file: &[u8]) -> bool
+    ensures { λ r. ⌜ r ≡ placed caseBodies (now (file .entry)) ⌝ }
+{
+    bytes_in::placed(file, &BODIES)
+}
+
+// Every rule of the body keeps its bounds.
+fn rules_right(h: Head, body: &[u8], n: usize) -> bool
+    requires { ⌜ (n * 5 ≤ length (now body)) × (n ≤ 256) ⌝ }
+    ensures { λ r. ⌜ r ≡ every (ruleRight (theHead h)) (map ruleBytes (records n 5 (now (body .entry)))) ⌝ }
+{
+    let mut i: usize = 0;
+    while i < n {
+        let a = i * 5;
+        let e = a + 5;
+        if !case_records::rule_right(h, &body[a..e]) {
+            return false;
+        }
+        i += 1;
+    }
+    true
+}
+
+// Every edge of the body keeps its bounds.
+fn edges_right(h: Head, body: &[u8], n: usize) -> bool
+    requires { ⌜ (n * 4 ≤ length (now body)) × (n ≤ 64) × (headRight (theHead h) ≡ true) ⌝ }
+    ensures { λ r. ⌜ r ≡ every (edgeRight (theHead h)) (map edgeBytes (records n 4 (now (body .entry)))) ⌝ }
+{
+    let mut i: usize = 0;
+    while i < n {
+        if !case_records::edge_right(h, case_records::edge_at(body, i)) {
+            return false;
+        }
+        i += 1;
+    }
+    true
+}
+
+// Every move of the body keeps its bounds, where there are so many order-1 states.
+fn moves_right(h: Head, states: u64, body: &[u8], n: usize) -> bool
+    requires { ⌜ (n * 19 ≤ length (now body)) × (n ≤ 1024) × (headRight (theHead h) ≡ true) ⌝ }
+    ensures { λ r. ⌜ r ≡ every (moveRight (theHead h) states) (map moveOf (records n 19 (now (body .entry)))) ⌝ }
+{
+    let mut i: usize = 0;
+    while i < n {
+        if !case_records::move_right(h, states, case_records::move_at(body, i)) {
+            return false;
+        }
+        i += 1;
+    }
+    true
+}
+
+// 1 for an edge of a control, which is an entry, and 0 for one of an inner state.
+fn entry_count(h: Head, e: Edge) -> u64
+    ensures { λ r. ⌜ r ≡ length (entriesOf (theHead h) (theEdge e ∷ [])) ⌝ }
+    ensures { λ r. ⌜ r ≤ 1 ⌝ }
+{
+    if e.state < h.controls {
+        return 1;
+    }
+    0
+}
+
+// The number of entries among the edges of the body.
+fn entries_in(h: Head, body: &[u8], n: usize) -> u64
+    requires { ⌜ (n * 4 ≤ length (now body)) × (n ≤ 64) ⌝ }
+    ensures { λ r. ⌜ r ≡ length (entriesOf (theHead h) (map edgeBytes (records n 4 (now (body .entry))))) ⌝ }
+    ensures { λ r. ⌜ r ≤ 64 ⌝ }
+{
+    let mut i: usize = 0;
+    let mut count: u64 = 0;
+    while i < n {
+        count += entry_count(h, case_records::edge_at(body, i));
+        i += 1;
+    }
+    count
+}
+
+// The edges of the body are strictly increasing.
+fn edges_rising(body: &[u8], n: usize) -> bool
+    requires { ⌜ (n * 4 ≤ length (now body)) × (n ≤ 64) ⌝ }
+    ensures { λ r. ⌜ r ≡ rising edgeKey (map edgeBytes (records n 4 (now (body .entry)))) ⌝ }
+{
+    let mut i: usize = 0;
+    while i + 1 < n {
+        let x = case_records::edge_at(body, i);
+        let y = case_records::edge_at(body, i + 1);
+        if !case_records::edge_before(x, y) {
+            return false;
+        }
+        i += 1;
+    }
+    true
+}
+
+// The moves of the body are strictly increasing.
+fn moves_rising(body: &[u8], n: usize) -> bool
+    requires { ⌜ (n * 19 ≤ length (now body)) × (n ≤ 1024) ⌝ }
+    ensures { λ r. ⌜ r ≡ rising moveKey (map moveOf (records n 19 (now (body .entry)))) ⌝ }
+{
+    let mut i: usize = 0;
+    while i + 1 < n {
+        let x = case_records::move_at(body, i);
+        let y = case_records::move_at(body, i + 1);
+        if !case_records::move_before(x, y) {
+            return false;
+        }
+        i += 1;
+    }
+    true
+}
+
+// ---- the file's bodies
+
+// The head of a file whose bodies are in place.
+pub fn head_of(file: &[u8]) -> Head
+    requires { ⌜ placed caseBodies (now file) ≡ true ⌝ }
+    ensures { λ r. ⌜ theHead r ≡ Case.head (now (file .entry)) ⌝ }
+{
+    case_records::read_head(bytes_in::body_part(file, 0, 14))
+}
+
+// The body of rules of a file whose bodies are in place.
+pub fn rule_body(file: &[u8]) -> &[u8]
+    requires { ⌜ placed caseBodies (now file) ≡ true ⌝ }
+    ensures { λ r. ⌜ now r ≡ bodyOf (now (file .entry)) 1 5 ⌝ }
+{
+    bytes_in::body_part(file, 1, 5)
+}
+
+// The body of edges of a file whose bodies are in place.
+pub fn edge_body(file: &[u8]) -> &[u8]
+    requires { ⌜ placed caseBodies (now file) ≡ true ⌝ }
+    ensures { λ r. ⌜ now r ≡ bodyOf (now (file .entry)) 2 4 ⌝ }
+{
+    bytes_in::body_part(file, 2, 4)
+}
+
+// The body of moves of a file whose bodies are in place.
+pub fn move_body(file: &[u8]) -> &[u8]
+    requires { ⌜ placed caseBodies (now file) ≡ true ⌝ }
+    ensures { λ r. ⌜ now r ≡ bodyOf (now (file .entry)) 3 19 ⌝ }
+{
+    bytes_in::body_part(file, 3, 19)
+}
+
+// Every rule of the file keeps its bounds.
+fn file_rules_right(h: Head, file: &[u8]) -> bool
+    requires { ⌜ placed caseBodies (now file) ≡ true ⌝ }
+    ensures { λ r. ⌜ r ≡ every (ruleRight (theHead h)) (ruleRecords (now (file .entry))) ⌝ }
+{
+    rules_right(h, rule_body(file), bytes_in::count_of(file, 1))
+}
+
+// Every edge of the file keeps its bounds.
+fn file_edges_right(h: Head, file: &[u8]) -> bool
+    requires { ⌜ (placed caseBodies (now file) ≡ true) × (headRight (theHead h) ≡ true) ⌝ }
+    ensures { λ r. ⌜ r ≡ every (edgeRight (theHead h)) (edgeRecords (now (file .entry))) ⌝ }
+{
+    edges_right(h, edge_body(file), bytes_in::count_of(file, 2))
+}
+
+// The number of order-1 states: J and the file's entries.
+fn states_of(h: Head, file: &[u8]) -> u64
+    requires { ⌜ (placed caseBodies (now file) ≡ true) × (h .inner1 ≤ 16) ⌝ }
+    ensures { λ r. ⌜ r ≡ h .inner1 + length (entriesOf (theHead h) (edgeRecords (now (file .entry)))) ⌝ }
+{
+    h.inner1 + entries_in(h, edge_body(file), bytes_in::count_of(file, 2))
+}
+
+// Every move of the file keeps its bounds, where there are so many order-1 states.
+fn file_moves_right(h: Head, states: u64, file: &[u8]) -> bool
+    requires { ⌜ (placed caseBodies (now file) ≡ true) × (headRight (theHead h) ≡ true) ⌝ }
+    ensures { λ r. ⌜ r ≡ every (moveRight (theHead h) states) (moveRecords (now (file .entry))) ⌝ }
+{
+    moves_right(h, states, move_body(file), bytes_in::count_of(file, 3))
+}
+
+// Rules, edges and moves keep their bounds, and there are not too many order-1 states.
+fn records_right(h: Head, file: &[u8]) -> bool
+    requires { ⌜ (placed caseBodies (now file) ≡ true) × (headRight (theHead h) ≡ true) × (theHead h ≡ Case.head (now file)) ⌝ }
+    ensures { λ r. ⌜ r ≡ recordsRight (now (file .entry)) ⌝ }
+{
+    if !file_rules_right(h, file) {
+        return false;
+    }
+    if !file_edges_right(h, file) {
+        return false;
+    }
+    let states = states_of(h, file);
+    if 64 < states {
+        return false;
+    }
+    file_moves_right(h, states, file)
+}
+
+// Edges and moves are strictly increasing.
+fn records_rising(file: &[u8]) -> bool
+    requires { ⌜ placed caseBodies (now file) ≡ true ⌝ }
+    ensures { λ r. ⌜ r ≡ rising edgeKey (edgeRecords (now (file .entry))) && rising moveKey (moveRecords (now (file .entry))) ⌝ }
+{
+    if edges_rising(edge_body(file), bytes_in::count_of(file, 2)) {
+        return moves_rising(move_body(file), bytes_in::count_of(file, 3));
+    }
+    false
+}
+
+// 0 for a sound case, else its refusal, from 1 to 4.
+pub fn check_case(file: &[u8]) -> u64
+    ensures { λ r. ⌜ r ≡ caseRefusal (now (file .entry)) ⌝ }
+{
+    if !case_placed(file) {
+        return 1;
+    }
+    let h = head_of(file);
+    if !case_records::head_right(h) {
+        return 2;
+    }
+    if !records_right(h, file) {
+        return 3;
+    }
+    if !records_rising(file) {
+        return 4;
+    }
+    0
+}

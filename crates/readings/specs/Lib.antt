@@ -1,0 +1,6 @@
+pub mod Offers
+pub mod Readings
+pub mod Joining
+pub mod Holding
+pub mod Turns
+pub mod Edges

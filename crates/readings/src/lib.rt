@@ -1,0 +1,299 @@
+// The results of a round: what each rule gives from the table of the earlier rounds, by one choice of a move for each state of a set. Results
+// that are not yet held are collected in a table of their own, sorted, each once; the automaton's tables are only read.
+ghost use mathlib.Core.Path.{_≡_};
+ghost use mathlib.Core.Bool.{_&&_};
+ghost use mathlib.Core.List.{[], _∷_};
+ghost use Prim.Native.Nat.{_<_, _≤_, _+_, _*_, max};
+ghost use lib.ListN.{length};
+ghost use lib.Dec.{eqb};
+ghost use Rattle.words.specs.Sets.{members};
+ghost use Rattle.words.specs.Lists.{when};
+ghost use Rattle.automata.specs.Automaton.{entryOf, entrySet};
+ghost use Rattle.automata.specs.Derivation.{clash, joinMove};
+ghost use Rattle.automata.specs.Saturation.{isResult, held};
+ghost use Rattle.tables.specs.Rows.{rowAt};
+ghost use Rattle.tables.specs.Records.{asMove, asResult, moveRow, entryRow};
+ghost use Rattle.tables.specs.Held.{automatonOf, tableOf, EdgesStand, EntriesStand, MovesStand};
+ghost use Rattle.readings.specs.Joining.{theJoins, asJoins, asJoined, candidateOf};
+ghost use Rattle.readings.specs.Offers.{Collects, Room};
+ghost use Rattle.readings.specs.Readings.{readResults, edgeResults};
+
+// Joined annotation sets, of one order, and joined rest sets.
+pub struct Joins {
+    pub order: u64,
+    pub b: u64,
+    pub r: u64,
+}
+
+// Joins, or none where `fits` is false.
+pub struct Joined {
+    pub fits: bool,
+    pub joins: Joins,
+}
+
+// Where results go: to this symbol of entries of this control.
+pub struct Goal {
+    pub control: u64,
+    pub symbol: u64,
+}
+
+// Whether one order is 1 and the other 2.
+fn clashes(k: u64, l: u64) -> bool
+    ensures { λ r. ⌜ r ≡ clash k l ⌝ }
+{
+    if k == 0 {
+        return false;
+    }
+    if l == 0 {
+        return false;
+    }
+    k != l
+}
+
+fn larger(k: u64, l: u64) -> u64
+    ensures { λ r. ⌜ r ≡ max k l ⌝ }
+{
+    if k < l {
+        return l;
+    }
+    k
+}
+
+// The joins with the sets of a move, unless orders clash.
+fn join_move(j: Joins, m: tables::Move) -> Joined
+    ensures { λ r. ⌜ asJoined r ≡ joinMove (asJoins j) (asMove m) ⌝ }
+{
+    if clashes(j.order, m.order) {
+        return Joined {
+            fits: false,
+            joins: j,
+        };
+    }
+    let joins = Joins {
+        order: larger(j.order, m.order),
+        b: sets::join(j.b, m.b),
+        r: sets::join(j.r, m.r),
+    };
+    Joined {
+        fits: true,
+        joins: joins,
+    }
+}
+
+// The joins with the sets of a move, where it is one of state r on symbol a and orders do not clash.
+fn candidate(m: tables::Move, r: u64, a: u64, j: Joins) -> Joined
+    ensures { λ x. ⌜ asJoined x ≡ candidateOf r a (asJoins j) (asMove m) ⌝ }
+{
+    if m.state != r {
+        return Joined {
+            fits: false,
+            joins: j,
+        };
+    }
+    if m.symbol != a {
+        return Joined {
+            fits: false,
+            joins: j,
+        };
+    }
+    join_move(j, m)
+}
+
+// Whether a move is this result.
+fn is_result(z: tables::Table, entries: &[u64], m: tables::Move, x: tables::Outcome) -> bool
+    requires { ⌜ EntriesStand z (now entries) ⌝ }
+    ensures { λ r. ⌜ r ≡ isResult (tableOf z (now (entries .entry)) []) (asResult x) (asMove m) ⌝ }
+{
+    if m.symbol != x.symbol {
+        return false;
+    }
+    if m.order != x.order {
+        return false;
+    }
+    if m.b != x.b {
+        return false;
+    }
+    if m.r != x.r {
+        return false;
+    }
+    if !tables::entry_of(z, entries, x.control, m.state) {
+        return false;
+    }
+    tables::entry_set(z, entries, m.state) == x.s
+}
+
+// Whether the automaton holds this result.
+pub fn is_held(z: tables::Table, entries: &[u64], moves: &[u64], x: tables::Outcome) -> bool
+    requires { ⌜ EntriesStand z (now entries) × MovesStand z (now moves) ⌝ }
+    ensures { λ r. ⌜ r ≡ held (tableOf z (now (entries .entry)) (now (moves .entry))) (asResult x) ⌝ }
+{
+    let count = z.moves;
+    let mut i: usize = 0;
+    while i < count {
+        if is_result(z, entries, tables::move_at(moves, i), x) {
+            return true;
+        }
+        i += 1;
+    }
+    false
+}
+
+// Collects a result: unless it is held, it is inserted among the first n rows of `out`. Answers the number of rows then, as
+// `tables::insert_result` does.
+pub fn offer(
+    z: tables::Table,
+    entries: &[u64],
+    moves: &[u64],
+    x: tables::Outcome,
+    out: &mut [u64],
+    n: usize,
+    room: usize,
+) -> usize
+    requires { ⌜ EntriesStand z (now entries) × MovesStand z (now moves) × Room room n (now out) ⌝ }
+    ensures { λ r. ⌜ Collects (tableOf z (now (entries .entry)) (now (moves .entry))) room n (now (out .entry)) (asResult x ∷ []) r (now (out .exit)) ⌝ }
+{
+    if room < n {
+        return n;
+    }
+    if is_held(z, entries, moves, x) {
+        return n;
+    }
+    tables::insert_result(out, n, room, x)
+}
+
+// Collects the results of the readings of the goal's symbol from the order-1 states left, joined to (order, b, r), for the set s: one choice
+// of a move for each state.
+pub fn read_from(
+    z: tables::Table,
+    entries: &[u64],
+    moves: &[u64],
+    to: Goal,
+    s: u64,
+    left: u64,
+    order: u64,
+    b: u64,
+    r: u64,
+    out: &mut [u64],
+    n: usize,
+    room: usize,
+) -> usize
+    requires { ⌜ EntriesStand z (now entries) × MovesStand z (now moves) × Room room n (now out) ⌝ }
+    ensures { λ k. ⌜ Collects (tableOf z (now (entries .entry)) (now (moves .entry))) room n (now (out .entry)) (readResults (tableOf z (now (entries .entry)) (now (moves .entry))) (to .control) (to .symbol) s (members left) (theJoins order b r)) k (now (out .exit)) ⌝ }
+{
+    if room < n {
+        return n;
+    }
+    if left == 0 {
+        let x = tables::Outcome {
+            control: to.control,
+            s: s,
+            symbol: to.symbol,
+            order: order,
+            b: b,
+            r: r,
+        };
+        return offer(z, entries, moves, x, out, n, room);
+    }
+    let part = sets::least_member(left);
+    let state = part.member;
+    let others = part.others;
+    let j = Joins {
+        order: order,
+        b: b,
+        r: r,
+    };
+    let count = z.moves;
+    let mut k = n;
+    let mut i: usize = 0;
+    while i < count {
+        let c = candidate(tables::move_at(moves, i), state, to.symbol, j);
+        if c.fits {
+            let m = c.joins;
+            k = read_from(
+                z,
+                entries,
+                moves,
+                to,
+                s,
+                others,
+                m.order,
+                m.b,
+                m.r,
+                out,
+                k,
+                room,
+            );
+        }
+        i += 1;
+    }
+    k
+}
+
+// Collects the results of the readings of the goal's symbol from the order-2 states left, joined to j: one choice of an edge for each state,
+// then the readings from the order-1 states that these edges and `named` name, for the join of the edges' sets and s.
+pub fn read_edges(
+    z: tables::Table,
+    inner: &[u64],
+    entries: &[u64],
+    moves: &[u64],
+    to: Goal,
+    j: Joins,
+    left: u64,
+    named: u64,
+    s: u64,
+    out: &mut [u64],
+    n: usize,
+    room: usize,
+) -> usize
+    requires { ⌜ EdgesStand z (now inner) × EntriesStand z (now entries) × MovesStand z (now moves) × Room room n (now out) ⌝ }
+    ensures { λ r. ⌜ Collects (automatonOf z (now (inner .entry)) (now (entries .entry)) (now (moves .entry))) room n (now (out .entry)) (edgeResults (automatonOf z (now (inner .entry)) (now (entries .entry)) (now (moves .entry))) (to .control) (to .symbol) (asJoins j) (members left) named s) r (now (out .exit)) ⌝ }
+{
+    if room < n {
+        return n;
+    }
+    if left == 0 {
+        return read_from(
+            z,
+            entries,
+            moves,
+            to,
+            s,
+            named,
+            j.order,
+            j.b,
+            j.r,
+            out,
+            n,
+            room,
+        );
+    }
+    let part = sets::least_member(left);
+    let state = part.member;
+    let others = part.others;
+    let count = z.edges + z.entries;
+    let mut k = n;
+    let mut i: usize = 0;
+    while i < count {
+        let e = tables::edge_of(z, inner, entries, i);
+        if e.state == state {
+            let more = sets::join(named, sets::one_bit(e.first));
+            let all = sets::join(s, e.s);
+            k = read_edges(
+                z,
+                inner,
+                entries,
+                moves,
+                to,
+                j,
+                others,
+                more,
+                all,
+                out,
+                k,
+                room,
+            );
+        }
+        i += 1;
+    }
+    k
+}
