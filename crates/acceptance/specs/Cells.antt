@@ -1,21 +1,21 @@
 -- The states that accept each cell, one word a cell, by one left-to-right pass over the cells. Cell n's word is that of the stack that cell
 -- n stands for.
 -- Assumes nothing.
-use Prim.Native.Nat.{ℕ, zero, suc, _+_, _<_, _≤_}
-use mathlib.Core.Bool.{Bool, true, false}
-use mathlib.Core.Path.{_≡_, refl, ap, ap₂, sym, _∙_}
-use mathlib.Core.List.{List, [], _∷_}
+pub mod Turns
+use Prim.Native.Nat.{ℕ, zero, suc, _<_}
+use mathlib.Core.Path.{_≡_, refl, ap, sym, _∙_}
+use mathlib.Core.List.{List, []}
 use native.Mathlib.Nat.{zero-add}
 use native.Mathlib.Omega.{arith}
 use lib.ListN.{length, getD, take}
 use lib.Seq.{getD-take}
 use Rattle.words.specs.Sets.{member}
-use Rattle.stacks.specs.Stack.{Stack1, Stack2, Annotation, of1, of2, nil1}
+use Rattle.stacks.specs.Stack.{Annotation, of1, of2}
 use Rattle.automata.specs.Automaton.{Automaton, edges}
 use Rattle.automata.specs.Acceptance.{accepts1, accepts2}
 use Rattle.walks.specs.Cell.{Cell, empty1, symbol, empty2, above, stacks, stackAt, stackOf, order1, order2}
 use Rattle.walks.specs.Cell.Formed.{Formed, Refers, cellAt, orderAt}
-use Rattle.walks.specs.Cell.Laws.{pass, length-pass, pass-at, noteOrder, note-of1, note-of2, stack-at, stack-order}
+use Rattle.walks.specs.Cell.Laws.{pass, length-pass, pass-at, noteOrder, stack-at, stack-order}
 use Rattle.acceptance.specs.Words.{moveMet, edgeMet, statesMet, word1, word2, wordNote}
 use Rattle.acceptance.specs.Words.Laws.{word1-member, word2-member}
 
@@ -25,6 +25,28 @@ cellWord A cells ws empty1 = A .final1
 cellWord A cells ws (symbol a u s) = statesMet (λ m. m .state) (moveMet a (orderAt cells u) (getD ws u 0) (getD ws s 0)) (A .moves)
 cellWord A cells ws empty2 = A .final2
 cellWord A cells ws (above w t) = statesMet (λ e. e .state) (edgeMet (getD ws w 0) (getD ws t 0)) (edges A)
+
+-- the order of the annotation of a symbol
+unfoldable pub annotationOrder : List Cell → Cell → ℕ
+annotationOrder cells empty1 = 0
+annotationOrder cells (symbol a u s) = orderAt cells u
+annotationOrder cells empty2 = 0
+annotationOrder cells (above w t) = 0
+
+-- the states that accept a cell, by the words of the cells before it, where a symbol's annotation is of order k
+unfoldable pub wordBy : Automaton → ℕ → List ℕ → Cell → ℕ
+wordBy A k ws empty1 = A .final1
+wordBy A k ws (symbol a u s) = statesMet (λ m. m .state) (moveMet a k (getD ws u 0) (getD ws s 0)) (A .moves)
+wordBy A k ws empty2 = A .final2
+wordBy A k ws (above w t) = statesMet (λ e. e .state) (edgeMet (getD ws w 0) (getD ws t 0)) (edges A)
+
+pub cellWord-by : (A : Automaton) (cells : List Cell) (ws : List ℕ) (c : Cell)
+    → cellWord A cells ws c ≡ wordBy A (annotationOrder cells c) ws c
+unfolding cellWord wordBy annotationOrder
+cellWord-by A cells ws empty1 = refl
+cellWord-by A cells ws (symbol a u s) = refl
+cellWord-by A cells ws empty2 = refl
+cellWord-by A cells ws (above w t) = refl
 
 -- the words of all cells
 unfoldable pub cellWords : Automaton → List Cell → List ℕ

@@ -2,6 +2,7 @@
 -- exactly the states that accept.
 -- Assumes nothing.
 pub mod Laws
+pub mod Turns
 use Prim.Native.Nat.{ℕ, zero, suc}
 use mathlib.Core.Bool.{Bool, true, false, _&&_}
 use mathlib.Core.List.{List, [], _∷_}
@@ -32,6 +33,11 @@ statesMet state met (x ∷ xs) = elim (met x) [
   | true ↦ join (single (state x)) (statesMet state met xs)
   | false ↦ statesMet state met xs
 ]
+
+-- the set with this state more, where the test holds
+unfoldable pub withState : Bool → ℕ → ℕ → ℕ
+withState true q w = join (single q) w
+withState false q w = w
 
 unfoldable mutual
   -- the order-1 states that accept an order-1 stack

@@ -1,1 +1,159 @@
-// Acceptance of the cells of a start file, one word of states a cell.
+// Acceptance of the cells of a start file: one word of states a cell, for the first so many moves and entries of a table.
+ghost use mathlib.Core.Path.{_≡_};
+ghost use Prim.Native.Nat.{_<_, _≤_};
+ghost use lib.ListN.{length, getD, take};
+ghost use Rattle.words.specs.Sets.{member, partOf};
+ghost use Rattle.tables.specs.Rows.{rowsIn};
+ghost use Rattle.tables.specs.Records.{moveRow, asMove, asEdge};
+ghost use Rattle.tables.specs.Held.{automatonOf, edgesIn, EdgesStand, EntriesStand};
+ghost use Rattle.cell_memory.specs.Memory.{cellOf};
+ghost use Rattle.acceptance.specs.Words.{noteMet, moveMet, edgeMet, statesMet, withState};
+ghost use Rattle.acceptance.specs.Named.{MovesNamed, EdgesNamed, Stands};
+ghost use Rattle.acceptance.specs.Cells.{wordBy};
+use cell_memory::Cell;
+use tables::Edge;
+use tables::Move;
+use tables::Table;
+
+// Whether an annotation of order k whose accepting states are `note` is as a move of this order and annotation set b asks.
+pub fn note_met(k: u64, note: u64, order: u64, b: u64) -> bool
+    ensures { λ r. ⌜ r ≡ noteMet k note order b ⌝ }
+{
+    if order == 0 {
+        return true;
+    }
+    if order == 1 {
+        if k != 1 {
+            return false;
+        }
+        return sets::part_of(b, note);
+    }
+    if k != 2 {
+        return false;
+    }
+    sets::part_of(b, note)
+}
+
+// Whether a move reads symbol a, where the annotation is of order k and accepted by `note`, and the rest is accepted by `rest`.
+pub fn move_met(m: Move, a: u64, k: u64, note: u64, rest: u64) -> bool
+    ensures { λ r. ⌜ r ≡ moveMet a k note rest (asMove m) ⌝ }
+{
+    if m.symbol != a {
+        return false;
+    }
+    if note_met(k, note, m.order, m.b) {
+        return sets::part_of(m.r, rest);
+    }
+    false
+}
+
+// Whether an edge is met by a top accepted by `top` on a rest accepted by `rest`.
+pub fn edge_met(e: Edge, top: u64, rest: u64) -> bool
+    requires { ⌜ e .first < 64 ⌝ }
+    ensures { λ r. ⌜ r ≡ edgeMet top rest (asEdge e) ⌝ }
+{
+    if sets::has(top, e.first) {
+        return sets::part_of(e.s, rest);
+    }
+    false
+}
+
+// The set with this state more, where the test holds.
+fn with_state(met: bool, state: u64, word: u64) -> u64
+    requires { ⌜ state < 64 ⌝ }
+    ensures { λ r. ⌜ r ≡ withState met state word ⌝ }
+{
+    if met {
+        return sets::join(sets::one_bit(state), word);
+    }
+    word
+}
+
+// The order-1 states that accept symbol a annotated by a stack of order k that the states `note` accept, on a rest that the states `rest`
+// accept.
+pub fn symbol_word(z: Table, moves: &[u64], a: u64, k: u64, note: u64, rest: u64) -> u64
+    requires { ⌜ MovesNamed z (now moves) ⌝ }
+    ensures { λ r. ⌜ r ≡ statesMet (λ m. m .state) (moveMet a k note rest) (rowsIn moveRow (z .moves) (now (moves .entry))) ⌝ }
+{
+    let n = z.moves;
+    let mut word: u64 = 0;
+    let mut i: usize = 0;
+    while i < n {
+        let m = tables::move_at(moves, i);
+        word = with_state(move_met(m, a, k, note, rest), m.state, word);
+        i += 1;
+    }
+    word
+}
+
+// The order-2 states that accept an order-1 stack that the states `top` accept on an order-2 stack that the states `rest` accept.
+pub fn above_word(z: Table, inner: &[u64], entries: &[u64], top: u64, rest: u64) -> u64
+    requires { ⌜ EdgesStand z (now inner) × EntriesStand z (now entries) × EdgesNamed z (now inner) (now entries) ⌝ }
+    ensures { λ r. ⌜ r ≡ statesMet (λ e. e .state) (edgeMet top rest) (edgesIn z (now (inner .entry)) (now (entries .entry))) ⌝ }
+{
+    let n = z.edges + z.entries;
+    let mut word: u64 = 0;
+    let mut i: usize = 0;
+    while i < n {
+        let e = tables::edge_of(z, inner, entries, i);
+        word = with_state(edge_met(e, top, rest), e.state, word);
+        i += 1;
+    }
+    word
+}
+
+// ---- words of cells
+
+// Whether the state accepts the cell.
+pub fn accepted(words: &[u64], cell: usize, state: u64) -> bool
+    requires { ⌜ (cell < length (now words)) × (state < 64) ⌝ }
+    ensures { λ r. ⌜ r ≡ member (getD (now (words .entry)) cell 0) state ⌝ }
+{
+    sets::has(words[cell], state)
+}
+
+// Whether every state of the set accepts the cell.
+pub fn all_accepted(words: &[u64], cell: usize, states: u64) -> bool
+    requires { ⌜ cell < length (now words) ⌝ }
+    ensures { λ r. ⌜ r ≡ partOf states (getD (now (words .entry)) cell 0) ⌝ }
+{
+    sets::part_of(states, words[cell])
+}
+
+// The word of cell i where it is one of the first n, and no state otherwise.
+fn word_before(words: &[u64], n: usize, i: usize) -> u64
+    requires { ⌜ n ≤ length (now words) ⌝ }
+    ensures { λ r. ⌜ r ≡ getD (take n (now (words .entry))) i 0 ⌝ }
+{
+    if i < n { words[i] } else { 0 }
+}
+
+// The states that accept a cell, the words of the n cells before it being known, where a symbol's annotation is of order k.
+pub fn cell_word(
+    z: Table,
+    inner: &[u64],
+    entries: &[u64],
+    moves: &[u64],
+    words: &[u64],
+    n: usize,
+    cell: Cell,
+    k: u64,
+) -> u64
+    requires { ⌜ Stands z (now inner) (now entries) (now moves) × (n ≤ length (now words)) ⌝ }
+    ensures { λ r. ⌜ r ≡ wordBy (automatonOf z (now (inner .entry)) (now (entries .entry)) (now (moves .entry))) k (take n (now (words .entry))) (cellOf cell) ⌝ }
+{
+    match cell {
+        Cell::Empty1 => z.final1,
+        Cell::Symbol(a, u, s) => {
+            let note = word_before(words, n, u as usize);
+            let rest = word_before(words, n, s as usize);
+            symbol_word(z, moves, a as u64, k, note, rest)
+        }
+        Cell::Empty2 => z.final2,
+        Cell::Above(w, t) => {
+            let top = word_before(words, n, w as usize);
+            let rest = word_before(words, n, t as usize);
+            above_word(z, inner, entries, top, rest)
+        }
+    }
+}

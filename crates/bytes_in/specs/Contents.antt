@@ -5,13 +5,14 @@ use mathlib.Core.Bool.{Bool, true, false, _&&_}
 use mathlib.Core.Path.{_≡_, refl, ap, ap₂, sym, _∙_}
 use mathlib.Core.List.{List, [], _∷_}
 use lib.ListN.{length, getD}
-use lib.Dec.{eqb, leb}
-use borrow.Author.Tests.{eqb-true, leb-true, eq-eqb, ne-eqb}
-use native.Mathlib.Nat.{mul-le-mul, add-zero, zero-add, add-suc, suc-add}
+use lib.Dec.{eqb}
+use borrow.Author.Tests.{eq-eqb, ne-eqb}
+use native.Mathlib.Nat.{mul-le-mul}
 use native.Mathlib.Numerals.{add-one}
 use native.Mathlib.Omega.{arith}
-use Rattle.words.specs.Lists.Laws.{by-test, and-left, and-right}
-use Rattle.files.specs.Bytes.{Body, kindOf, countOf, offsetOf, lineRight, bodiesPlaced, placed}
+use Rattle.words.specs.Lists.Laws.{by-test}
+use Rattle.files.specs.Bytes.{Body, countOf, offsetOf, lineRight, bodiesPlaced, placed}
+use Rattle.files.specs.Bytes.Laws.{line-facts, bodies-first, bodies-end, placed-bodies}
 use Rattle.bytes_in.specs.declared.Body.{Body as BodyValue}
 use Rattle.bytes_in.specs.declared.Next.{Next}
 use Rattle.bytes_in.specs.declared.Next.the-variants.{At, Wrong}
@@ -52,33 +53,11 @@ product-small {a} {b} h k =
     let p : a * b ≤ 65535 * 65535 = mul-le-mul {n₂ = 65535} {m₂ = 65535} (omega arith) (omega arith) in
     omega arith
 
--- what a right line says
-pub record Line (file : List ℕ) (n offset : ℕ) (b : Body) : Type 0 where
-  pub kind : kindOf file n ≡ b .kind
-  pub least : b .least ≤ countOf file n
-  pub most : countOf file n ≤ b .most
-  pub begins : offsetOf file n ≡ offset
-
-pub line-says : (file : List ℕ) (n offset : ℕ) (b : Body) → lineRight file n offset b ≡ true → Line file n offset b
-unfolding lineRight
-line-says file n offset b e =
-    let kind : Bool = eqb (kindOf file n) (b .kind) in
-    let least : Bool = leb (b .least) (countOf file n) in
-    let most : Bool = leb (countOf file n) (b .most) in
-    let e₃ : kind && least && most ≡ true = and-left _ (eqb (offsetOf file n) offset) e in
-    let e₂ : kind && least ≡ true = and-left _ most e₃ in
-    record {
-      kind = eqb-true _ _ (and-left kind least e₂);
-      least = leb-true _ _ (and-right kind least e₂);
-      most = leb-true _ _ (and-right (kind && least) most e₃);
-      begins = eqb-true _ _ (and-right (kind && least && most) _ e);
-    }
-
 pub nextBody-right : (file : List ℕ) (n offset count at : ℕ) (b : Body) → lineRight file n offset b ≡ true → at ≡ offsetOf file n
     → count ≡ countOf file n → At (at + count * b .size) ≡ nextBody file n offset b
 unfolding nextBody
 nextBody-right file n offset count at b e f g =
-    rw (e, nextBody) (ap₂ (λ (x y : ℕ). At (x + y * b .size)) (f ∙ line-says file n offset b e .begins) g)
+    rw (e, nextBody) (ap₂ (λ (x y : ℕ). At (x + y * b .size)) (f ∙ line-facts file n offset b e .offset-is) g)
 
 pub nextBody-wrong : (file : List ℕ) (n offset : ℕ) (b : Body) → lineRight file n offset b ≡ false → Wrong ≡ nextBody file n offset b
 unfolding nextBody
@@ -125,55 +104,18 @@ placed-wrong file n offset b bs e = placed-cons file n offset b bs ∙ rw (next-
 
 -- Bodies end no earlier than they begin.
 pub placed-within : (file : List ℕ) (n offset : ℕ) (bs : List Body) → bodiesPlaced file n offset bs ≡ true → offset ≤ length file
-unfolding bodiesPlaced
-placed-within file n offset [] e = let z : offset ≡ length file = eqb-true _ _ e in omega arith
+placed-within file n offset [] e = let z : offset ≡ length file = bodies-end file n offset e in omega arith
 placed-within file n offset (b ∷ bs) e =
     let z : offset + countOf file n * b .size ≤ length file =
-    placed-within file (suc n) _ bs (and-right (lineRight file n offset b) _ (sym (placed-cons file n offset b bs) ∙ e)) in
+    placed-within file (suc n) _ bs (bodies-first file n offset b bs e .1) in
     omega arith
 
 -- A file that is shorter than its contents has no bodies in place.
 pub placed-short : (bs : List Body) (file : List ℕ) → length file < 1 + 8 * length bs → placed bs file ≡ false
-unfolding placed
 placed-short bs file h =
     by-test (placed bs file)
-    (λ e.
-    let z : 1 + 8 * length bs ≤ length file = placed-within file 0 _ bs (and-right (eqb (getD file 0 0) (length bs)) _ e) in
-    absurd (omega arith))
+    (λ e. let z : 1 + 8 * length bs ≤ length file = placed-within file 0 _ bs (placed-bodies bs file e) in absurd (omega arith))
     (λ e. e)
-
--- what is known of the body of line n, where all bodies are in place
-pub record InPlace (file : List ℕ) (n : ℕ) (b : Body) : Type 0 where
-  pub contents : 9 + 8 * n ≤ length file
-  pub least : b .least ≤ countOf file n
-  pub most : countOf file n ≤ b .most
-  pub ends : offsetOf file n + countOf file n * b .size ≤ length file
-
-placed-tail : (file : List ℕ) (n offset : ℕ) (b : Body) (bs : List Body) → bodiesPlaced file n offset (b ∷ bs) ≡ true
-    → bodiesPlaced file (suc n) (offset + countOf file n * b .size) bs ≡ true
-placed-tail file n offset b bs e = and-right (lineRight file n offset b) _ (sym (placed-cons file n offset b bs) ∙ e)
-
-line-in-place : (file : List ℕ) (n offset : ℕ) (b : Body) (bs : List Body) → bodiesPlaced file n offset (b ∷ bs) ≡ true
-    → 9 + 8 * n ≤ length file → InPlace file n b
-line-in-place file n offset b bs e l =
-    let line : Line file n offset b = line-says file n offset b (and-left (lineRight file n offset b) _ (sym (placed-cons file n offset b bs) ∙ e)) in
-    let within : offset + countOf file n * b .size ≤ length file = placed-within file (suc n) _ bs (placed-tail file n offset b bs e) in
-    record { contents = l; least = line .least; most = line .most; ends = omega arith }
-
-bodies-in-place : (file : List ℕ) (m offset : ℕ) (bs : List Body) (n : ℕ) (d : Body) → bodiesPlaced file m offset bs ≡ true
-    → n < length bs → 1 + 8 * (m + length bs) ≤ length file → InPlace file (m + n) (getD bs n d)
-bodies-in-place file m offset [] n d e h l = absurd (omega arith)
-bodies-in-place file m offset (b ∷ bs) zero d e h l = rw add-zero (line-in-place file m offset b bs e (omega arith))
-bodies-in-place file m offset (b ∷ bs) (suc n) d e h l =
-    rw (add-suc, ← suc-add m n)
-    (bodies-in-place file (suc m) _ bs n d (placed-tail file m offset b bs e) (omega arith) (omega arith))
-
-pub placed-in : (bs : List Body) (file : List ℕ) (n : ℕ) (d : Body) → placed bs file ≡ true → n < length bs → InPlace file n (getD bs n d)
-unfolding placed
-placed-in bs file n d e h =
-    let all : bodiesPlaced file 0 (1 + 8 * length bs) bs ≡ true = and-right (eqb (getD file 0 0) (length bs)) _ e in
-    let l : 1 + 8 * length bs ≤ length file = placed-within file 0 _ bs all in
-    rw zero-add at (bodies-in-place file 0 _ bs n d all h (omega arith))
 
 -- ---- a loop over the lines
 

@@ -5,8 +5,8 @@ use mathlib.Core.Bool.{Bool, true, false, _&&_, and-false, false≢true}
 use mathlib.Core.Path.{_≡_, refl, ap, ap₂, sym, _∙_}
 use mathlib.Core.List.{List, [], _∷_, _++_, map, map-append, List·Memᴰ, List·Memᴰ·head, List·Memᴰ·append-cases, List·Memᴰ·eq-of-singleton, Memᴰ·append-right}
 use mathlib.Core.Logic.{⊎-elim}
-use lib.ListN.{length, getD, take, drop}
-use lib.Seq.{drop-drop, take-take, take-nil, getD-at}
+use lib.ListN.{take, drop}
+use lib.Seq.{drop-drop, take-take, take-nil}
 use native.Mathlib.Nat.{zero-add, add-zero, zero-mul, suc-mul, suc-add}
 use native.Mathlib.Numerals.{add-one}
 use native.Mathlib.Omega.{arith}
@@ -28,11 +28,6 @@ bodyOf file n size = take (countOf file n * size) (drop (offsetOf file n) file)
 
 -- ---- records by number
 
-pub length-records : (n size : ℕ) (b : List ℕ) → length (records n size b) ≡ n
-unfolding records
-length-records zero size b = refl
-length-records (suc n) size b = ap suc (length-records n size (drop size b))
-
 records-add : (i m size : ℕ) (b : List ℕ) → records (i + m) size b ≡ records i size b ++ records m size (drop (i * size) b)
 unfolding records
 records-add zero m size b = rw (zero-add, zero-mul)
@@ -51,10 +46,6 @@ records-split n size i b h =
 pub records-more : (size i : ℕ) (b : List ℕ) → records (i + 1) size b ≡ records i size b ++ (recordAt size i b ∷ [])
 unfolding records recordAt
 records-more size i b = records-add i 1 size b
-
-pub record-is : (n size i : ℕ) (b d : List ℕ) → i < n → getD (records n size b) i d ≡ recordAt size i b
-record-is n size i b d h =
-    rw (records-split n size i b h) (getD-at (records i size b) (recordAt size i b) _ d i (length-records i size b))
 
 drop-take : (k r : ℕ) (b : List ℕ) → drop k (take (k + r) b) ≡ take r (drop k b)
 drop-take zero r b = rw zero-add

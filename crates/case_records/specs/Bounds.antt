@@ -4,10 +4,9 @@ use Prim.Native.Nat.{ℕ, zero, suc, _+_, _/_, _%_, _^_, _≤_, _<_}
 use mathlib.Core.Bool.{Bool, true, false, _&&_, not}
 use mathlib.Core.Path.{_≡_, refl, ap, sym, _∙_}
 use lib.Dec.{eqb, ltb, leb}
-use borrow.Author.Tests.{leb-true, eq-eqb, ne-eqb}
+use borrow.Author.Tests.{eq-eqb, ne-eqb}
 use native.Mathlib.Omega.{arith}
-use Rattle.words.specs.Lists.Laws.{and-left, and-right}
-use Rattle.files.specs.Case.{Head, headRight, inner1, inner2, RuleBytes, ruleRight, EdgeBytes, edgeRight, noteRight, moveRight}
+use Rattle.files.specs.Case.{Head, inner1, inner2, RuleBytes, ruleRight, EdgeBytes, edgeRight, noteRight}
 use Rattle.case_records.specs.Inner.{every-below, every-between}
 
 -- b is right for the code
@@ -42,41 +41,6 @@ rule-parts h x = refl
 pub edge-parts : (h : Head) (x : EdgeBytes) → edgeRight h x ≡ secondRight h x && ltb (x .state) (h .P + h .I) && inner2 h (x .S)
 unfolding edgeRight secondRight
 edge-parts h x = refl
-
--- ---- heads
-
--- the ranges of a right head
-pub record Ranges (h : Head) : Type 0 where
-  pub some-control : 1 ≤ h .P
-  pub controls : h .P ≤ 8
-  pub inner-2 : h .I ≤ 8
-  pub inner-1 : h .J ≤ 16
-  pub some-symbol : 1 ≤ h .A
-  pub symbols : h .A ≤ 32
-
-pub head-ranges : (h : Head) → headRight h ≡ true → Ranges h
-unfolding headRight
-head-ranges h e =
-    let p : Bool = leb 1 (h .P) in
-    let q : Bool = leb (h .P) 8 in
-    let i : Bool = leb (h .I) 8 in
-    let j : Bool = leb (h .J) 16 in
-    let a : Bool = leb 1 (h .A) in
-    let b : Bool = leb (h .A) 32 in
-    let e₇ : p && q && i && j && a && b && inner2 h (h .final2) ≡ true = and-left _ (inner1 h (h .final1)) e in
-    let e₆ : p && q && i && j && a && b ≡ true = and-left _ (inner2 h (h .final2)) e₇ in
-    let e₅ : p && q && i && j && a ≡ true = and-left _ b e₆ in
-    let e₄ : p && q && i && j ≡ true = and-left _ a e₅ in
-    let e₃ : p && q && i ≡ true = and-left _ j e₄ in
-    let e₂ : p && q ≡ true = and-left _ i e₃ in
-    record {
-      some-control = leb-true _ _ (and-left p q e₂);
-      controls = leb-true _ _ (and-right p q e₂);
-      inner-2 = leb-true _ _ (and-right (p && q) i e₃);
-      inner-1 = leb-true _ _ (and-right (p && q && i) j e₄);
-      some-symbol = leb-true _ _ (and-right (p && q && i && j) a e₅);
-      symbols = leb-true _ _ (and-right (p && q && i && j && a) b e₆);
-    }
 
 -- ---- annotations, by their order
 

@@ -1,11 +1,10 @@
--- What the values of the code stand for: heads, operations, rules, edges and moves.
+-- What the values of the code stand for: heads, operations, rules and edges.
 -- Assumes nothing.
 use Prim.Native.Nat.{ℕ, zero, suc, _≤_, _<_}
 use mathlib.Core.Path.{_≡_, refl}
 use native.Mathlib.Omega.{arith}
 use Rattle.stacks.specs.Stack as Stack
 use Rattle.stacks.specs.System as System
-use Rattle.automata.specs.Automaton as Automaton
 use Rattle.files.specs.Case as Case
 use Rattle.files.specs.Case.{operationOf}
 use Rattle.case_records.specs.declared.Head.{Head}
@@ -13,7 +12,6 @@ use Rattle.case_records.specs.declared.Operation.{Operation}
 use Rattle.case_records.specs.declared.Operation.the-variants.{Rewrite, Push1, Push2, Copy, Pop1, Pop2, Collapse1, Collapse2}
 use Rattle.case_records.specs.declared.Rule.{Rule}
 use Rattle.case_records.specs.declared.Edge.{Edge}
-use Rattle.case_records.specs.declared.Move.{Move}
 
 abbrev pub theHead : Head → Case.Head
 theHead h =
@@ -42,9 +40,6 @@ theRule ρ =
 
 abbrev pub theEdge : Edge → Case.EdgeBytes
 theEdge e = record { state = e .state; second = e .second; S = e .others }
-
-abbrev pub theMove : Move → Automaton.Move
-theMove m = record { state = m .state; symbol = m .symbol; order = m .order; B = m .annotation; R = m .rest }
 
 -- Code 0 is read as 1 and codes above 8 as 8; a sound case has neither.
 pub operation-first : (code b : ℕ) → code < 2 → operationOf code b ≡ Stack.rewrite b

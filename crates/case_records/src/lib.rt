@@ -7,9 +7,11 @@ ghost use Rattle.files.specs.Case;
 ghost use Rattle.files.specs.Case.{headOf, headRight, ruleBytes, ruleRight, operationOf, ruleOf, edgeBytes, edgeRight, moveOf, noteRight, moveRight, edgeKey, moveKey};
 ghost use Rattle.words.specs.Order.{less};
 ghost use Rattle.bytes_in.specs.Records.{recordAt};
-ghost use Rattle.case_records.specs.Values.{theHead, theOperation, theRule, theEdge, theMove};
+ghost use Rattle.case_records.specs.Values.{theHead, theOperation, theRule, theEdge};
+ghost use Rattle.tables.specs.Records.{asMove};
 ghost use Rattle.case_records.specs.Bounds.{operandRight, secondRight};
 ghost use Rattle.case_records.specs.Keys.{lessThen};
+use tables::Move;
 
 // ---- values
 
@@ -48,15 +50,6 @@ pub struct Edge {
     pub state: u64,
     pub second: u64,
     pub others: u64,
-}
-
-// The move (order-1 state, symbol, annotation order, B, R).
-pub struct Move {
-    pub state: u64,
-    pub symbol: u64,
-    pub order: u64,
-    pub annotation: u64,
-    pub rest: u64,
 }
 
 // ---- readers
@@ -123,14 +116,14 @@ pub fn read_edge(b: &[u8]) -> Edge
 // A record of body 4.
 pub fn read_move(b: &[u8]) -> Move
     requires { ⌜ length (now b) ≡ 19 ⌝ }
-    ensures { λ r. ⌜ theMove r ≡ moveOf (now (b .entry)) ⌝ }
+    ensures { λ r. ⌜ asMove r ≡ moveOf (now (b .entry)) ⌝ }
 {
     Move {
         state: bytes_in::byte_at(b, 0),
         symbol: bytes_in::byte_at(b, 1),
         order: bytes_in::byte_at(b, 2),
-        annotation: bytes_in::number8(b, 3),
-        rest: bytes_in::number8(b, 11),
+        b: bytes_in::number8(b, 3),
+        r: bytes_in::number8(b, 11),
     }
 }
 
@@ -157,7 +150,7 @@ pub fn edge_at(body: &[u8], i: usize) -> Edge
 // Record number i of body 4.
 pub fn move_at(body: &[u8], i: usize) -> Move
     requires { ⌜ i * 19 + 19 ≤ length (now body) ⌝ }
-    ensures { λ r. ⌜ theMove r ≡ moveOf (recordAt 19 i (now (body .entry))) ⌝ }
+    ensures { λ r. ⌜ asMove r ≡ moveOf (recordAt 19 i (now (body .entry))) ⌝ }
 {
     let a = i * 19;
     let e = a + 19;
@@ -292,7 +285,7 @@ fn note_right(h: Head, order: u64, b: u64) -> bool
 // The move names an order-1 state, of which there are n, a symbol, a right B and inner order-1 states.
 pub fn move_right(h: Head, n: u64, m: Move) -> bool
     requires { ⌜ headRight (theHead h) ≡ true ⌝ }
-    ensures { λ r. ⌜ r ≡ moveRight (theHead h) n (theMove m) ⌝ }
+    ensures { λ r. ⌜ r ≡ moveRight (theHead h) n (asMove m) ⌝ }
 {
     if n <= m.state {
         return false;
@@ -300,8 +293,8 @@ pub fn move_right(h: Head, n: u64, m: Move) -> bool
     if h.symbols <= m.symbol {
         return false;
     }
-    if note_right(h, m.order, m.annotation) {
-        return inner1(h, m.rest);
+    if note_right(h, m.order, m.b) {
+        return inner1(h, m.r);
     }
     false
 }
@@ -332,11 +325,11 @@ pub fn edge_before(x: Edge, y: Edge) -> bool
 
 // The move x comes before y by (state, symbol, order, B, R).
 pub fn move_before(x: Move, y: Move) -> bool
-    ensures { λ r. ⌜ r ≡ less (moveKey (theMove x)) (moveKey (theMove y)) ⌝ }
+    ensures { λ r. ⌜ r ≡ less (moveKey (asMove x)) (moveKey (asMove y)) ⌝ }
 {
-    let rest = key_before(x.rest, y.rest, false);
-    let annotation = key_before(x.annotation, y.annotation, rest);
-    let order = key_before(x.order, y.order, annotation);
+    let r = key_before(x.r, y.r, false);
+    let b = key_before(x.b, y.b, r);
+    let order = key_before(x.order, y.order, b);
     let symbol = key_before(x.symbol, y.symbol, order);
     key_before(x.state, y.state, symbol)
 }

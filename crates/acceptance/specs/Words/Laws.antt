@@ -5,13 +5,12 @@ use mathlib.Core.Bool.{Bool, true, false, _&&_, _||_, and-true, and-false}
 use mathlib.Core.Path.{_≡_, refl, ap, ap₂, sym, _∙_}
 use mathlib.Core.List.{List, [], _∷_}
 use lib.Dec.{eqb}
-use borrow.Author.Tests.{eqb-true}
-use Rattle.words.specs.Sets.{member, join, single, partOf, members}
-use Rattle.words.specs.Sets.Laws.{member-join, member-empty, member-single, Has, has-in, in-has, part-has, has-part}
+use Rattle.words.specs.Sets.{member, partOf, members}
+use Rattle.words.specs.Sets.Laws.{member-join, member-empty, member-single, has-in, in-has, part-has, has-part}
 use Rattle.words.specs.Lists.{only, every, some-of}
 use Rattle.words.specs.Lists.Laws.{by-test, every-in, in-every, only-yes, only-no, some-of-cons}
 use Rattle.stacks.specs.Stack.{Stack1, nil1, cons1, Stack2, nil2, cons2, Annotation, of1, of2}
-use Rattle.automata.specs.Automaton.{Automaton, Move, Edge, edges}
+use Rattle.automata.specs.Automaton.{Automaton, edges}
 use Rattle.automata.specs.Acceptance.{accepts1, accepts2, acceptsNote}
 use Rattle.walks.specs.Cell.Laws.{noteOrder}
 use Rattle.acceptance.specs.Words.{noteMet, moveMet, edgeMet, statesMet, word1, word2, wordNote}

@@ -1,12 +1,15 @@
 -- `case_file::edge_body` meets its contract.
 -- Assumes nothing.
-use Rattle.case_file.specs.Bodies.{case-in-place}
+use native.Mathlib.Omega.{arith}
+use Rattle.files.specs.Case.Laws.{CasePlaces, case-places}
 use borrow.Author.Needs.{needs}
 use Rattle.case_file.proofs.edge_body.Statement.{statement}
 use Rattle.case_file.proofs.edge_body.Tie as tie
 
 body-part-requires : tie.Need-body-part-requires
-body-part-requires c κs = (case-in-place _ (c .before .pre) .edges .contents, search needs, case-in-place _ (c .before .pre) .edges .ends)
+body-part-requires c κs =
+    let p : CasePlaces (c .before .args .file .now) = case-places _ (c .before .pre) in
+    omega arith
 
 returns : tie.Need-returns
 returns c = search needs

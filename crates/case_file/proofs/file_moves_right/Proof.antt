@@ -3,10 +3,12 @@
 use Prim.Native.Nat.{ℕ}
 use mathlib.Core.Path.{ap, _∙_}
 use mathlib.Core.List.{List, map}
+use native.Mathlib.Omega.{arith}
 use Rattle.words.specs.Lists.{every}
 use Rattle.files.specs.Case.{moveOf, moveRight, moveRecords}
+use Rattle.files.specs.Case.Laws.{CasePlaces, case-places}
 use Rattle.case_records.specs.Values.{theHead}
-use Rattle.case_file.specs.Bodies.{case-in-place, body-fits, records-here}
+use Rattle.case_file.specs.Bodies.{body-fits, records-here}
 use borrow.Author.Needs.{needs}
 use Rattle.case_file.proofs.file_moves_right.Statement.{statement}
 use Rattle.case_file.proofs.file_moves_right.Tie as tie
@@ -15,12 +17,14 @@ move-body-requires : tie.Need-move-body-requires
 move-body-requires c κs = search needs
 
 count-of-requires : tie.Need-count-of-requires
-count-of-requires c κs = case-in-place _ (c .before .before .pre .0) .moves .contents
+count-of-requires c κs =
+    let p : CasePlaces (c .before .before .args .file .now) = case-places _ (c .before .before .pre .0) in
+    omega arith
 
 moves-right-requires : tie.Need-moves-right-requires
 moves-right-requires c κs =
-    let fits = body-fits _ _ _ _ _ (case-in-place _ (c .before .before .before .pre .0) .moves) (c .before .move-body .ensures) (c .count-of .ensures .0) in
-    (fits .0, fits .1, c .before .before .before .pre .1)
+    let p : CasePlaces (c .before .before .before .args .file .now) = case-places _ (c .before .before .before .pre .0) in
+    (body-fits _ _ _ _ _ (omega arith) (c .before .move-body .ensures) (c .count-of .ensures .0), omega arith, c .before .before .before .pre .1)
 
 returns : tie.Need-returns
 unfolding moveRecords

@@ -3,10 +3,12 @@
 use Prim.Native.Nat.{ℕ}
 use mathlib.Core.Path.{ap, _∙_}
 use mathlib.Core.List.{List, map}
+use native.Mathlib.Omega.{arith}
 use Rattle.words.specs.Lists.{every}
 use Rattle.files.specs.Case.{ruleBytes, ruleRight, ruleRecords}
+use Rattle.files.specs.Case.Laws.{CasePlaces, case-places}
 use Rattle.case_records.specs.Values.{theHead}
-use Rattle.case_file.specs.Bodies.{case-in-place, body-fits, records-here}
+use Rattle.case_file.specs.Bodies.{body-fits, records-here}
 use borrow.Author.Needs.{needs}
 use Rattle.case_file.proofs.file_rules_right.Statement.{statement}
 use Rattle.case_file.proofs.file_rules_right.Tie as tie
@@ -15,10 +17,14 @@ rule-body-requires : tie.Need-rule-body-requires
 rule-body-requires c κs = search needs
 
 count-of-requires : tie.Need-count-of-requires
-count-of-requires c κs = case-in-place _ (c .before .before .pre) .rules .contents
+count-of-requires c κs =
+    let p : CasePlaces (c .before .before .args .file .now) = case-places _ (c .before .before .pre) in
+    omega arith
 
 rules-right-requires : tie.Need-rules-right-requires
-rules-right-requires c κs = body-fits _ _ _ _ _ (case-in-place _ (c .before .before .before .pre) .rules) (c .before .rule-body .ensures) (c .count-of .ensures .0)
+rules-right-requires c κs =
+    let p : CasePlaces (c .before .before .before .args .file .now) = case-places _ (c .before .before .before .pre) in
+    (body-fits _ _ _ _ _ (omega arith) (c .before .rule-body .ensures) (c .count-of .ensures .0), omega arith)
 
 returns : tie.Need-returns
 unfolding ruleRecords

@@ -3,7 +3,7 @@
 use mathlib.Core.Path.{sym, _∙_}
 use borrow.Author.Tests.{not-true, not-false, le-leb, lt-leb}
 use Rattle.files.specs.Case.{recordsRight, states1}
-use Rattle.case_records.specs.Bounds.{head-ranges}
+use Rattle.files.specs.Case.Records.{head-bounds}
 use borrow.Author.Needs.{needs}
 use Rattle.case_file.proofs.records_right.Statement.{statement}
 use Rattle.case_file.proofs.records_right.Tie as tie
@@ -25,7 +25,7 @@ returns-2 c =
     (simp (sym (c .before .before .before .file-rules-right .ensures) ∙ not-false _ (c .before .before .if1 .left), sym (c .before .file-edges-right .ensures) ∙ not-true _ (c .if2 .taken)))
 
 states-of-requires : tie.Need-states-of-requires
-states-of-requires c κs = (c .before .before .before .before .before .pre .0, head-ranges _ (c .before .before .before .before .before .pre .1) .inner-1)
+states-of-requires c κs = (c .before .before .before .before .before .pre .0, head-bounds _ (c .before .before .before .before .before .pre .1) .inner1-few)
 
 returns-3 : tie.Need-returns-3
 unfolding recordsRight states1

@@ -6,7 +6,9 @@ use mathlib.Core.Path.{_≡_, ap, sym, _∙_}
 use mathlib.Core.List.{List, map}
 use Rattle.words.specs.Order.{rising}
 use Rattle.files.specs.Case.{edgeBytes, edgeKey, edgeRecords, moveOf, moveKey, moveRecords}
-use Rattle.case_file.specs.Bodies.{case-in-place, body-fits, records-here}
+use native.Mathlib.Omega.{arith}
+use Rattle.files.specs.Case.Laws.{CasePlaces, case-places}
+use Rattle.case_file.specs.Bodies.{body-fits, records-here}
 use borrow.Author.Needs.{needs}
 use Rattle.case_file.proofs.records_rising.Statement.{statement}
 use Rattle.case_file.proofs.records_rising.Tie as tie
@@ -15,19 +17,27 @@ edge-body-requires : tie.Need-edge-body-requires
 edge-body-requires c κs = search needs
 
 count-of-requires : tie.Need-count-of-requires
-count-of-requires c κs = case-in-place _ (c .before .before .pre) .edges .contents
+count-of-requires c κs =
+    let p : CasePlaces (c .before .before .args .file .now) = case-places _ (c .before .before .pre) in
+    omega arith
 
 edges-rising-requires : tie.Need-edges-rising-requires
-edges-rising-requires c κs = body-fits _ _ _ _ _ (case-in-place _ (c .before .before .before .pre) .edges) (c .before .edge-body .ensures) (c .count-of .ensures .0)
+edges-rising-requires c κs =
+    let p : CasePlaces (c .before .before .before .args .file .now) = case-places _ (c .before .before .before .pre) in
+    (body-fits _ _ _ _ _ (omega arith) (c .before .edge-body .ensures) (c .count-of .ensures .0), omega arith)
 
 move-body-requires : tie.Need-move-body-requires
 move-body-requires c κs = search needs
 
 count-of-requires-2 : tie.Need-count-of-requires-2
-count-of-requires-2 c κs = case-in-place _ (c .before .before .before .before .before .before .pre) .moves .contents
+count-of-requires-2 c κs =
+    let p : CasePlaces (c .before .before .before .before .before .before .args .file .now) = case-places _ (c .before .before .before .before .before .before .pre) in
+    omega arith
 
 moves-rising-requires : tie.Need-moves-rising-requires
-moves-rising-requires c κs = body-fits _ _ _ _ _ (case-in-place _ (c .before .before .before .before .before .before .before .pre) .moves) (c .before .move-body .ensures) (c .count-of2 .ensures .0)
+moves-rising-requires c κs =
+    let p : CasePlaces (c .before .before .before .before .before .before .before .args .file .now) = case-places _ (c .before .before .before .before .before .before .before .pre) in
+    (body-fits _ _ _ _ _ (omega arith) (c .before .move-body .ensures) (c .count-of2 .ensures .0), omega arith)
 
 returns : tie.Need-returns
 unfolding edgeRecords moveRecords

@@ -4,9 +4,11 @@ use Prim.Native.Nat.{ℕ, _+_}
 use mathlib.Core.Path.{ap, _∙_}
 use mathlib.Core.List.{List, map}
 use lib.ListN.{length}
+use native.Mathlib.Omega.{arith}
 use Rattle.files.specs.Case.{edgeBytes, edgeRecords, entriesOf}
+use Rattle.files.specs.Case.Laws.{CasePlaces, case-places}
 use Rattle.case_records.specs.Values.{theHead}
-use Rattle.case_file.specs.Bodies.{case-in-place, body-fits, records-here}
+use Rattle.case_file.specs.Bodies.{body-fits, records-here}
 use borrow.Author.Needs.{needs}
 use Rattle.case_file.proofs.states_of.Statement.{statement}
 use Rattle.case_file.proofs.states_of.Tie as tie
@@ -15,10 +17,14 @@ edge-body-requires : tie.Need-edge-body-requires
 edge-body-requires c κs = search needs
 
 count-of-requires : tie.Need-count-of-requires
-count-of-requires c κs = case-in-place _ (c .before .before .pre .0) .edges .contents
+count-of-requires c κs =
+    let p : CasePlaces (c .before .before .args .file .now) = case-places _ (c .before .before .pre .0) in
+    omega arith
 
 entries-in-requires : tie.Need-entries-in-requires
-entries-in-requires c κs = body-fits _ _ _ _ _ (case-in-place _ (c .before .before .before .pre .0) .edges) (c .before .edge-body .ensures) (c .count-of .ensures .0)
+entries-in-requires c κs =
+    let p : CasePlaces (c .before .before .before .args .file .now) = case-places _ (c .before .before .before .pre .0) in
+    (body-fits _ _ _ _ _ (omega arith) (c .before .edge-body .ensures) (c .count-of .ensures .0), omega arith)
 
 add-result : tie.Need-add-result
 add-result c = search needs

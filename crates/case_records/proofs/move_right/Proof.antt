@@ -1,9 +1,9 @@
 -- `case_records::move_right` meets its contract.
 -- Assumes nothing.
+use Rattle.files.specs.Case.Records.{head-bounds}
 use mathlib.Core.Path.{sym, _∙_}
 use borrow.Author.Tests.{lt-ltb, le-ltb}
 use Rattle.files.specs.Case.{moveRight}
-use Rattle.case_records.specs.Bounds.{head-ranges}
 use borrow.Author.Needs.{needs}
 use Rattle.case_records.proofs.move_right.Statement.{statement}
 use Rattle.case_records.proofs.move_right.Tie as tie
@@ -20,7 +20,7 @@ note-right-requires : tie.Need-note-right-requires
 note-right-requires c κs = search needs
 
 inner1-requires : tie.Need-inner1-requires
-inner1-requires c κs = head-ranges _ (c .before .before .before .before .before .before .before .pre) .inner-1
+inner1-requires c κs = head-bounds _ (c .before .before .before .before .before .before .before .pre) .inner1-few
 
 returns-3 : tie.Need-returns-3
 unfolding moveRight

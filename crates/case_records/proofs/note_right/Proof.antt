@@ -1,9 +1,10 @@
 -- `case_records::note_right` meets its contract.
 -- Assumes nothing.
+use Rattle.files.specs.Case.Records.{head-bounds}
 use mathlib.Core.Path.{sym, _∙_}
 use native.Mathlib.Omega.{arith}
 use Rattle.files.specs.Case.{noteRight}
-use Rattle.case_records.specs.Bounds.{head-ranges, note-empty, note-one, note-two, note-more}
+use Rattle.case_records.specs.Bounds.{note-empty, note-one, note-two, note-more}
 use Rattle.case_records.proofs.note_right.Statement.{statement}
 use Rattle.case_records.proofs.note_right.Tie as tie
 
@@ -15,10 +16,10 @@ returns-2 : tie.Need-returns-2
 returns-2 c = sym (note-empty _ _ _ (c .before .if1 .left) (c .if2 .taken))
 
 inner1-requires : tie.Need-inner1-requires
-inner1-requires c κs = head-ranges _ (c .before .before .before .pre) .inner-1
+inner1-requires c κs = head-bounds _ (c .before .before .before .pre) .inner1-few
 
 inner2-requires : tie.Need-inner2-requires
-inner2-requires c κs = (head-ranges _ (c .before .before .before .pre) .controls, head-ranges _ (c .before .before .before .pre) .inner-2)
+inner2-requires c κs = (head-bounds _ (c .before .before .before .pre) .controls-few, head-bounds _ (c .before .before .before .pre) .inner2-few)
 
 returns-3 : tie.Need-returns-3
 returns-3 c = c .inner1 .ensures ∙ sym (note-one _ _ _ (c .before .match .keys1) (c .before .before .if2 .left))

@@ -1,0 +1,4 @@
+pub mod First
+pub mod Search
+pub mod Answer
+pub mod Words

@@ -1,0 +1,63 @@
+-- Joins, moves and choices as the words of the code.
+-- Assumes nothing.
+pub mod Laws
+pub mod Reading
+pub mod Edges
+use Prim.Native.Nat.{ℕ, _≤_}
+use mathlib.Core.Bool.{_&&_}
+use mathlib.Core.Option.{Option, none, some, Option·map}
+use mathlib.Core.List.{List, [], _∷_}
+use lib.Dec.{eqb}
+use Rattle.words.specs.Sets.{join, single, members}
+use Rattle.automata.specs.Automaton.{Automaton, moveAt, edgeAt}
+use Rattle.automata.specs.Derivation.{Joins, joinMove, named}
+use Rattle.tables.specs.declared.Table.{Table}
+use Rattle.tables.specs.Rows.{rowsIn}
+use Rattle.tables.specs.Held.{EdgesStand, EntriesStand, MovesStand}
+use Rattle.tables.specs.Records.{moveRow}
+use Rattle.first_reading.specs.declared.Joins.{Joins as JoinsWords}
+use Rattle.first_reading.specs.declared.Joined.{Joined}
+use Rattle.first_reading.specs.declared.Joined.the-variants.{Nothing, Into}
+use Rattle.first_reading.specs.First.{onlyIf}
+use Rattle.first_reading.specs.Answer.{writtenAll}
+use Rattle.first_reading.specs.Search.{Numbers, withEdge, firstEdges}
+use Rattle.first_reading.specs.Search.Laws.{readOn}
+
+abbrev pub joinsOf : JoinsWords → Joins
+joinsOf j = record { order = j .order; B = j .b; R = j .r }
+
+abbrev pub joinsWords : ℕ → ℕ → ℕ → Joins
+joinsWords order b r = record { order = order; B = b; R = r }
+
+abbrev pub joinsIn : Joined → Option Joins
+joinsIn Nothing = none
+joinsIn (Into j) = some (joinsOf j)
+
+-- An automaton of the first n moves alone: readings depend on nothing else.
+abbrev pub movesIn : ℕ → List ℕ → Automaton
+movesIn n words = record { J = 0; final1 = 0; final2 = 0; inner = []; entries = []; moves = rowsIn moveRow n words }
+
+-- what reading on with move i for state q gives, the states qs being left
+unfoldable pub tried : Automaton → ℕ → List ℕ → ℕ → List ℕ → Joins → ℕ → Option (List ℕ)
+tried A a goal q qs j i = onlyIf (eqb (moveAt A i .state) q && eqb (moveAt A i .symbol) a)
+    (Option·map (λ ms. i ∷ ms) (readOn A a goal qs (joinMove j (moveAt A i))))
+
+-- what going on with edge e for state q gives, the states qs being left
+unfoldable pub followed : Automaton → ℕ → List ℕ → Joins → ℕ → ℕ → List ℕ → ℕ → ℕ → ℕ → Option Numbers
+followed A a goal j S q qs names s e = onlyIf (eqb (edgeAt A e .state) q)
+    (Option·map (withEdge e) (firstEdges A a goal j S qs (join names (single (edgeAt A e .first))) (join s (edgeAt A e .S))))
+
+-- What is asked of the tables: that they are in their slices, and their sizes.
+pub record Stands (z : Table) (inner entries moves : List ℕ) : Type 0 where
+  pub edges-stand : EdgesStand z inner
+  pub entries-stand : EntriesStand z entries
+  pub moves-stand : MovesStand z moves
+  pub edges-few : z .edges ≤ 64
+  pub moves-few : z .moves ≤ 1024
+
+-- how the edges and the moves that are chosen are written: the edges for these states, the moves for those that the edges and `names` name
+unfoldable pub writesEdges : List ℕ → Numbers → List ℕ → List ℕ
+writesEdges qs n ws = writtenAll qs (n .edges) ws
+
+unfoldable pub writesMoves : Automaton → ℕ → Numbers → List ℕ → List ℕ
+writesMoves A names n ws = writtenAll (members (join names (named A (n .edges)))) (n .moves) ws

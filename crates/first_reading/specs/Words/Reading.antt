@@ -1,0 +1,108 @@
+-- The search for the first reading, as the code goes: the base, one move tried, and the loop over the moves of the least state.
+-- Assumes nothing.
+use Prim.Native.Nat.{ℕ, suc, _+_, _*_, _<_}
+use mathlib.Core.Bool.{Bool, true, false, _&&_}
+use mathlib.Core.Path.{_≡_, refl, ap, sym, _∙_}
+use mathlib.Core.Option.{Option, some, Option·map}
+use mathlib.Core.List.{List, [], _∷_}
+use native.Mathlib.Omega.{arith}
+use lib.ListN.{length, getD, set}
+use lib.Dec.{eqb}
+use Rattle.words.specs.Sets.{members}
+use Rattle.words.specs.Sets.Laws.{members-empty}
+use Rattle.words.specs.Order.{same}
+use Rattle.automata.specs.Automaton.{Automaton, Move, noMove, moveAt, movesOf}
+use Rattle.automata.specs.Derivation.{Result, Joins, joinMove}
+use Rattle.tables.specs.Rows.{rowAt, rowsIn}
+use Rattle.tables.specs.Rows.Laws.{length-rowsIn, getD-rowsIn}
+use Rattle.tables.specs.Records.{moveRow}
+use Rattle.first_reading.specs.declared.Joined.{Joined}
+use Rattle.first_reading.specs.declared.Joined.the-variants.{Nothing}
+use Rattle.first_reading.specs.First.{onlyIf, isSome, firstBelow}
+use Rattle.first_reading.specs.First.Laws.{map-onlyIf, atPlace, firstOf-places}
+use Rattle.first_reading.specs.Answer.{writtenAll, writtenBy, Answer}
+use Rattle.first_reading.specs.Answer.Laws.{answer-none, answer-eq, answer-yes, answer-no}
+use Rattle.first_reading.specs.Search.{joinsKey, wanted, firstReading}
+use Rattle.first_reading.specs.Search.Laws.{readOn, firstReading-cons}
+use Rattle.first_reading.specs.Search.Parts.{within, read-within}
+use Rattle.first_reading.specs.Words.{joinsIn, movesIn, tried}
+
+-- ---- no state is left
+
+pub answer-base : (A : Automaton) (a : ℕ) (x : Result) (left : ℕ) (j : Joins) (ws : List ℕ) (t : Bool) → left ≡ 0 → t ≡ same (joinsKey j) (wanted x)
+    → Answer (firstReading A a (wanted x) (members left) j) (writtenAll (members left)) t ws ws
+unfolding firstReading isSome writtenBy writtenAll onlyIf
+answer-base A a x left j ws t z e =
+    let l : members left ≡ [] = ap members z ∙ members-empty in
+    rw l (record { success = e ∙ found (same (joinsKey j) (wanted x)); words = unchanged (same (joinsKey j) (wanted x)) })
+  where
+    found : (u : Bool) → u ≡ isSome {B = List ℕ} (onlyIf u (some []))
+    found true = refl
+    found false = refl
+
+    unchanged : (u : Bool) → ws ≡ writtenBy (writtenAll []) (onlyIf u (some [])) ws
+    unchanged true = refl
+    unchanged false = refl
+
+-- ---- one move
+
+module _ (n : ℕ) (moves : List ℕ) (a : ℕ) (x : Result) (q : ℕ) (qs : List ℕ) (j : Joins) (i : ℕ) (below : i < n) where
+  -- what move i gives
+  abbrev triedAt : Option (List ℕ)
+  triedAt = tried (movesIn n moves) a (wanted x) q qs j i
+
+  tried-joins : (o : Option Joins)
+      → o ≡ onlyIf (eqb (rowAt moveRow moves i .state) q && eqb (rowAt moveRow moves i .symbol) a) (within x (joinMove j (rowAt moveRow moves i)))
+      → triedAt ≡ Option·map (λ ms. i ∷ ms) (readOn (movesIn n moves) a (wanted x) qs o)
+  unfolding tried moveAt onlyIf readOn
+  tried-joins o e =
+      let A : Automaton = movesIn n moves in
+      let row : Move = rowAt moveRow moves i in
+      let is : getD (rowsIn moveRow n moves) i noMove ≡ row = getD-rowsIn moveRow n moves i noMove below in
+      ap (λ (m : Move). onlyIf (eqb (m .state) q && eqb (m .symbol) a) (Option·map (λ ms. i ∷ ms) (readOn A a (wanted x) qs (joinMove j m)))) is
+      ∙ sym (map-onlyIf (λ ms. i ∷ ms) (eqb (row .state) q && eqb (row .symbol) a) (readOn A a (wanted x) qs (joinMove j row)))
+      ∙ ap (Option·map (λ ms. i ∷ ms))
+      (ap (onlyIf (eqb (row .state) q && eqb (row .symbol) a)) (sym (read-within A a x qs (joinMove j row)))
+      ∙ inside (eqb (row .state) q && eqb (row .symbol) a) (within x (joinMove j row))
+      ∙ ap (readOn A a (wanted x) qs) (sym e))
+    where
+      inside : (t : Bool) (p : Option Joins) → onlyIf t (readOn (movesIn n moves) a (wanted x) qs p) ≡ readOn (movesIn n moves) a (wanted x) qs (onlyIf t p)
+      inside true p = refl
+      inside false p = refl
+
+  -- the move gives no joins
+  pub tried-nothing : (ws : List ℕ) (c : Joined) → c ≡ Nothing
+      → joinsIn c ≡ onlyIf (eqb (rowAt moveRow moves i .state) q && eqb (rowAt moveRow moves i .symbol) a) (within x (joinMove j (rowAt moveRow moves i)))
+      → Answer triedAt (writtenAll (q ∷ qs)) false ws ws
+  unfolding readOn
+  tried-nothing ws c z e = answer-none ws (tried-joins (joinsIn c) e ∙ ap (λ (d : Joined). Option·map (λ ms. i ∷ ms) (readOn (movesIn n moves) a (wanted x) qs (joinsIn d))) z)
+
+  -- the rest of the reading is searched with the joins k
+  module _ (ws last : List ℕ) (c : Joined) (k : Joins) (z : joinsIn c ≡ some k)
+      (e : joinsIn c ≡ onlyIf (eqb (rowAt moveRow moves i .state) q && eqb (rowAt moveRow moves i .symbol) a) (within x (joinMove j (rowAt moveRow moves i))))
+    where
+      tried-into : triedAt ≡ Option·map (λ ms. i ∷ ms) (firstReading (movesIn n moves) a (wanted x) qs k)
+      unfolding readOn
+      tried-into = tried-joins (joinsIn c) e ∙ ap (λ (o : Option Joins). Option·map (λ ms. i ∷ ms) (readOn (movesIn n moves) a (wanted x) qs o)) z
+
+      pub tried-yes : Answer (firstReading (movesIn n moves) a (wanted x) qs k) (writtenAll qs) true ws last → Answer triedAt (writtenAll (q ∷ qs)) true ws (set last q i)
+      unfolding writtenAll
+      tried-yes h = answer-eq tried-into (answer-yes (λ ms. i ∷ ms) (writtenAll qs) (writtenAll (q ∷ qs)) (λ l. set l q i) (λ ms l. refl) h)
+
+      pub tried-no : Answer (firstReading (movesIn n moves) a (wanted x) qs k) (writtenAll qs) false ws last → Answer triedAt (writtenAll (q ∷ qs)) false ws last
+      tried-no h = answer-eq tried-into (answer-no (λ ms. i ∷ ms) (writtenAll qs) (writtenAll (q ∷ qs)) h)
+
+-- ---- the loop over the moves
+
+pub reading-below : (n : ℕ) (moves : List ℕ) (a : ℕ) (goal : List ℕ) (left q : ℕ) (qs : List ℕ) (j : Joins) → members left ≡ q ∷ qs
+    → firstReading (movesIn n moves) a goal (members left) j ≡ firstBelow n (tried (movesIn n moves) a goal q qs j)
+unfolding tried movesOf moveAt atPlace
+reading-below n moves a goal left q qs j e =
+    ap (λ (l : List ℕ). firstReading (movesIn n moves) a goal l j) e
+    ∙ firstReading-cons (movesIn n moves) a goal q qs j
+    ∙ firstOf-places (λ m. eqb (m .state) q && eqb (m .symbol) a) (rowsIn moveRow n moves) noMove _
+    ∙ ap (λ (k : ℕ). firstBelow k (tried (movesIn n moves) a goal q qs j)) (length-rowsIn moveRow n moves)
+
+-- the measure falls with the members left
+pub fewer : (l qs : List ℕ) (q m : ℕ) → l ≡ q ∷ qs → length l * 2 ≡ m → length qs * 2 + 1 < m
+fewer l qs q m e h = let k : length l ≡ suc (length qs) = ap length e in omega arith

@@ -1,0 +1,275 @@
+// The first reading, and the first choice of edges with a reading, whose joined sets are those of a known result. Each is found by recursion
+// over the states left, with the joins carried along.
+ghost use mathlib.Core.Path.{_≡_};
+ghost use mathlib.Core.Bool.{_&&_};
+ghost use mathlib.Core.List.{_∷_};
+ghost use Prim.Native.Nat.{_<_, _≤_, _+_, _*_, max};
+ghost use lib.ListN.{length};
+ghost use lib.Dec.{eqb};
+ghost use Rattle.words.specs.Sets.{members};
+ghost use Rattle.words.specs.Order.{same};
+ghost use Rattle.automata.specs.Automaton.{moveAt};
+ghost use Rattle.automata.specs.Derivation.{clash, joinMove};
+ghost use Rattle.tables.specs.Held.{automatonOf};
+ghost use Rattle.tables.specs.Rows.{rowAt};
+ghost use Rattle.tables.specs.Records.{moveRow, asMove, asResult};
+ghost use Rattle.first_reading.specs.First.{onlyIf};
+ghost use Rattle.first_reading.specs.Search.{joinsKey, wanted, firstReading, firstEdges};
+ghost use Rattle.first_reading.specs.Search.Parts.{within};
+ghost use Rattle.first_reading.specs.Words.{joinsOf, joinsWords, joinsIn, movesIn, tried, followed, writesEdges, writesMoves, Stands};
+ghost use Rattle.first_reading.specs.Answer.{writtenAll, Answer, Answers};
+use tables::Move;
+use tables::Outcome;
+use tables::Table;
+
+// Joined annotation sets, of one order, and joined rest sets.
+pub struct Joins {
+    pub order: u64,
+    pub b: u64,
+    pub r: u64,
+}
+
+// The joins with one move more, where they are parts of those wanted.
+enum Joined {
+    Nothing,
+    Into(Joins),
+}
+
+// Whether one order is 1 and the other 2.
+fn clashes(k: u64, l: u64) -> bool
+    ensures { λ r. ⌜ r ≡ clash k l ⌝ }
+{
+    if k == 0 {
+        return false;
+    }
+    if l == 0 {
+        return false;
+    }
+    k != l
+}
+
+fn greater(k: u64, l: u64) -> u64
+    ensures { λ r. ⌜ r ≡ max k l ⌝ }
+{
+    if k < l {
+        return l;
+    }
+    k
+}
+
+// The joins with move m, where orders do not clash and the sets are parts of those of x.
+fn join_within(j: Joins, m: Move, x: Outcome) -> Joined
+    ensures { λ r. ⌜ joinsIn r ≡ within (asResult x) (joinMove (joinsOf j) (asMove m)) ⌝ }
+{
+    if clashes(j.order, m.order) {
+        return Joined::Nothing;
+    }
+    let b = sets::join(j.b, m.b);
+    if !sets::part_of(b, x.b) {
+        return Joined::Nothing;
+    }
+    let r = sets::join(j.r, m.r);
+    if !sets::part_of(r, x.r) {
+        return Joined::Nothing;
+    }
+    Joined::Into(Joins {
+        order: greater(j.order, m.order),
+        b,
+        r,
+    })
+}
+
+// The joins with move i, where it is a move on a of state q.
+fn candidate(moves: &[u64], i: usize, q: u64, a: u64, j: Joins, x: Outcome) -> Joined
+    requires { ⌜ i * 5 + 5 ≤ length (now moves) ⌝ }
+    ensures { λ r. ⌜ joinsIn r ≡ onlyIf (eqb (rowAt moveRow (now (moves .entry)) i .state) q && eqb (rowAt moveRow (now (moves .entry)) i .symbol) a) (within (asResult x) (joinMove (joinsOf j) (rowAt moveRow (now (moves .entry)) i))) ⌝ }
+{
+    let m = tables::move_at(moves, i);
+    if m.state != q {
+        return Joined::Nothing;
+    }
+    if m.symbol != a {
+        return Joined::Nothing;
+    }
+    join_within(j, m, x)
+}
+
+// Whether these joins are those of x.
+fn is_wanted(order: u64, b: u64, r: u64, x: Outcome) -> bool
+    ensures { λ t. ⌜ t ≡ same (joinsKey (joinsOf (record { order = order; b = b; r = r }))) (wanted (asResult x)) ⌝ }
+{
+    if order != x.order {
+        return false;
+    }
+    if b != x.b {
+        return false;
+    }
+    r == x.r
+}
+
+// Reads on with move i for state q, the states `others` being left. On success the numbers of the moves stand in `chosen`.
+fn read_with(
+    moves: &[u64],
+    n: usize,
+    a: u64,
+    q: u64,
+    others: u64,
+    i: usize,
+    order: u64,
+    b: u64,
+    r: u64,
+    x: Outcome,
+    chosen: &mut [u16],
+) -> bool
+    requires { ⌜ (n * 5 ≤ length (now moves)) × (n ≤ 1024) × (i < n) × (q < 64) × (length (now chosen) ≡ 64) ⌝ }
+    ensures { λ t. ⌜ Answer (tried (movesIn n (now (moves .entry))) a (wanted (asResult x)) q (members others) (joinsWords order b r) i) (writtenAll (q ∷ members others)) t (now (chosen .entry)) (now (chosen .exit)) ⌝ }
+{
+    let j = Joins { order, b, r };
+    let Joined::Into(k) = candidate(moves, i, q, a, j, x) else {
+        return false;
+    };
+    if first_reading(moves, n, a, others, k.order, k.b, k.r, x, chosen) {
+        let at = q as usize;
+        chosen[at] = i as u16;
+        return true;
+    }
+    false
+}
+
+// The first reading of a from the states left whose sets, joined to those given, are those of x: whether there is one. On success the
+// number of each state's move stands in `chosen`.
+pub fn first_reading(
+    moves: &[u64],
+    n: usize,
+    a: u64,
+    left: u64,
+    order: u64,
+    b: u64,
+    r: u64,
+    x: Outcome,
+    chosen: &mut [u16],
+) -> bool
+    requires { ⌜ (n * 5 ≤ length (now moves)) × (n ≤ 1024) × (length (now chosen) ≡ 64) ⌝ }
+    ensures { λ t. ⌜ Answer (firstReading (movesIn n (now (moves .entry))) a (wanted (asResult x)) (members left) (joinsWords order b r)) (writtenAll (members left)) t (now (chosen .entry)) (now (chosen .exit)) ⌝ }
+{
+    if left == 0 {
+        return is_wanted(order, b, r, x);
+    }
+    let d = sets::least_member(left);
+    let q = d.member;
+    let others = d.others;
+    let mut i: usize = 0;
+    while i < n {
+        if read_with(moves, n, a, q, others, i, order, b, r, x, chosen) {
+            return true;
+        }
+        i += 1;
+    }
+    false
+}
+
+// Goes on with edge e for state q, the states `others` being left. On success the numbers of the edges stand in `edges` and those of the
+// moves in `chosen`.
+fn follow(
+    z: Table,
+    inner: &[u64],
+    entries: &[u64],
+    moves: &[u64],
+    a: u64,
+    q: u64,
+    others: u64,
+    e: usize,
+    names: u64,
+    s: u64,
+    j: Joins,
+    x: Outcome,
+    edges: &mut [u16],
+    chosen: &mut [u16],
+) -> bool
+    requires { ⌜ Stands z (now inner) (now entries) (now moves) × (e < z .edges + z .entries) × (q < 64) × (length (now edges) ≡ 64) × (length (now chosen) ≡ 64) ⌝ }
+    ensures { λ t. ⌜ Answers (followed (automatonOf z (now (inner .entry)) (now (entries .entry)) (now (moves .entry))) a (wanted (asResult x)) (joinsOf j) (x .s) q (members others) names s e) (writesEdges (q ∷ members others)) (writesMoves (automatonOf z (now (inner .entry)) (now (entries .entry)) (now (moves .entry))) names) t (now (edges .entry)) (now (edges .exit)) (now (chosen .entry)) (now (chosen .exit)) ⌝ }
+{
+    let g = tables::edge_of(z, inner, entries, e);
+    if g.state != q {
+        return false;
+    }
+    let below = sets::join(s, g.s);
+    if !sets::part_of(below, x.s) {
+        return false;
+    }
+    let named = sets::join(names, sets::one_bit(g.first));
+    if first_edges(
+        z,
+        inner,
+        entries,
+        moves,
+        a,
+        others,
+        named,
+        below,
+        j,
+        x,
+        edges,
+        chosen,
+    ) {
+        let at = q as usize;
+        edges[at] = e as u16;
+        return true;
+    }
+    false
+}
+
+// The first choice of an edge for each of the states left whose sets, joined to s, are that of x, with the first reading of a from the
+// states that these edges and `names` name: whether there is one. On success the numbers of the edges stand in `edges` and those of the
+// moves in `chosen`.
+pub fn first_edges(
+    z: Table,
+    inner: &[u64],
+    entries: &[u64],
+    moves: &[u64],
+    a: u64,
+    left: u64,
+    names: u64,
+    s: u64,
+    j: Joins,
+    x: Outcome,
+    edges: &mut [u16],
+    chosen: &mut [u16],
+) -> bool
+    requires { ⌜ Stands z (now inner) (now entries) (now moves) × (length (now edges) ≡ 64) × (length (now chosen) ≡ 64) ⌝ }
+    ensures { λ t. ⌜ Answers (firstEdges (automatonOf z (now (inner .entry)) (now (entries .entry)) (now (moves .entry))) a (wanted (asResult x)) (joinsOf j) (x .s) (members left) names s) (writesEdges (members left)) (writesMoves (automatonOf z (now (inner .entry)) (now (entries .entry)) (now (moves .entry))) names) t (now (edges .entry)) (now (edges .exit)) (now (chosen .entry)) (now (chosen .exit)) ⌝ }
+{
+    if left == 0 {
+        if s != x.s {
+            return false;
+        }
+        return first_reading(moves, z.moves, a, names, j.order, j.b, j.r, x, chosen);
+    }
+    let d = sets::least_member(left);
+    let q = d.member;
+    let others = d.others;
+    let n = z.edges + z.entries;
+    let mut e: usize = 0;
+    while e < n {
+        if follow(
+            z,
+            inner,
+            entries,
+            moves,
+            a,
+            q,
+            others,
+            e,
+            names,
+            s,
+            j,
+            x,
+            edges,
+            chosen,
+        ) {
+            return true;
+        }
+        e += 1;
+    }
+    false
+}
