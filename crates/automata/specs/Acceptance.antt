@@ -3,7 +3,6 @@
 pub mod Laws
 use Prim.Native.Nat.{ℕ, zero, suc}
 use mathlib.Core.Bool.{Bool, true, false, _&&_}
-use mathlib.Core.List.{List, [], _∷_}
 use lib.Dec.{eqb}
 use Rattle.words.specs.Sets.{member, members}
 use Rattle.words.specs.Lists.{only, every, some-of}

@@ -1,12 +1,12 @@
 -- The automaton: a plain record of lists, tied to no file.
 -- Assumes nothing.
-use Prim.Native.Nat.{ℕ, zero, suc, _+_, _-_}
+pub mod Laws
+use Prim.Native.Nat.{ℕ, suc, _+_, _-_}
 use mathlib.Core.Bool.{Bool, true, false, _&&_}
 use mathlib.Core.Option.{Option, none, some}
 use mathlib.Core.List.{List, [], _∷_, _++_}
 use lib.ListN.{length, getD, getElem?}
 use lib.Dec.{eqb, leb}
-use Rattle.words.specs.Sets.{join, single}
 use Rattle.words.specs.Lists.{places}
 
 -- "A *move* is (order-1 state r, symbol a, annotation order 0, 1 or 2, annotation set B, rest set R)": a transition of an order-1 state.

@@ -4,17 +4,18 @@
 pub mod Numbers
 pub mod Joining
 pub mod Laws
-use Prim.Native.Nat.{ℕ, zero, suc, _+_, max}
+pub mod Kept
+use Prim.Native.Nat.{ℕ, suc, _+_, max}
 use mathlib.Core.Bool.{Bool, true, false, not, _&&_, _||_}
 use mathlib.Core.Option.{Option, none, some}
-use mathlib.Core.List.{List, [], _∷_, _++_, map, foldr}
+use mathlib.Core.List.{List, [], _∷_, _++_, map}
 use lib.Dec.{eqb}
 use Rattle.words.specs.Sets.{join, single, members}
 use Rattle.words.specs.Lists.{each, when, first, places, choices}
 use Rattle.words.specs.Order.{same}
 use Rattle.stacks.specs.Stack.{Operation, rewrite, push1, push2, copy, pop1, pop2, collapse1, collapse2}
 use Rattle.stacks.specs.System.{Rule}
-use Rattle.automata.specs.Automaton.{Automaton, Move, Entry, moveAt, edgeAt, edgesOf, movesOf, entryOf, entryControl, entrySet}
+use Rattle.automata.specs.Automaton.{Automaton, Move, moveAt, edgeAt, edgesOf, movesOf, entryOf, entryControl, entrySet}
 
 -- A result goes to symbol a of entry [p,S]: the move (a, order, B, R) of [p,S].
 pub record Result : Type 0 where

@@ -1,10 +1,11 @@
 -- The facts that a sound case gives: of its rules and its own automaton, and of every table that rounds make of it. Theorems are stated
 -- for any automaton with these facts.
 -- Assumes nothing.
+pub mod Laws
 use Prim.Native.Nat.{ℕ, _+_, _≤_, _<_}
-use mathlib.Core.Bool.{Bool, true, false}
+use mathlib.Core.Bool.{true}
 use mathlib.Core.Path.{_≡_}
-use mathlib.Core.List.{List, [], _∷_, _++_, List·Memᴰ}
+use mathlib.Core.List.{List, _++_, List·Memᴰ}
 use lib.ListN.{length, getD}
 use Rattle.words.specs.Sets.Laws.{All}
 use Rattle.words.specs.Order.{rising}
@@ -31,6 +32,14 @@ pub record MoveFacts (n : ℕ) (m : Move) : Type 0 where
   pub none-empty : m .order ≡ 0 → m .B ≡ 0
   pub empty-none : m .B ≡ 0 → m .order ≡ 0
 
+-- the number of order-1 states
+abbrev pub states : Automaton → ℕ
+states A = A .J + length (A .entries)
+
+-- each entry is there once
+abbrev pub Once : List Entry → Type 0
+Once es = (i j : ℕ) → i < length es → j < length es → entryKey (getD es i noEntry) ≡ entryKey (getD es j noEntry) → i ≡ j
+
 -- Of any table, where there are P controls.
 pub record TableFacts (P : ℕ) (A : Automaton) : Type 0 where
   pub final1-inner : All (A .final1) (λ r. r < A .J)
@@ -38,9 +47,8 @@ pub record TableFacts (P : ℕ) (A : Automaton) : Type 0 where
   pub inner-facts : (e : Edge) → List·Memᴰ e (A .inner) → InnerFacts P (A .J) e
   pub inner-rising : rising choiceKey (A .inner) ≡ true
   pub entry-control : (e : Entry) → List·Memᴰ e (A .entries) → e .control < P
-  pub entry-once : (i j : ℕ) → i < length (A .entries) → j < length (A .entries)
-      → entryKey (getD (A .entries) i noEntry) ≡ entryKey (getD (A .entries) j noEntry) → i ≡ j
-  pub move-facts : (m : Move) → List·Memᴰ m (A .moves) → MoveFacts (A .J + length (A .entries)) m
+  pub entry-once : Once (A .entries)
+  pub move-facts : (m : Move) → List·Memᴰ m (A .moves) → MoveFacts (states A) m
 
 -- Of an own automaton: the sets of round 0 are inner.
 pub record OwnFacts (P : ℕ) (A : Automaton) : Type 0 where

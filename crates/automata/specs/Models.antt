@@ -1,13 +1,12 @@
 -- Small models that tell document 01's readings from wrong ones, as automata and rules. (The worked models themselves are proved from the
 -- bytes of their files in the crate `models`, which also shows that model A's file decodes to the records here.)
 -- Assumes nothing.
-use Prim.Native.Nat.{ℕ}
-use mathlib.Core.Bool.{Bool, true, false}
+use mathlib.Core.Bool.{true, false}
 use mathlib.Core.Path.{_≡_, refl}
 use mathlib.Core.List.{List, [], _∷_}
 use Rattle.stacks.specs.Stack.{Stack2, nil1, cons1, nil2, cons2, Annotation, of1, of2, copy, push2, collapse2}
 use Rattle.stacks.specs.System.{Rule}
-use Rattle.automata.specs.Automaton.{Automaton, Move, Entry}
+use Rattle.automata.specs.Automaton.{Automaton}
 use Rattle.automata.specs.Acceptance.{accepts2}
 use Rattle.automata.specs.Saturation.{tableAfter}
 use Rattle.automata.specs.Computing.{computed}

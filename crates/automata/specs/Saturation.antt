@@ -1,5 +1,6 @@
 -- Saturation: one round, the table after n rounds, the saturated table within limits, and the table before a move's round.
 -- Assumes nothing.
+pub mod Laws
 use Prim.Native.Nat.{ℕ, zero, suc, _+_, min}
 use mathlib.Core.Bool.{Bool, true, false, not, _&&_}
 use mathlib.Core.Option.{Option, none, some}
@@ -10,7 +11,7 @@ use Rattle.words.specs.Lists.{only, some-of}
 use Rattle.words.specs.Order.{same, sorted}
 use Rattle.stacks.specs.System.{Rule}
 use Rattle.automata.specs.Automaton.{Automaton, Move, Entry, entryOf}
-use Rattle.automata.specs.Derivation.{Result, resultKey, resultOf, Derivation, derivations}
+use Rattle.automata.specs.Derivation.{Result, resultKey, resultOf, derivations}
 
 -- move m of the automaton is the result x
 unfoldable pub isResult : Automaton → Result → Move → Bool

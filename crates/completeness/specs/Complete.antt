@@ -6,50 +6,23 @@ use mathlib.Core.Path.{_≡_, ap, sym, _∙_, subst, subst₂}
 use mathlib.Core.Option.{Option, some}
 use mathlib.Core.List.{List, List·Memᴰ}
 use Rattle.words.specs.Sets.Laws.{All}
-use Rattle.words.specs.Lists.Laws.{and-left, and-right, some-of-out, in-getD, getElem?-below, getElem?-in}
-use Rattle.words.specs.Order.Laws.{same-eq}
+use Rattle.words.specs.Lists.Laws.{in-getD, getElem?-below, getElem?-in}
 use Rattle.stacks.specs.Stack.{Stack1, cons1, Stack2, cons2, Annotation}
 use Rattle.stacks.specs.System.{Configuration, Rule, step, Run, stay, go}
 use Rattle.stacks.specs.Published.Laws.{step-applied}
-use Rattle.automata.specs.Automaton.{Automaton, noMove, moveAt, entryOf, entryEdge}
+use Rattle.automata.specs.Automaton.{Automaton, entryEdge}
+use Rattle.automata.specs.Automaton.Laws.{entryMove-of, entry-edge}
 use Rattle.automata.specs.Acceptance.{accepts2, inTarget}
-use Rattle.automata.specs.Acceptance.Laws.{Accepts1, Accepts2, accepts2-in, accepts2-out, entry-edge, extends-accepts2}
-use Rattle.automata.specs.Derivation.{Result, resultOf, Derivation, derivations}
-use Rattle.automata.specs.Derivation.Numbers.{MoveOf, EntryIs, entryOf-out}
-use Rattle.automata.specs.Derivation.Laws.{conclusion, derivations-in, resultKey-eq}
-use Rattle.automata.specs.Saturation.{isResult, held}
+use Rattle.automata.specs.Acceptance.Laws.{Accepts1, Accepts2, accepts2-in, accepts2-out, accepts2-kept}
+use Rattle.automata.specs.Derivation.{Result, Derivation, derivations}
+use Rattle.automata.specs.Derivation.Laws.{conclusion, derivations-in}
+use Rattle.automata.specs.Saturation.{held}
+use Rattle.automata.specs.Saturation.Laws.{held-stands}
 use Rattle.automata.specs.Facts.{TableFacts, RuleFacts, Extends, Closed}
 use Rattle.completeness.specs.Reading.{Meets, note-in}
 use Rattle.completeness.specs.Turn.{LeavesAccepted, turn}
 
 -- ---- a result that is held
-
--- move i of entry e is the result
-pub record HeldAs (A : Automaton) (x : Result) (i e : ℕ) : Type 0 where
-  pub entry : EntryIs A (x .control) (x .S) e
-  pub move : MoveOf A (x .symbol) (A .J + e) i
-  pub order-is : moveAt A i .order ≡ x .order
-  pub B-is : moveAt A i .B ≡ x .B
-  pub R-is : moveAt A i .R ≡ x .R
-
-pub held-as : (A : Automaton) (x : Result) → held A x ≡ true → (i : ℕ) × (e : ℕ) × HeldAs A x i e
-unfolding held isResult moveAt resultOf
-held-as A x h =
-    let (m, j, f) = some-of-out (isResult A x) (A .moves) h in
-    let (i, l, at) = in-getD j in
-    let (e, q, y) = entryOf-out A (x .control) (m .state) (and-left (entryOf A (x .control) (m .state)) _ f) in
-    let z : resultOf A m ≡ x = resultKey-eq (resultOf A m) x (same-eq _ _ (and-right (entryOf A (x .control) (m .state)) _ f)) in
-    let k : moveAt A i ≡ m = at noMove in (
-      i,
-      e,
-      record {
-        entry = subst (λ (S : ℕ). EntryIs A (x .control) S e) (ap (λ (r : Result). r .S) z) y;
-        move = record { below = l; state-is = rw k q; symbol-is = rw k (ap (λ (r : Result). r .symbol) z) };
-        order-is = rw k (ap (λ (r : Result). r .order) z);
-        B-is = rw k (ap (λ (r : Result). r .B) z);
-        R-is = rw k (ap (λ (r : Result). r .R) z);
-      },
-    )
 
 -- a held result accepts what meets it
 pub held-accepts : (A : Automaton) (x : Result) (u : Annotation) (s : Stack1) (t : Stack2) → held A x ≡ true
@@ -57,11 +30,12 @@ pub held-accepts : (A : Automaton) (x : Result) (u : Annotation) (s : Stack1) (t
     → Accepts2 A (cons2 (cons1 (x .symbol) u s) t) (x .control)
 unfolding Accepts2
 held-accepts A x u s t h y z =
-    let (i, e, k) = held-as A x h in
-    let g = entry-edge A (k .entry) in
+    let (i, k) = held-stands A x h in
+    let e : ℕ = k .move .entry in
+    let g = entry-edge A (k .move .entry-is) in
     let top : Accepts1 A (cons1 (x .symbol) u s) (A .J + e) = record {
       number = i;
-      move = k .move;
+      move = entryMove-of A (k .move);
       note = rw (k .order-is, k .B-is) (note-in A u (x .order) (x .B) (y .fits) (y .note));
       rest = rw (k .R-is) (y .rest);
     } in
@@ -99,4 +73,4 @@ module _ {P : ℕ} (rules : List Rule) (A : Automaton) (F : TableFacts P A) (G :
   pub run-accepted : {own : Automaton} → Extends own A → {c d : Configuration} {ns : List ℕ} → Run rules c ns d → inTarget own d ≡ true
       → accepts2 A (c .stack) (c .control) ≡ true
   unfolding inTarget
-  run-accepted X {d = d} r h = complete r (extends-accepts2 X (d .stack) (d .control) h)
+  run-accepted X {d = d} r h = complete r (accepts2-kept X (d .stack) (d .control) h)

@@ -10,14 +10,15 @@ use native.Mathlib.Omega.{arith}
 use lib.ListN.{length}
 use Rattle.words.specs.Sets.{members}
 use Rattle.words.specs.Sets.Laws.{All, in-has, all-empty}
-use Rattle.words.specs.Lists.Laws.{getD-in}
 use Rattle.stacks.specs.Stack.{Stack1, cons1, Stack2, cons2, Annotation, of1, of2}
-use Rattle.automata.specs.Automaton.{Automaton, noMove, moveAt, edgeAt}
-use Rattle.automata.specs.Acceptance.Laws.{Accepts1, Accepts2, AcceptsNote}
+use Rattle.automata.specs.Automaton.{Automaton, moveAt, edgeAt}
+use Rattle.automata.specs.Automaton.Laws.{MoveOf, EdgeOf}
+use Rattle.automata.specs.Acceptance.Laws.{Accepts1, Accepts2, AcceptsNote, note-any}
 use Rattle.automata.specs.Derivation.{Joins, joinsOf, joinAll, named, edgeSets}
-use Rattle.automata.specs.Derivation.Numbers.{MoveOf, EdgeOf, Paired, paired-map, paired-of, paired-state}
+use Rattle.automata.specs.Derivation.Numbers.{Paired, paired-map, paired-of, paired-state}
 use Rattle.automata.specs.Derivation.Joining.{Fits, joinAll-some, joinAll-all, named-all, edgeSets-all}
 use Rattle.automata.specs.Facts.{TableFacts}
+use Rattle.automata.specs.Facts.Laws.{moveAt-facts}
 
 -- ---- the order of an annotation
 
@@ -42,9 +43,8 @@ module _ (A : Automaton) where
 
   pub note-in : (u : Annotation) (k B : ℕ) → Fits (orderOf u) k → All B (AcceptsAs u) → AcceptsNote A u k B
   unfolding AcceptsNote
-  note-in (of1 v) k B (inl e) x = rw e tt
+  note-in u k B (inl e) x = note-any A u k B e
   note-in (of1 v) k B (inr e) x = rw e x
-  note-in (of2 v) k B (inl e) x = rw e tt
   note-in (of2 v) k B (inr e) x = rw e x
 
 -- ---- joins that an annotation and a rest meet
@@ -58,9 +58,8 @@ module _ (A : Automaton) (u : Annotation) (s : Stack1) where
   -- a move that accepts
   pub move-meets : {P : ℕ} → TableFacts P A → (i : ℕ) → i < length (A .moves) → AcceptsNote A u (moveAt A i .order) (moveAt A i .B)
       → All (moveAt A i .R) (Accepts1 A s) → Meets (joinsOf (moveAt A i))
-  unfolding moveAt
   move-meets F i l x y =
-      let f = F .move-facts (moveAt A i) (getD-in (A .moves) i noMove l) in
+      let f = moveAt-facts F i l in
       let n = note-out A u (moveAt A i .order) (moveAt A i .B) (f .order-small) (f .none-empty) x in
       record { fits = n .0; note = n .1; rest = y }
 

@@ -11,11 +11,12 @@ use Rattle.stacks.specs.Stack.{Stack1, cons1, Stack2, cons2, Annotation, of1, o
 use Rattle.stacks.specs.Stack.{Operation, rewrite, push1, push2, copy, pop1, pop2, collapse1, collapse2, after}
 use Rattle.stacks.specs.System.{Rule}
 use Rattle.automata.specs.Automaton.{Automaton, Move, moveAt, edgeAt}
-use Rattle.automata.specs.Acceptance.Laws.{Accepts1, Accepts2, control-edge}
+use Rattle.automata.specs.Automaton.Laws.{EntryIs, EntryMove}
+use Rattle.automata.specs.Acceptance.Laws.{Accepts1, Accepts2}
 use Rattle.automata.specs.Derivation.{Joins, joinsOf, Derivation, named, edgeSets}
-use Rattle.automata.specs.Derivation.Numbers.{EntryIs, EntryMove}
 use Rattle.automata.specs.Derivation.Laws.{conclusion, Concludes, concludes, ByPush, ByEntry, Says}
 use Rattle.automata.specs.Facts.{TableFacts}
+use Rattle.automata.specs.Facts.Laws.{control-edge}
 use Rattle.completeness.specs.Reading.{orderOf, Meets, move-meets, read, choose}
 
 -- the operation left a stack that control p accepts
@@ -37,7 +38,7 @@ module _ {P : ℕ} (A : Automaton) (F : TableFacts P A) where
   pub at-entry : {p : ℕ} → p < P → (w : Stack1) (t : Stack2) → Accepts2 A (cons2 w t) p → AtEntry p w t
   unfolding Accepts2
   at-entry l w t x =
-      let (e, y) = control-edge A F l (x .edge) in
+      let (e, y) = control-edge F l (x .edge) in
       record {
         entry = e;
         S = edgeAt A (x .number) .S;

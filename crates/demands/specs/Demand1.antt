@@ -3,9 +3,8 @@
 -- proof is `demand1` in Demand1/Proof.antt.
 -- Assumes nothing.
 pub mod Proof
-use Prim.Native.Nat.{ℕ}
 use mathlib.Core.Path.{_≡_}
-use mathlib.Core.List.{List, [], _∷_, List·Memᴰ}
+use mathlib.Core.List.{[], _∷_, List·Memᴰ}
 use lib.ListN.{length}
 use Rattle.replies.specs.Numbers.{refusalOf}
 use Rattle.services.specs.Memory.{zeros}

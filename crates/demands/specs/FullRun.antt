@@ -1,17 +1,15 @@
 -- The full run of a walk as a list of rule numbers, and the halt of a guide with c cells and t trace words, in document 01's words.
 -- Assumes nothing.
-use Prim.Native.Nat.{ℕ, zero, suc, _+_, _-_, _≤_, _<_}
-use mathlib.Core.Bool.{Bool, true, false}
-use mathlib.Core.Path.{_≡_, refl, ap, sym, _∙_}
-use mathlib.Core.Logic.{_⊎_, inl, inr}
-use mathlib.Core.Option.{Option, some}
-use mathlib.Core.List.{List, [], _∷_}
+use Prim.Native.Nat.{ℕ, suc, _+_, _-_, _≤_, _<_}
+use mathlib.Core.Path.{_≡_, ap, sym, _∙_}
+use mathlib.Core.Option.{some}
+use mathlib.Core.List.{List}
 use native.Mathlib.Omega.{arith}
 use lib.ListN.{length, take}
 use Rattle.stacks.specs.System.{Rule}
 use Rattle.automata.specs.Saturation.{Saturated}
-use Rattle.walks.specs.Guide.{Walk, Next, arrived, to, stuck, next, walkAfter, traceAfter}
-use Rattle.guidance.specs.Run.{to-arrived, stuck-arrived, run-first, run-trace, run-join, run-split, trace-take, cellsOfSteps, run-cells-used, walkAfter-to, by-next}
+use Rattle.walks.specs.Guide.{Walk, arrived, to, next, walkAfter, traceAfter}
+use Rattle.guidance.specs.Run.{run-first, run-trace, run-join, run-split, trace-take, cellsOfSteps, run-cells-used, walkAfter-to}
 use Rattle.guidance.specs.Prefix.{Reason, arrival, trace-full, cells-short, ArrivesAfter, FirstHalt, arrives-last}
 use Rattle.guidance.specs.Prefix
 

@@ -1,7 +1,7 @@
 -- Yes and no: a saturated table accepts a configuration from its control exactly if a finite run of the rules leads from it into the target.
 -- Assumes nothing.
 use Prim.Native.Nat.{ℕ}
-use mathlib.Core.Bool.{Bool, true, false}
+use mathlib.Core.Bool.{true}
 use mathlib.Core.Path.{_≡_}
 use mathlib.Core.Logic.{_↔_}
 use mathlib.Core.List.{List, List·Memᴰ, map}
@@ -12,10 +12,10 @@ use Rattle.automata.specs.Automaton.{Automaton}
 use Rattle.automata.specs.Acceptance.{accepts2, inTarget}
 use Rattle.automata.specs.Facts.{RuleFacts, TableFacts, OwnFacts}
 use Rattle.automata.specs.Saturation.{Size, Saturated}
+use Rattle.rounds.specs.Sizes.{AfterRounds}
 use Rattle.rounds.specs.Limits.{IsSaturated}
 use Rattle.rounds.specs.Before.{table-extends}
 use Rattle.completeness.specs.Complete.{run-accepted}
-use Rattle.soundness.specs.Facts.{SaturatedFacts}
 use Rattle.soundness.specs.Theorem.{sound}
 use Rattle.demands.specs.FromBytes.{saturated-facts}
 
@@ -39,14 +39,17 @@ reaches-published {rules} = (
 )
 
 module _ {P : ℕ} {own : Automaton} {rules : List Rule} (table : TableFacts P own) (inner : OwnFacts P own)
-    (rule : (ρ : Rule) → List·Memᴰ ρ rules → RuleFacts P ρ) {lent : Size} {T : Saturated} (s : IsSaturated rules lent own T) where
-  facts : SaturatedFacts P own rules T
-  facts = saturated-facts table inner rule s
+    (rule : (ρ : Rule) → List·Memᴰ ρ rules → RuleFacts P ρ) where
+  -- yes means a run, after any number of rounds
+  pub accepted-reaches : {T : Saturated} → AfterRounds rules own T → (c : Configuration)
+      → accepts2 (T .table) (c .stack) (c .control) ≡ true → Reaches rules own c
+  accepted-reaches s c h =
+      let (ns, d, r, e) = sound (saturated-facts table inner rule s) c h in
+      record { trace = ns; end = d; run = r; in-target = e }
 
-  -- yes means a run
-  pub accepted-reaches : (c : Configuration) → accepts2 (T .table) (c .stack) (c .control) ≡ true → Reaches rules own c
-  accepted-reaches c h = let (ns, d, r, e) = sound facts c h in record { trace = ns; end = d; run = r; in-target = e }
-
-  -- no means no run
-  pub reaches-accepted : (c : Configuration) → Reaches rules own c → accepts2 (T .table) (c .stack) (c .control) ≡ true
-  reaches-accepted c x = run-accepted rules (T .table) (facts .table) rule (s .closed) (table-extends s) (x .run) (x .in-target)
+  -- no means no run, where the table holds every result
+  pub reaches-accepted : {lent : Size} {T : Saturated} → IsSaturated rules lent own T → (c : Configuration) → Reaches rules own c
+      → accepts2 (T .table) (c .stack) (c .control) ≡ true
+  reaches-accepted {T = T} s c x =
+      run-accepted rules (T .table) (saturated-facts table inner rule (s .after) .table) rule (s .closed) (table-extends (s .after))
+      (x .run) (x .in-target)

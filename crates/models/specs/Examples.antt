@@ -3,21 +3,19 @@
 -- Assumes nothing.
 use Prim.Native.Nat.{ℕ, _*_}
 use mathlib.Core.Path.{_≡_, refl}
-use mathlib.Core.List.{List, [], _∷_, _++_}
+use mathlib.Core.List.{List, [], _∷_}
 use Rattle.automata.specs.Automaton.{Automaton}
 use lib.ListN.{replicate}
 use Rattle.automata.specs.Saturation.{tableAfter}
 use Rattle.automata.specs.Models
-use Rattle.replies.specs.declared.Halt.{Halt}
 use Rattle.replies.specs.declared.Halt.the-variants.{Arrived}
 use Rattle.replies.specs.declared.Reply.{Reply}
-use Rattle.replies.specs.declared.Reply.the-variants.{Refused, NoRun, Walked}
+use Rattle.replies.specs.declared.Reply.the-variants.{NoRun, Walked}
 use Rattle.files.specs.Case.{ownOf, rulesOf}
-use Rattle.files.specs.Start.{Files}
 use Rattle.services.specs.Memory.{zeros}
-use Rattle.services.specs.Saturate.{Lent, SaturateDone, saturateService}
-use Rattle.services.specs.Judge.{JudgeInput, JudgeDone, judgeService}
-use Rattle.services.specs.Guide.{GuideInput, GuideDone, guideService}
+use Rattle.services.specs.Saturate.{saturateService}
+use Rattle.services.specs.Judge.{judgeService}
+use Rattle.services.specs.Guide.{guideService}
 use Rattle.services.specs.Listing.{listingText, ascii}
 use Rattle.models.specs.Computing.{computed}
 use Rattle.models.specs.Files.{caseA, startA, caseB, startB, caseC, startC, startCC, startsA, rulesA, itselfA}

@@ -1,8 +1,6 @@
 -- The demands at models A and C: their hypotheses are met by the models' files, by computation, and what follows.
 -- Assumes nothing.
-use Prim.Native.Nat.{ℕ, _<_}
-use mathlib.Core.Path.{_≡_, refl}
-use mathlib.Core.List.{List}
+use mathlib.Core.Path.{refl}
 use lib.Dec.{lit<}
 use Rattle.services.specs.Judge.{JudgeInput}
 use Rattle.demands.specs.Demand2.{Runs}

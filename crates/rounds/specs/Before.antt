@@ -1,24 +1,24 @@
--- What the moves of a saturated table have: the own ones are the own automaton's, and each other one has a first derivation from the table
--- before its round, in which all moves have smaller numbers.
+-- What the moves of the table after any number of rounds have: the own ones are the own automaton's, and each other one has a first
+-- derivation from the table before its round, in which all moves have smaller numbers.
 -- Assumes nothing.
-use Prim.Native.Nat.{ℕ, _≤_, _<_}
+use Prim.Native.Nat.{ℕ, _+_, _≤_, _<_}
 use mathlib.Core.Path.{_≡_, ap, ap₂, sym, _∙_, subst}
 use mathlib.Core.Option.{some}
 use mathlib.Core.List.{List, List·Memᴰ}
 use native.Mathlib.Nat.{le-of-lt}
+use native.Mathlib.Omega.{arith}
 use lib.ListN.{length}
 use Rattle.stacks.specs.System.{Rule}
 use Rattle.automata.specs.Automaton.{Automaton, moveAt}
 use Rattle.automata.specs.Derivation.{Result, Derivation, derivations, resultOf, firstDerivation}
-use Rattle.automata.specs.Derivation.Laws.{firstDerivation-out}
+use Rattle.automata.specs.Derivation.Laws.{firstDerivation-in, firstDerivation-out}
 use Rattle.automata.specs.Saturation.{Size, tableAfter, Saturated, sizeOf, upTo, lastUpTo, before, ownMoves}
+use Rattle.automata.specs.Saturation.Laws.{Stands, stands-result, before-extends, before-small}
 use Rattle.automata.specs.Facts.{RuleFacts, TableFacts, Extends}
-use Rattle.rounds.specs.Added.{Stands}
-use Rattle.rounds.specs.Rounds.{after-extends, own-extends}
-use Rattle.rounds.specs.First.{AddedAfter, added-after, derived, first-of}
-use Rattle.rounds.specs.Prefixes.{upTo-after, lastUpTo-round, ownMoves-is}
+use Rattle.rounds.specs.Rounds.{own-extends}
+use Rattle.rounds.specs.First.{AddedAfter, added-after, derived}
+use Rattle.rounds.specs.Sizes.{AfterRounds, upTo-after, lastUpTo-round, ownMoves-is}
 use Rattle.rounds.specs.Kept.{after-facts}
-use Rattle.rounds.specs.Limits.{IsSaturated}
 
 -- Of a move of the table past the own ones.
 pub record Later (rules : List Rule) (own : Automaton) (T : Saturated) (i : ℕ) : Type 0 where
@@ -32,7 +32,7 @@ pub record Later (rules : List Rule) (own : Automaton) (T : Saturated) (i : ℕ)
   pub derives : List·Memᴰ derivation (derivations (before T i) rules)
   pub stands : Stands (T .table) i (derivation .result)
 
-module _ {rules : List Rule} {lent : Size} {own : Automaton} {T : Saturated} (s : IsSaturated rules lent own T) where
+module _ {rules : List Rule} {own : Automaton} {T : Saturated} (s : AfterRounds rules own T) where
   pub table-extends : Extends own (T .table)
   table-extends = subst (Extends own) (sym (s .table-is)) (own-extends rules own (s .rounds))
 
@@ -50,9 +50,9 @@ module _ {rules : List Rule} {lent : Size} {own : Automaton} {T : Saturated} (s 
       ap₂ upTo z (s .table-is) ∙ upTo-after rules own n (s .rounds) (le-of-lt h)
 
   -- from any derivation of what move i stands for
-  later-by : {n i : ℕ} {d : Derivation} → before T i ≡ tableAfter rules own n → n < s .rounds → length (tableAfter rules own n .moves) ≤ i
-      → List·Memᴰ d (derivations (tableAfter rules own n) rules) → Stands (T .table) i (d .result) → Later rules own T i
-  later-by {n} {i} {d} b k l j stands = go (first-of (before T i) rules x {d = d} (rw b j) (sym (stands .is-result)))
+  later-by : (n : ℕ) {i : ℕ} {d : Derivation} → before T i ≡ tableAfter rules own n → List·Memᴰ d (derivations (tableAfter rules own n) rules)
+      → Stands (T .table) i (d .result) → Later rules own T i
+  later-by n {i} {d} b j stands = go (firstDerivation-in (before T i) rules x {d = d} (rw b j) (sym (stands-result (T .table) stands)))
     where
       x : Result
       x = resultOf (T .table) (moveAt (T .table) i)
@@ -64,19 +64,26 @@ module _ {rules : List Rule} {lent : Size} {own : Automaton} {T : Saturated} (s 
             rounds-before = n;
             before-after = b;
             own-before = rw b (own-extends rules own n);
-            before-table = rw (b, s .table-is) (after-extends rules own n (s .rounds) (le-of-lt k));
-            smaller = rw b l;
+            before-table = before-extends T i;
+            smaller = before-small T i;
             derivation = f;
             is-first = e;
             derives = h .0;
-            stands = subst (Stands (T .table) i) (sym (stands .is-result) ∙ sym (h .1)) stands;
+            stands = subst (Stands (T .table) i) (sym (stands-result (T .table) stands) ∙ sym (h .1)) stands;
           }
 
   pub later : (i : ℕ) → length (own .moves) ≤ i → i < length (T .table .moves) → Later rules own T i
   later i l h =
       let (n, k, a) = added-after rules own (s .rounds) i l (rw (s .table-is) at h) in
       let (d, j, f, stands) = derived rules own a (s .rounds) k in
-      later-by (before-is a k) k (a .not-before) j (rw (s .table-is) stands)
+      later-by n (before-is a k) j (rw (s .table-is) stands)
+
+  -- it is a move of an entry
+  pub later-entry : (i : ℕ) → length (own .moves) ≤ i → i < length (T .table .moves) → T .table .J ≤ moveAt (T .table) i .state
+  later-entry i l h =
+      let m = later i l h .stands .move in
+      let e : moveAt (T .table) i .state ≡ T .table .J + m .entry = m .state-is in
+      omega arith
 
   -- ---- facts
 

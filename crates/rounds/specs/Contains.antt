@@ -11,12 +11,12 @@ use lib.Dec.{ltb}
 use borrow.Author.Tests.{ltb-true, ltb-false}
 use Rattle.words.specs.Sets.{join, single}
 use Rattle.words.specs.Sets.Laws.{Has, All, all-empty, all-join, has-join-left, has-join-right, has-single, all-single, has-part, part-antisym}
-use Rattle.words.specs.Lists.Laws.{by-test, getElem?-some, getElem?-below}
+use Rattle.words.specs.Tests.{by-test}
+use Rattle.words.specs.Lists.Laws.{getElem?-some, getElem?-below}
 use Rattle.automata.specs.Automaton.{Automaton, Move, Edge, Entry, noEntry, entryKey, entryAt}
-use Rattle.automata.specs.Derivation.Numbers.{entryAt-some, entryAt-entry}
-use Rattle.automata.specs.Facts.{Extends, TableFacts, OwnFacts}
-use Rattle.rounds.specs.Entries.{Once, entryAt-range}
-use Rattle.rounds.specs.Extension.{states, extends-refl, entryAt-kept, move-kept, entry-kept}
+use Rattle.automata.specs.Automaton.Laws.{entryAt-some, entryAt-entry, entryAt-range}
+use Rattle.automata.specs.Facts.{Extends, TableFacts, OwnFacts, Once, states}
+use Rattle.automata.specs.Facts.Laws.{extends-refl, entryAt-kept, move-kept, entry-kept}
 
 -- ---- the same state, set and move
 

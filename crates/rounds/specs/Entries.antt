@@ -1,53 +1,22 @@
--- The entry that an order-1 state is, and the number of an entry [p,S].
+-- The number of an entry [p,S], and the entries with [p,S].
 -- Assumes nothing.
 use Prim.Native.Nat.{ℕ, suc, _+_, _≤_, _<_}
 use mathlib.Core.Bool.{true, false, _&&_, false≢true}
 use mathlib.Core.Path.{_≡_, refl, ap, ap₂, sym, _∙_}
 use mathlib.Core.Logic.{_⊎_, inl, inr, ⊎-elim, ⊎-map}
-use mathlib.Core.Option.{Option, none, some}
+use mathlib.Core.Option.{some}
 use mathlib.Core.List.{List, [], _∷_, _++_, List·Memᴰ, List·Memᴰ·not-nil, List·Memᴰ·cases-cons, List·Memᴰ·eq-of-singleton, List·Memᴰ·append-cases, append-nil}
 use native.Mathlib.Omega.{arith}
-use lib.ListN.{length, getD, getElem?, length-append, List·getD-append}
-use lib.Seq.{getD-append-seam, getD-at}
-use lib.Dec.{eqb, ltb}
-use borrow.Author.Tests.{eqb-true, eq-eqb, ltb-true, ltb-false}
-use Rattle.words.specs.Lists.Laws.{by-test, and-left, and-right, getElem?-some, getElem?-below, getD-in}
-use Rattle.words.specs.Options.{by-option}
-use Rattle.automata.specs.Automaton.{Automaton, Entry, noEntry, entryKey, entryAt, entryOf, entryControl, entrySet}
-use Rattle.automata.specs.Derivation.Numbers.{entryAt-some}
+use lib.ListN.{length, getD, getElem?, length-append}
+use lib.Seq.{getD-append-seam}
+use lib.Dec.{eqb}
+use borrow.Author.Tests.{eqb-true, eq-eqb}
+use Rattle.words.specs.Tests.{by-test, and-left, and-right}
+use Rattle.words.specs.Lists.Laws.{getElem?-some, getElem?-below, getD-in, last-or-before}
+use Rattle.automata.specs.Automaton.{Entry, noEntry, entryKey}
+use Rattle.automata.specs.Automaton.Laws.{entry, entryKey-eq}
 use Rattle.automata.specs.Saturation.{isEntry, entryNumber, withEntry}
-
--- entry [p,S]
-abbrev pub entry : ℕ → ℕ → Entry
-entry p S = record { control = p; S = S }
-
--- ---- the entry that an order-1 state is
-
-module _ (A : Automaton) where
-  -- such a state is in range
-  pub entryAt-range : (r : ℕ) {e : Entry} → entryAt A r ≡ some e → (A .J ≤ r) × (r < A .J + length (A .entries))
-  entryAt-range r h =
-      let (n, e, f) = entryAt-some A r h in
-      let l : n < length (A .entries) = getElem?-some (A .entries) n f .0 in
-      (omega arith, omega arith)
-
-  pub entryAt-of : (r p : ℕ) {e : Entry} → entryAt A r ≡ some e → entryOf A p r ≡ eqb (e .control) p
-  unfolding entryOf
-  entryAt-of r p h = rw (entryOf, h)
-
-  pub entryAt-control : (r : ℕ) {e : Entry} → entryAt A r ≡ some e → entryControl A r ≡ e .control
-  unfolding entryControl
-  entryAt-control r h = rw (entryControl, h)
-
-  pub entryAt-set : (r : ℕ) {e : Entry} → entryAt A r ≡ some e → entrySet A r ≡ e .S
-  unfolding entrySet
-  entryAt-set r h = rw (entrySet, h)
-
-  pub entryOf-entry : (p r : ℕ) → entryOf A p r ≡ true → entryAt A r ≡ some (entry p (entrySet A r))
-  unfolding entryOf
-  entryOf-entry p r h = by-option (entryAt A r)
-      (λ z. absurd (false≢true (rw (entryOf, z) at h)))
-      (λ e z. z ∙ ap some (ap₂ entry (eqb-true (e .control) p (sym (entryAt-of r p z) ∙ h)) (sym (entryAt-set r z))))
+use Rattle.automata.specs.Facts.{Once}
 
 -- ---- the number of an entry
 
@@ -122,25 +91,6 @@ withEntry-out p S es {e} j = go (placed p S es)
 
 -- ---- each entry once
 
-abbrev pub Once : List Entry → Type 0
-Once es = (i j : ℕ) → i < length es → j < length es → entryKey (getD es i noEntry) ≡ entryKey (getD es j noEntry) → i ≡ j
-
-pub entryKey-injective : (d e : Entry) → entryKey d ≡ entryKey e → d ≡ e
-unfolding entryKey
-entryKey-injective d e h =
-    let p : d .control ≡ e .control = cc in
-    let q : d .S ≡ e .S = cc in
-    ap₂ entry p q
-
--- an element of a list with one appended
-pub last-or-before : {A : Type 0} (xs : List A) (y : A) (k : ℕ) (d : A) → k < length (xs ++ y ∷ [])
-    → ((k < length xs) × (getD (xs ++ y ∷ []) k d ≡ getD xs k d)) ⊎ ((k ≡ length xs) × (getD (xs ++ y ∷ []) k d ≡ y))
-last-or-before {A} xs y k d h =
-    let n : length (xs ++ y ∷ []) ≡ length xs + 1 = length-append xs (y ∷ []) in
-    by-test (ltb k (length xs))
-    (λ t. let l : k < length xs = ltb-true k (length xs) t in inl (l, List·getD-append xs (y ∷ []) d k l))
-    (λ t. let l : length xs ≤ k = ltb-false k (length xs) t in let e : k ≡ length xs = omega arith in inr (e, getD-at xs y [] d k (sym e)))
-
 pub once-append : (p S : ℕ) (es : List Entry) → ((e : Entry) → List·Memᴰ e es → isEntry p S e ≡ false) → Once es → Once (es ++ entry p S ∷ [])
 once-append p S es n h i j li lj e = go (last-or-before es (entry p S) i noEntry li) (last-or-before es (entry p S) j noEntry lj)
   where
@@ -148,7 +98,7 @@ once-append p S es n h i j li lj e = go (last-or-before es (entry p S) i noEntry
     At k = ((k < length es) × (getD (es ++ entry p S ∷ []) k noEntry ≡ getD es k noEntry)) ⊎ ((k ≡ length es) × (getD (es ++ entry p S ∷ []) k noEntry ≡ entry p S))
 
     apart : (k : ℕ) → k < length es → entryKey (getD es k noEntry) ≡ entryKey (entry p S) → ⊥
-    apart k l z = false≢true (sym (n (getD es k noEntry) (getD-in es k noEntry l)) ∙ ap (isEntry p S) (entryKey-injective (getD es k noEntry) (entry p S) z) ∙ isEntry-in p S)
+    apart k l z = false≢true (sym (n (getD es k noEntry) (getD-in es k noEntry l)) ∙ ap (isEntry p S) (entryKey-eq (getD es k noEntry) (entry p S) z) ∙ isEntry-in p S)
 
     go : At i → At j → i ≡ j
     go (inl x) (inl y) = h i j (x .0) (y .0) (ap entryKey (sym (x .1)) ∙ e ∙ ap entryKey (y .1))

@@ -1,33 +1,24 @@
 -- First derivations: each move past the own ones is added by one round, is a move of an entry, and has a first derivation from the table
 -- before that round.
 -- Assumes nothing.
-use Prim.Native.Nat.{ℕ, zero, suc, _≤_, _<_}
+use Prim.Native.Nat.{ℕ, zero, suc, _+_, _≤_, _<_}
 use mathlib.Core.Bool.{false}
-use mathlib.Core.Path.{_≡_, ap, sym}
+use mathlib.Core.Path.{_≡_, sym}
 use mathlib.Core.Option.{some}
 use mathlib.Core.List.{List, List·Memᴰ}
 use native.Mathlib.Omega.{arith}
 use lib.ListN.{length}
 use lib.Dec.{ltb}
 use borrow.Author.Tests.{ltb-true, ltb-false}
-use Rattle.words.specs.Lists.Laws.{by-test, some-first}
-use Rattle.words.specs.Order.{same}
-use Rattle.words.specs.Order.Laws.{eq-same}
+use Rattle.words.specs.Lists.Laws.{by-test}
 use Rattle.stacks.specs.System.{Rule}
 use Rattle.automata.specs.Automaton.{Automaton, moveAt}
-use Rattle.automata.specs.Derivation.{Result, resultKey, resultOf, Derivation, derivations, firstDerivation}
+use Rattle.automata.specs.Derivation.{Result, resultOf, Derivation, derivations, firstDerivation}
+use Rattle.automata.specs.Derivation.Laws.{firstDerivation-in}
 use Rattle.automata.specs.Saturation.{held, tableAfter}
-use Rattle.rounds.specs.Entries.{entryAt-range}
-use Rattle.rounds.specs.Extension.{states}
-use Rattle.rounds.specs.Added.{Stands, stands-kept}
+use Rattle.automata.specs.Saturation.Laws.{Stands, stands-result, stands-kept}
+use Rattle.automata.specs.Facts.{states}
 use Rattle.rounds.specs.Rounds.{round-new, after-extends, own-extends}
-
--- a result of a derivation has a first derivation
-pub first-of : (A : Automaton) (rules : List Rule) (x : Result) {d : Derivation} → List·Memᴰ d (derivations A rules) → d .result ≡ x
-    → (f : Derivation) × (firstDerivation A rules x ≡ some f)
-unfolding firstDerivation
-first-of A rules x {d} j e =
-    some-first (λ y. same (resultKey (y .result)) (resultKey x)) j (eq-same (resultKey (d .result)) (resultKey x) (ap resultKey e))
 
 module _ (rules : List Rule) (own : Automaton) where
   -- the round after the first n rounds adds move i
@@ -56,7 +47,7 @@ module _ (rules : List Rule) (own : Automaton) where
       → (d : Derivation) × (firstDerivation (tableAfter rules own n) rules (resultOf (tableAfter rules own N) (moveAt (tableAfter rules own N) i)) ≡ some d)
   first-derivation {n} {i} a N h =
       let (d, j, f, s) = derived a N h in
-      first-of (tableAfter rules own n) rules (resultOf (tableAfter rules own N) (moveAt (tableAfter rules own N) i)) j (sym (s .is-result))
+      firstDerivation-in (tableAfter rules own n) rules (resultOf (tableAfter rules own N) (moveAt (tableAfter rules own N) i)) j (sym (stands-result (tableAfter rules own N) s))
 
   -- a move past the own ones is a move of an entry
   pub past-own-entry : (N i : ℕ) → length (own .moves) ≤ i → i < length (tableAfter rules own N .moves)
@@ -70,6 +61,7 @@ module _ (rules : List Rule) (own : Automaton) where
       → (own .J ≤ moveAt (tableAfter rules own N) i .state) × (moveAt (tableAfter rules own N) i .state < states (tableAfter rules own N))
   past-own-state N i l h =
       let (x, s) = past-own-entry N i l h in
-      let (a, b) = entryAt-range (tableAfter rules own N) (moveAt (tableAfter rules own N) i .state) (s .of-entry) in
       let e : tableAfter rules own N .J ≡ own .J = own-extends rules own N .same-J in
-      (omega arith, b)
+      let a : moveAt (tableAfter rules own N) i .state ≡ tableAfter rules own N .J + s .move .entry = s .move .state-is in
+      let b : s .move .entry < length (tableAfter rules own N .entries) = s .move .entry-is .below in
+      (omega arith, omega arith)

@@ -1,30 +1,24 @@
 -- Rounds keep the facts of a table.
 -- Assumes nothing.
 use Prim.Native.Nat.{ℕ, zero, suc, _+_, _≤_, _<_}
-use mathlib.Core.Bool.{not}
 use mathlib.Core.Path.{_≡_, refl, sym, subst}
 use mathlib.Core.Logic.{⊎-elim}
 use mathlib.Core.Option.{some}
-use mathlib.Core.List.{List, [], _∷_, List·Memᴰ, List·Memᴰ·head, List·Memᴰ·tail, List·Memᴰ·append-cases, List·Memᴰ·eq-of-singleton, Memᴰ·of-map}
+use mathlib.Core.List.{List, [], _∷_, List·Memᴰ, List·Memᴰ·head, List·Memᴰ·tail, List·Memᴰ·append-cases, List·Memᴰ·eq-of-singleton}
 use native.Mathlib.Omega.{arith}
-use lib.ListN.{length, getD, List·getD-eq-default}
-use lib.Dec.{ltb}
-use borrow.Author.Tests.{ltb-true, ltb-false}
-use Rattle.words.specs.Sets.{single}
-use Rattle.words.specs.Sets.Laws.{Has, has-empty, has-single}
-use Rattle.words.specs.Lists.{only}
-use Rattle.words.specs.Lists.Laws.{by-test, only-out, getD-in, getElem?-in}
-use Rattle.words.specs.Order.{sorted}
-use Rattle.words.specs.Order.Laws.{sorted-out}
+use lib.ListN.{length}
+use Rattle.words.specs.Lists.Laws.{getElem?-in}
 use Rattle.stacks.specs.Stack.{Operation, rewrite, push1, push2, copy, pop1, pop2, collapse1, collapse2}
 use Rattle.stacks.specs.System.{Rule}
-use Rattle.automata.specs.Automaton.{Automaton, Move, noMove, moveAt}
-use Rattle.automata.specs.Derivation.{Result, resultKey, Derivation, derivations, Joins, joinsOf, joinAll}
-use Rattle.automata.specs.Derivation.Joining.{NoteFacts, joinAll-facts}
+use Rattle.automata.specs.Automaton.{Automaton, Move}
+use Rattle.automata.specs.Derivation.{Result, Derivation, derivations, Joins, joinAll}
+use Rattle.automata.specs.Derivation.Joining.{NoteFacts, note-none, note-single, joinAll-facts}
 use Rattle.automata.specs.Derivation.Laws.{Concludes, Says, Derives, derivations-out}
-use Rattle.automata.specs.Saturation.{held, withEntry, entryNumber, add, addAll, extend, results, round, tableAfter}
+use Rattle.automata.specs.Saturation.{withEntry, entryNumber, add, addAll, extend, results, round, tableAfter}
+use Rattle.automata.specs.Saturation.Laws.{results-out}
 use Rattle.automata.specs.Facts.{RuleFacts, MoveFacts, TableFacts}
-use Rattle.rounds.specs.Added.{newMove}
+use Rattle.automata.specs.Facts.Laws.{moveAt-note}
+use Rattle.rounds.specs.Added.{newMove, added, added-out}
 use Rattle.rounds.specs.Entries.{withEntry-out, withEntry-once, withEntry-grows, entryNumber-below}
 
 -- ---- what is known of a result
@@ -33,17 +27,6 @@ use Rattle.rounds.specs.Entries.{withEntry-out, withEntry-once, withEntr
 pub record ResultFacts (P : ℕ) (x : Result) : Type 0 where
   pub control-exists : x .control < P
   pub note : NoteFacts (record { order = x .order; B = x .B; R = x .R })
-
-pub note-none : (R : ℕ) → NoteFacts (record { order = 0; B = 0; R = R })
-note-none R = record { order-small = omega arith; none-empty = λ e. refl; empty-none = λ e. refl }
-
-pub note-single : (k q : ℕ) → k ≤ 2 → (k ≡ 0 → ⊥) → NoteFacts (record { order = k; B = single q; R = 0 })
-note-single k q l n =
-    record {
-      order-small = l;
-      none-empty = λ e. absurd (n e);
-      empty-none = λ e. absurd (has-empty (subst (λ (s : ℕ). Has s q) e (has-single q)));
-    }
 
 pub moveFacts-more : {n k : ℕ} {m : Move} → n ≤ k → MoveFacts n m → MoveFacts k m
 moveFacts-more {n} {k} {m} l f =
@@ -55,27 +38,18 @@ moveFacts-more {n} {k} {m} l f =
     }
 
 module _ {P : ℕ} {A : Automaton} (F : TableFacts P A) where
-  -- also of the move past the last
-  pub moveAt-note : (i : ℕ) → NoteFacts (joinsOf (moveAt A i))
-  unfolding moveAt
-  moveAt-note i = by-test (ltb i (length (A .moves)))
-      (λ t.
-      let f = F .move-facts (getD (A .moves) i noMove) (getD-in (A .moves) i noMove (ltb-true i (length (A .moves)) t)) in
-      record { order-small = f .order-small; none-empty = f .none-empty; empty-none = f .empty-none })
-      (λ t. rw (List·getD-eq-default (A .moves) noMove (ltb-false i (length (A .moves)) t)) (note-none 0))
-
   concluded-facts : {ρ : Rule} {premise es ms : List ℕ} {S : ℕ} {j : Joins} {d : Derivation} → RuleFacts P ρ → Concludes ρ premise es ms S j d → NoteFacts j
       → ResultFacts P (d .result)
   concluded-facts r c f = record { control-exists = rw (c .control-is) (r .control-exists); note = rw (c .order-is, c .B-is, c .R-is) f }
 
   joined-facts : {j k : Joins} (ms : List ℕ) → NoteFacts j → joinAll A j ms ≡ some k → NoteFacts k
-  joined-facts {j} ms f e = joinAll-facts A j ms e f (λ i l. moveAt-note i)
+  joined-facts {j} ms f e = joinAll-facts A j ms e f (λ i l. moveAt-note F i)
 
   pub says-facts : (ρ : Rule) (op : Operation) (d : Derivation) → RuleFacts P ρ → Says A ρ op d → ResultFacts P (d .result)
-  says-facts ρ (rewrite b) d r h = concluded-facts r (h .concluded) (moveAt-note (h .move))
+  says-facts ρ (rewrite b) d r h = concluded-facts r (h .concluded) (moveAt-note F (h .move))
   says-facts ρ (push1 b) d r h = concluded-facts r (h .concluded) (joined-facts (d .moves) (note-none _) (h .joined))
   says-facts ρ (push2 b) d r h = concluded-facts r (h .concluded) (joined-facts (d .moves) (note-none 0) (h .joined))
-  says-facts ρ copy d r h = concluded-facts r (h .concluded) (joined-facts (d .moves) (moveAt-note (h .move)) (h .joined))
+  says-facts ρ copy d r h = concluded-facts r (h .concluded) (joined-facts (d .moves) (moveAt-note F (h .move)) (h .joined))
   says-facts ρ pop1 d r h = concluded-facts r (h .concluded) (note-none _)
   says-facts ρ pop2 d r h = concluded-facts r h (note-none 0)
   says-facts ρ collapse1 d r h = concluded-facts r (h .concluded) (note-single 1 _ (omega arith) (omega arith))
@@ -121,15 +95,13 @@ addAll-facts F (x ∷ xs) f = addAll-facts (add-facts F x (f x (List·Memᴰ·he
 
 pub extend-facts : {P : ℕ} {A : Automaton} → TableFacts P A → (xs : List Result) → ((x : Result) → List·Memᴰ x xs → ResultFacts P x) → TableFacts P (extend A xs)
 unfolding extend
-extend-facts {A = A} F xs f =
-    addAll-facts F (sorted resultKey (only (λ x. not (held A x)) xs))
-    (λ x j. f x (only-out (λ y. not (held A y)) xs (sorted-out resultKey (only (λ y. not (held A y)) xs) j) .0))
+extend-facts {A = A} F xs f = addAll-facts F (added A xs) (λ x j. f x (added-out A xs j .0))
 
 module _ {P : ℕ} (rules : List Rule) (rule-facts : (ρ : Rule) → List·Memᴰ ρ rules → RuleFacts P ρ) where
   pub round-facts : {A : Automaton} → TableFacts P A → TableFacts P (round rules A)
-  unfolding round results
+  unfolding round
   round-facts {A} F = extend-facts F (results rules A) (λ x j.
-      let (d, i, e) = Memᴰ·of-map (λ (d : Derivation). d .result) (derivations A rules) j in
+      let (d, i, e) = results-out rules A j in
       subst (ResultFacts P) e (derivation-facts F rules rule-facts i))
 
   pub after-facts : {own : Automaton} → TableFacts P own → (n : ℕ) → TableFacts P (tableAfter rules own n)

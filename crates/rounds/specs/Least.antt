@@ -2,25 +2,22 @@
 -- rules each of these tables contains the one with fewer.
 -- Assumes nothing.
 use Prim.Native.Nat.{ℕ, zero, suc}
-use mathlib.Core.Bool.{true, not}
+use mathlib.Core.Bool.{true}
 use mathlib.Core.Path.{_≡_, refl, ap, ap₂, sym, _∙_, subst}
 use mathlib.Core.Logic.{⊎-elim}
 use mathlib.Core.Option.{some}
-use mathlib.Core.List.{List, [], _∷_, List·Memᴰ, List·Memᴰ·head, List·Memᴰ·tail, List·Memᴰ·append-cases, List·Memᴰ·eq-of-singleton, Memᴰ·of-map, Memᴰ·cast}
-use Rattle.words.specs.Lists.{only}
-use Rattle.words.specs.Lists.Laws.{only-out, getElem?-in}
-use Rattle.words.specs.Order.{sorted}
-use Rattle.words.specs.Order.Laws.{sorted-out}
+use mathlib.Core.List.{List, [], _∷_, List·Memᴰ, List·Memᴰ·head, List·Memᴰ·tail, List·Memᴰ·append-cases, List·Memᴰ·eq-of-singleton, Memᴰ·cast}
+use Rattle.words.specs.Lists.Laws.{getElem?-in}
 use Rattle.stacks.specs.System.{Rule}
-use Rattle.automata.specs.Automaton.{Automaton, Move, entryAt}
-use Rattle.automata.specs.Derivation.{Result, resultKey, Derivation, derivations}
-use Rattle.automata.specs.Derivation.Numbers.{entryAt-some}
+use Rattle.automata.specs.Automaton.{Automaton, Move, moveAt, entryAt}
+use Rattle.automata.specs.Automaton.Laws.{entry, moveAt-in, entryAt-some, entryMove-at}
+use Rattle.automata.specs.Derivation.{Result, Derivation, derivations}
 use Rattle.automata.specs.Saturation.{held, add, addAll, extend, results, round, tableAfter, Size, Saturated}
-use Rattle.automata.specs.Facts.{RuleFacts, TableFacts, OwnFacts, Extends, Closed}
-use Rattle.rounds.specs.Entries.{entry, Once, withEntry-out}
-use Rattle.rounds.specs.Extension.{extends-refl}
-use Rattle.rounds.specs.Held.{Holds, held-holds}
-use Rattle.rounds.specs.Added.{newMove, add-extends, add-entry}
+use Rattle.automata.specs.Saturation.Laws.{Stands, held-stands, results-out}
+use Rattle.automata.specs.Facts.{RuleFacts, TableFacts, OwnFacts, Extends, Closed, Once}
+use Rattle.automata.specs.Facts.Laws.{extends-refl}
+use Rattle.rounds.specs.Entries.{withEntry-out}
+use Rattle.rounds.specs.Added.{newMove, added, added-out, add-extends, add-entry}
 use Rattle.rounds.specs.Rounds.{round-extends, round-holds}
 use Rattle.rounds.specs.Limits.{IsSaturated}
 use Rattle.rounds.specs.Kept.{after-facts}
@@ -31,7 +28,8 @@ use Rattle.rounds.specs.Monotone.{SameResult, results-same}
 pub record LikeHeld (A D : Automaton) (x : Result) : Type 0 where
   pub result : Result
   pub same : SameResult A D x result
-  pub holds : Holds D result
+  pub number : ℕ
+  pub stands : Stands D number result
 
 pub sameResult-kept : {A A′ D D′ : Automaton} {x y : Result} → Extends A A′ → Extends D D′ → SameResult A D x y → SameResult A′ D′ x y
 sameResult-kept {x = x} a d s =
@@ -47,19 +45,23 @@ sameResult-kept {x = x} a d s =
 -- ---- adding what is held by the other
 
 module _ {A D : Automaton} (c : Contains A D) (x : Result) (l : LikeHeld A D x) where
-  -- the like of x's entry is x's entry
-  like-entry : entryAt D (l .holds .move .state) ≡ some (entry (x .control) (x .S))
-  like-entry = l .holds .of-entry ∙ ap some (ap₂ entry (l .same .control-same) (l .same .set-same))
+  -- the move of D that stands for the like
+  abbrev like : Move
+  like = moveAt D (l .number)
 
-  newMove-same : SameMove (add A x) D (newMove A x) (l .holds .move)
+  -- the like of x's entry is x's entry
+  like-entry : entryAt D (like .state) ≡ some (entry (x .control) (x .S))
+  like-entry = entryMove-at D (l .stands .move) ∙ ap some (ap₂ entry (l .same .control-same) (l .same .set-same))
+
+  newMove-same : SameMove (add A x) D (newMove A x) like
   unfolding newMove
   newMove-same =
       record {
         state-same = Same.entry (add-entry A x) like-entry;
-        symbol-same = l .holds .symbol-is ∙ l .same .symbol-same;
-        order-same = l .holds .order-is ∙ l .same .order-same;
-        note-same = rw (l .holds .B-is) (matched-map (sameIn-kept (add-extends A x) (extends-refl D) (x .order)) (l .same .note-same));
-        rest-same = rw (l .holds .R-is) (matched-map (λ r t z. same-kept (add-extends A x) (extends-refl D) z) (l .same .rest-same));
+        symbol-same = l .stands .move .symbol-is ∙ l .same .symbol-same;
+        order-same = l .stands .order-is ∙ l .same .order-same;
+        note-same = rw (l .stands .B-is) (matched-map (sameIn-kept (add-extends A x) (extends-refl D) (x .order)) (l .same .note-same));
+        rest-same = rw (l .stands .R-is) (matched-map (λ r t z. same-kept (add-extends A x) (extends-refl D) z) (l .same .rest-same));
       }
 
   pub add-contains : Contains (add A x) D
@@ -71,11 +73,11 @@ module _ {A D : Automaton} (c : Contains A D) (x : Result) (l : LikeHeld A D x) 
         final2-in = c .final2-in;
         inner-in = c .inner-in;
         entries-in = λ e j. ⊎-elim (c .entries-in e)
-            (λ z. let (n, q, g) = entryAt-some D (l .holds .move .state) like-entry in Memᴰ·cast z (getElem?-in (D .entries) n g))
+            (λ z. let (n, q, g) = entryAt-some D (like .state) like-entry in Memᴰ·cast z (getElem?-in (D .entries) n g))
             (withEntry-out (x .control) (x .S) (A .entries) j);
         moves-in = λ m j. ⊎-elim
             (λ i. let (n, k, s) = c .moves-in m i in (n, k, sameMove-kept (add-extends A x) (extends-refl D) s))
-            (λ i. (l .holds .move, l .holds .there, subst (λ (w : Move). SameMove (add A x) D w (l .holds .move)) (sym (List·Memᴰ·eq-of-singleton i)) newMove-same))
+            (λ i. (like, moveAt-in D (l .number) (l .stands .move .below), subst (λ (w : Move). SameMove (add A x) D w like) (sym (List·Memᴰ·eq-of-singleton i)) newMove-same))
             (List·Memᴰ·append-cases (A .moves) j);
       }
 
@@ -84,13 +86,11 @@ unfolding addAll
 addAll-contains c [] f = c
 addAll-contains {A} {D} c (x ∷ xs) f = addAll-contains (add-contains c x (f x (List·Memᴰ·head refl))) xs (λ y j.
     let l = f y (List·Memᴰ·tail j) in
-    record { result = l .result; same = sameResult-kept (add-extends A x) (extends-refl D) (l .same); holds = l .holds })
+    record { result = l .result; same = sameResult-kept (add-extends A x) (extends-refl D) (l .same); number = l .number; stands = l .stands })
 
 pub extend-contains : {A D : Automaton} → Contains A D → (xs : List Result) → ((x : Result) → List·Memᴰ x xs → LikeHeld A D x) → Contains (extend A xs) D
 unfolding extend
-extend-contains {A} c xs f =
-    addAll-contains c (sorted resultKey (only (λ x. not (held A x)) xs))
-    (λ x j. f x (only-out (λ y. not (held A y)) xs (sorted-out resultKey (only (λ y. not (held A y)) xs) j) .0))
+extend-contains {A} c xs f = addAll-contains c (added A xs) (λ x j. f x (added-out A xs j .0))
 
 -- ---- rounds
 
@@ -98,14 +98,16 @@ extend-contains {A} c xs f =
 pub round-contains : {A C D : Automaton} → Contains A C → {P : ℕ} → TableFacts P A → Once (C .entries) → (rules more : List Rule)
     → ((ρ : Rule) → List·Memᴰ ρ rules → List·Memᴰ ρ more) → Extends C D
     → ((f : Derivation) → List·Memᴰ f (derivations C more) → held D (f .result) ≡ true) → Contains (round rules A) D
-unfolding round results
+unfolding round
 round-contains {A} {C} {D} c F once rules more sub e h = extend-contains (contains-kept e c) (results rules A) λ x j.
-    let (d, i, z) = Memᴰ·of-map (λ (d : Derivation). d .result) (derivations A rules) j in
+    let (d, i, z) = results-out rules A j in
     let (f, k, s) = results-same c F once sub i in
+    let (n, y) = held-stands D (f .result) (h f k) in
     record {
       result = f .result;
       same = sameResult-kept (extends-refl A) e (subst (λ (y : Result). SameResult A C y (f .result)) z s);
-      holds = held-holds D (f .result) (h f k);
+      number = n;
+      stands = y;
     }
 
 module _ {P : ℕ} (rules : List Rule) (rule-facts : (ρ : Rule) → List·Memᴰ ρ rules → RuleFacts P ρ) {own : Automaton} (F : TableFacts P own) where
@@ -119,7 +121,7 @@ module _ {P : ℕ} (rules : List Rule) (rule-facts : (ρ : Rule) → List·Mem�
   -- so it contains the saturated table
   pub least : {lent : Size} {T : Saturated} → IsSaturated rules lent own T → {C : Automaton} → Contains own C → Once (C .entries) → Closed rules C
       → Contains (T .table) C
-  least s {C} c once h = subst (λ (A : Automaton). Contains A C) (sym (s .table-is)) (closed-contains c once h (s .rounds))
+  least s {C} c once h = subst (λ (A : Automaton). Contains A C) (sym (s .after .table-is)) (closed-contains c once h (s .after .rounds))
 
   -- with more rules the table after n rounds contains that with fewer
   pub more-contains : OwnFacts P own → (more : List Rule) → ((ρ : Rule) → List·Memᴰ ρ more → RuleFacts P ρ) → ((ρ : Rule) → List·Memᴰ ρ rules → List·Memᴰ ρ more)

@@ -10,19 +10,19 @@ use mathlib.Core.List.{List, [], _∷_, _++_, map, List·Memᴰ, List·Memᴰ·n
 use native.Mathlib.Omega.{arith}
 use lib.ListN.{length, getD, length-map}
 use Rattle.words.specs.Sets.{members}
-use Rattle.words.specs.Lists.{each, when, choices}
-use Rattle.words.specs.Lists.Laws.{getD-in, each-out, when-out, places-rising, choices-out, chosen-length}
+use Rattle.words.specs.Lists.{each, when}
+use Rattle.words.specs.Lists.Laws.{getD-in, each-out, when-out, places-rising}
+use Rattle.words.specs.Lists.Choices.{choices-out, chosen-length, choices-rising}
 use Rattle.words.specs.Order.{less, same, rising, risingFrom}
 use Rattle.words.specs.Order.Laws.{less-lt, less-eq, one-less, eq-same, rising-append}
+use Rattle.words.specs.Order.Rising.{rising-each, less-append, less-same-head, first-rising, rising-before, rising-with}
 use Rattle.stacks.specs.Stack.{Operation, rewrite, push1, push2, copy, pop1, pop2, collapse1, collapse2}
 use Rattle.stacks.specs.System.{Rule}
 use Rattle.automata.specs.Automaton.{Automaton, Edge, noEdge, choiceKey, edges, entryEdge, edgeAt, moveAt, movesOf, edgesOf, entrySet}
 use Rattle.automata.specs.Derivation.{Result, resultKey, Derivation, Joins, joinsOf, readings, edgeChoices, named, edgeSets, joinAll, controlMoves, controlEntries, conclude, byRewrite, byPush1, byPush2, byCopy, byPop1, byPop2, byCollapse1, byCollapse2, derivationsBy, derivationsFrom, derivations, firstDerivation}
 use Rattle.automata.specs.Derivation.Laws.{derivationsBy-out}
-use Rattle.automata.specs.Derivation.Numbers.{edgesOf-out}
-use Rattle.automata.specs.Acceptance.Laws.{edgeAt-inner, entry-edge, edge-cases}
+use Rattle.automata.specs.Automaton.Laws.{edgesOf-out, edgeAt-inner, entry-edge, edge-cases}
 use Rattle.automata.specs.Facts.{TableFacts}
-use Rattle.rounds.specs.Choices.{rising-each, choices-rising, less-append, less-same-head, first-rising, rising-getD, rising-with}
 
 -- a derivation's rule and choices, in the order in which the least is taken
 unfoldable pub choiceOrder : Derivation → List ℕ
@@ -195,7 +195,7 @@ module _ {P : ℕ} {A : Automaton} (F : TableFacts P A) where
       entry-first n b q = rw q (entry-edge A {e = n} (record { below = b; control-is = refl; set-is = refl }) .first-is)
 
       go : Number i → Number j → less (choiceKey (edgeAt A i)) (choiceKey (edgeAt A j)) ≡ true
-      go (inl a) (inl b) = rw (edgeAt-inner A i a, edgeAt-inner A j b) (rising-getD choiceKey (A .inner) noEdge i j (F .inner-rising) l b)
+      go (inl a) (inl b) = rw (edgeAt-inner A i a, edgeAt-inner A j b) (rising-before choiceKey (A .inner) noEdge i j (F .inner-rising) l b)
       go (inl a) (inr (n, b, q)) =
           let f : getD (A .inner) i noEdge .first < A .J = F .inner-facts (getD (A .inner) i noEdge) (getD-in (A .inner) i noEdge a) .to-inner in
           let g : edgeAt A i .first ≡ getD (A .inner) i noEdge .first = ap (λ (x : Edge). x .first) (edgeAt-inner A i a) in

@@ -11,14 +11,15 @@ use native.Mathlib.Omega.{arith}
 use lib.ListN.{length}
 use lib.Dec.{eqb, leb}
 use borrow.Author.Tests.{eqb-true, eqb-false, eq-eqb, ne-eqb, leb-true, leb-false, le-leb}
-use Rattle.words.specs.Lists.Laws.{by-test, and-left, and-right}
+use Rattle.words.specs.Tests.{by-test, and-left, and-right}
+use Rattle.words.specs.Numbers.{below-suc}
 use Rattle.stacks.specs.System.{Rule}
 use Rattle.automata.specs.Automaton.{Automaton}
 use Rattle.automata.specs.Saturation.{round, tableAfter, Size, sizeOf, within, Saturated, saturateFrom, saturate}
-use Rattle.automata.specs.Facts.{Extends, Closed}
-use Rattle.rounds.specs.Extension.{states, moves-grow, entries-grow, states-grow}
+use Rattle.automata.specs.Facts.{Extends, Closed, states}
+use Rattle.automata.specs.Facts.Laws.{moves-grow, entries-grow, states-grow}
 use Rattle.rounds.specs.Rounds.{round-adds, still-closed, after-extends, after-closed}
-use Rattle.rounds.specs.Prefixes.{sizesBefore}
+use Rattle.rounds.specs.Sizes.{sizesBefore, AfterRounds, after-rounds}
 
 -- ---- within the limits
 
@@ -62,12 +63,6 @@ module _ (lent : Size) where
 
 -- ---- the loop
 
--- what holds below n and at n holds below n + 1
-pub below-suc : (X : ℕ → Type 0) (n : ℕ) → ((m : ℕ) → m < n → X m) → X n → (m : ℕ) → m < suc n → X m
-below-suc X n f x m h = by-test (eqb m n)
-    (λ t. subst X (sym (eqb-true m n t)) x)
-    (λ t. let d : m ≡ n → ⊥ = eqb-false m n t in f m (omega arith))
-
 module _ (rules : List Rule) (lent : Size) where
   pub saturateFrom-exceeds : (k : ℕ) (sizes : List Size) (A : Automaton) → within lent A ≡ false → saturateFrom rules lent (suc k) sizes A ≡ none
   unfolding saturateFrom
@@ -90,10 +85,8 @@ module _ (rules : List Rule) (lent : Size) where
 
     -- what holds of a saturated table
     pub record IsSaturated (T : Saturated) : Type 0 where
-      pub rounds : ℕ
-      pub table-is : T .table ≡ tableAfter rules own rounds
-      pub sizes-are : T .sizes ≡ sizesBefore rules own (suc rounds)
-      pub each-adds : (n : ℕ) → n < rounds → Adds n
+      pub after : AfterRounds rules own T
+      pub each-adds : (n : ℕ) → n < after .rounds → Adds n
       pub closed : Closed rules (T .table)
       pub limits-kept : within lent (T .table) ≡ true
 
@@ -105,7 +98,7 @@ module _ (rules : List Rule) (lent : Size) where
     -- Each round that goes on adds a move, so the bound is used up only past 1,024 moves.
     pub outcome : (k n : ℕ) → 1025 ≤ k + length (tableAfter rules own n .moves) → ((m : ℕ) → m < n → Adds m)
         → Outcome (saturateFrom rules lent k (sizesBefore rules own n) (tableAfter rules own n))
-    unfolding saturateFrom sizesBefore tableAfter
+    unfolding saturateFrom sizesBefore tableAfter after-rounds
     outcome zero n l before = by-test (within lent (tableAfter rules own n))
         (λ t. let f : length (tableAfter rules own n .moves) ≤ min (lent .moves) 1024 = within-keeps lent (tableAfter rules own n) t .moves-fit in absurd (omega arith))
         (λ t. exceeds n t)
@@ -117,7 +110,7 @@ module _ (rules : List Rule) (lent : Size) where
         (λ u.
         let e : length (round rules A .moves) ≡ length (A .moves) = eqb-true (length (round rules A .moves)) (length (A .moves)) u in
         rw (saturateFrom-ends k sizes A t e)
-        (saturated (record { rounds = n; table-is = refl; sizes-are = refl; each-adds = before; closed = still-closed rules A e; limits-kept = t })))
+        (saturated (record { after = after-rounds rules own n; each-adds = before; closed = still-closed rules A e; limits-kept = t })))
         (λ u.
         let e : length (round rules A .moves) ≡ length (A .moves) → ⊥ = eqb-false (length (round rules A .moves)) (length (A .moves)) u in
         let g : length (A .moves) < length (round rules A .moves) = round-adds rules A e in
@@ -147,12 +140,12 @@ module _ (rules : List Rule) (lent : Size) where
     -- the table after any number of rounds keeps the limits that a saturated table keeps
     pub all-within : {T : Saturated} → IsSaturated T → (n : ℕ) → within lent (tableAfter rules own n) ≡ true
     all-within {T} s n =
-        let w : within lent (tableAfter rules own (s .rounds)) ≡ true = ap (within lent) (sym (s .table-is)) ∙ s .limits-kept in
-        by-test (leb n (s .rounds))
-        (λ t. within-part lent (after-extends rules own n (s .rounds) (leb-true n (s .rounds) t)) w)
-        (λ t.
-        let l : s .rounds ≤ n = lt-le (leb-false n (s .rounds) t) in
-        ap (within lent) (after-closed rules own (s .rounds) n l (subst (Closed rules) (s .table-is) (s .closed))) ∙ w)
+        let m : ℕ = s .after .rounds in
+        let e : T .table ≡ tableAfter rules own m = s .after .table-is in
+        let w : within lent (tableAfter rules own m) ≡ true = ap (within lent) (sym e) ∙ s .limits-kept in
+        by-test (leb n m)
+        (λ t. within-part lent (after-extends rules own n m (leb-true n m t)) w)
+        (λ t. ap (within lent) (after-closed rules own m n (lt-le (leb-false n m t)) (subst (Closed rules) e (s .closed))) ∙ w)
 
     pub exceeds-none : (n : ℕ) → within lent (tableAfter rules own n) ≡ false → saturate rules lent own ≡ none
     exceeds-none n h = go (saturate rules lent own) saturate-outcome

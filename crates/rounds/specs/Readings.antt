@@ -1,69 +1,31 @@
 -- Where one automaton contains another, readings and choices of edges of the one have their like in the other.
 -- Assumes nothing.
 use Prim.Native.Nat.{ℕ, _+_, _<_}
-use mathlib.Core.Bool.{true}
 use mathlib.Core.Path.{_≡_, refl, ap, ap₂, sym, _∙_, subst}
 use mathlib.Core.Logic.{⊎-elim}
-use mathlib.Core.Option.{some, Option·some-injective}
-use mathlib.Core.List.{List, [], _∷_, map, List·Memᴰ, List·Memᴰ·head, List·Memᴰ·tail, List·Memᴰ·not-nil, Memᴰ·map, Memᴰ·of-map}
+use mathlib.Core.List.{List, [], _∷_, map, List·Memᴰ, Memᴰ·map, Memᴰ·of-map}
 use native.Mathlib.Omega.{arith}
 use lib.ListN.{length, getD}
 use Rattle.words.specs.Sets.{join, members}
 use Rattle.words.specs.Sets.Laws.{has-in, in-has, members-rising}
-use Rattle.words.specs.Order.{rising}
-use Rattle.words.specs.Order.Laws.{risingFrom-less, rising-tail, rising-cons, one-less}
-use Rattle.words.specs.Lists.Laws.{getD-in, in-getD, getElem?-some, getElem?-below}
-use Rattle.automata.specs.Automaton.{Automaton, Move, Edge, Entry, noMove, noEdge, noEntry, edges, moveAt, edgeAt, entryEdge}
-use Rattle.automata.specs.Acceptance.Laws.{length-edges, edgeAt-inner, entry-edge, edge-cases}
+use Rattle.words.specs.Lists.Laws.{getD-in, in-getD}
+use Rattle.automata.specs.Automaton.{Automaton, Move, Edge, noEdge, noEntry, edges, moveAt, edgeAt, entryEdge}
+use Rattle.automata.specs.Automaton.Laws.{MoveOf, EdgeOf, EntryIs, EntryMove, moveAt-in, in-moveAt, entryIs-at, at-entryIs, length-edges, edgeAt-inner, entry-edge, edge-cases}
 use Rattle.automata.specs.Derivation.{named, edgeSets}
-use Rattle.automata.specs.Derivation.Numbers.{entryIs-at, entryAt-entry, entryAt-some, MoveOf, EdgeOf, EntryIs, EntryMove, Paired, empty, also, paired-map, paired-of, paired-state}
-use Rattle.automata.specs.Facts.{TableFacts}
-use Rattle.rounds.specs.Entries.{Once}
+use Rattle.automata.specs.Derivation.Numbers.{Paired, empty, also, paired-map, paired-of, paired-state, paired-number, paired-once}
+use Rattle.automata.specs.Facts.{TableFacts, Once}
 use Rattle.rounds.specs.Contains.{Matched, Same, inner, entry, matched-empty, matched-single, matched-join, SameMove, Contains, same-function, same-injective}
 use Rattle.rounds.specs.Joining.{SameMoves}
-
--- ---- one number for each state
-
--- each state has a number
-pub paired-number : {X : ℕ → ℕ → Type 0} {qs ns : List ℕ} {q : ℕ} → Paired X qs ns → List·Memᴰ q qs → (n : ℕ) × List·Memᴰ n ns × X q n
-paired-number empty j = absurd (List·Memᴰ·not-nil j)
-paired-number {X = X} (also {n = n} x ps) (List·Memᴰ·head e) = (n, List·Memᴰ·head refl, subst (λ (y : ℕ). X y n) (sym e) x)
-paired-number (also x ps) (List·Memᴰ·tail j) = let (n, i, y) = paired-number ps j in (n, List·Memᴰ·tail i, y)
-
--- later numbers have greater states
-paired-later : {X : ℕ → ℕ → Type 0} (stateOf : ℕ → ℕ) → ((q n : ℕ) → X q n → stateOf n ≡ q) → {q : ℕ} {qs ns : List ℕ} → Paired X qs ns
-    → rising (λ y. y ∷ []) (q ∷ qs) ≡ true → {n : ℕ} → List·Memᴰ n ns → q < stateOf n
-paired-later st f {q} {qs} ps r {n} j =
-    let (y, i, x) = paired-state ps j in
-    let l : q < y = one-less q y (risingFrom-less (λ z. z ∷ []) q qs (sym (rising-cons (λ z. z ∷ []) q qs) ∙ r) i) in
-    rw (f y n x) l
-
--- where the states rise and a number determines its state, numbers of one state are equal
-pub paired-once : {X : ℕ → ℕ → Type 0} (stateOf : ℕ → ℕ) → ((q n : ℕ) → X q n → stateOf n ≡ q) → {qs ns : List ℕ} → Paired X qs ns
-    → rising (λ q. q ∷ []) qs ≡ true → {m n : ℕ} → List·Memᴰ m ns → List·Memᴰ n ns → stateOf m ≡ stateOf n → m ≡ n
-paired-once st f empty r i j e = absurd (List·Memᴰ·not-nil i)
-paired-once st f (also x ps) r (List·Memᴰ·head a) (List·Memᴰ·head b) e = a ∙ sym b
-paired-once st f (also {q = q} {n = k} x ps) r {m} {n} (List·Memᴰ·head a) (List·Memᴰ·tail j) e =
-    let l = paired-later st f ps r j in
-    let z : st m ≡ q = ap st a ∙ f q k x in
-    absurd (omega arith)
-paired-once st f (also {q = q} {n = k} x ps) r {m} {n} (List·Memᴰ·tail i) (List·Memᴰ·head b) e =
-    let l = paired-later st f ps r i in
-    let z : st n ≡ q = ap st b ∙ f q k x in
-    absurd (omega arith)
-paired-once st f (also {q = q} {qs = qs} x ps) r (List·Memᴰ·tail i) (List·Memᴰ·tail j) e =
-    paired-once st f ps (rising-tail (λ y. y ∷ []) q qs (sym (rising-cons (λ y. y ∷ []) q qs) ∙ r)) i j e
 
 -- ---- readings
 
 module _ {A C : Automaton} (c : Contains A C) where
   -- each move has its like
   pub move-same : (i : ℕ) → i < length (A .moves) → (n : ℕ) × (n < length (C .moves)) × SameMove A C (moveAt A i) (moveAt C n)
-  unfolding moveAt
   move-same i l =
-      let (m, j, s) = c .moves-in (moveAt A i) (getD-in (A .moves) i noMove l) in
-      let (n, h, e) = in-getD j in
-      (n, h, rw (e noMove) s)
+      let (m, j, s) = c .moves-in (moveAt A i) (moveAt-in A i l) in
+      let (n, h, e) = in-moveAt C j in
+      (n, h, rw e s)
 
   module _ (onceA : Once (A .entries)) (onceC : Once (C .entries)) where
     pub moveOf-same : {a r s i : ℕ} → Same A C r s → MoveOf A a r i → (n : ℕ) × MoveOf C a s n × SameMove A C (moveAt A i) (moveAt C n)
@@ -126,36 +88,15 @@ pub record SameEdge (A C : Automaton) (e f : Edge) : Type 0 where
 module _ {A C : Automaton} (c : Contains A C) where
   pub entry-same : {p S e : ℕ} → EntryIs A p S e → (n : ℕ) × EntryIs C p S n × Same A C (A .J + e) (C .J + n)
   entry-same {p} {S} {e} h =
-      let x : Entry = getD (A .entries) e noEntry in
-      let (n, l, g) = in-getD (c .entries-in x (getD-in (A .entries) e noEntry (h .below))) in
-      let y : getD (C .entries) n noEntry ≡ x = g noEntry in (
-        n,
-        record {
-          below = l;
-          control-is = ap (λ (z : Entry). z .control) y ∙ h .control-is;
-          set-is = ap (λ (z : Entry). z .S) y ∙ h .set-is;
-        },
-        entry {e = x}
-            (entryAt-entry A e ∙ getElem?-below (A .entries) e noEntry (h .below))
-            (entryAt-entry C n ∙ getElem?-below (C .entries) n noEntry l ∙ ap some y),
-      )
+      let (n, l, g) = in-getD (c .entries-in (getD (A .entries) e noEntry) (getD-in (A .entries) e noEntry (h .below))) in
+      let y : getD (C .entries) n noEntry ≡ getD (A .entries) e noEntry = g noEntry in
+      let k : EntryIs C p S n = record { below = l; control-is = rw y (h .control-is); set-is = rw y (h .set-is) } in
+      (n, k, entry (entryIs-at A h) (entryIs-at C k))
 
   -- the like of an entry [p,S] is an entry [p,S]
   pub entryIs-same : {p S e s : ℕ} → EntryIs A p S e → Same A C (A .J + e) s → (n : ℕ) × (s ≡ C .J + n) × EntryIs C p S n
   entryIs-same h (inner l q) = absurd (omega arith)
-  entryIs-same {s = s} h (entry {e = x} f g) =
-      let (n, q, k) = entryAt-some C s g in
-      let (l, y) = getElem?-some (C .entries) n k in
-      let (w, z, u, v) = entryIs-at A h in
-      let xw : x ≡ w = Option·some-injective x w (sym f ∙ z) in (
-        n,
-        q,
-        record {
-          below = l;
-          control-is = ap (λ (z : Entry). z .control) (y noEntry ∙ xw) ∙ u;
-          set-is = ap (λ (z : Entry). z .S) (y noEntry ∙ xw) ∙ v;
-        },
-      )
+  entryIs-same {p} {S} {s = s} h (entry {e = x} f g) = at-entryIs C s (g ∙ sym f ∙ entryIs-at A h)
 
   pub entryMove-same : {p S b i : ℕ} → EntryMove A p S b i → (n : ℕ) × EntryMove C p S b n × SameMove A C (moveAt A i) (moveAt C n)
   entryMove-same {i = i} h =

@@ -4,26 +4,18 @@
 use Prim.Native.Nat.{ℕ, zero, suc, _≤_, _<_}
 use mathlib.Core.Bool.{true, false}
 use mathlib.Core.Path.{_≡_, refl, ap, sym, _∙_, subst}
-use mathlib.Core.List.{List, List·Memᴰ, Memᴰ·map, Memᴰ·of-map}
+use mathlib.Core.List.{List, List·Memᴰ}
 use native.Mathlib.Omega.{arith}
 use lib.ListN.{length}
-use lib.Dec.{eqb}
-use borrow.Author.Tests.{eqb-true, eqb-false}
-use Rattle.words.specs.Lists.Laws.{by-test}
+use Rattle.words.specs.Numbers.{upward}
 use Rattle.stacks.specs.System.{Rule}
 use Rattle.automata.specs.Automaton.{Automaton}
 use Rattle.automata.specs.Derivation.{Result, Derivation, derivations}
 use Rattle.automata.specs.Saturation.{held, results, round, tableAfter}
 use Rattle.automata.specs.Facts.{Extends, Closed}
-use Rattle.rounds.specs.Extension.{extends-refl, extends-trans, moves-grow}
-use Rattle.rounds.specs.Added.{extend-extends, extend-holds, extend-nothing, extend-held, extend-new, Stands}
-
--- from n on, step by step
-pub upward : (P : ℕ → Type 0) (n : ℕ) → P n → ((k : ℕ) → n ≤ k → P k → P (suc k)) → (m : ℕ) → n ≤ m → P m
-upward P n x f zero h = let e : n ≡ 0 = omega arith in subst P e x
-upward P n x f (suc m) h = by-test (eqb n (suc m))
-    (λ t. subst P (eqb-true n (suc m) t) x)
-    (λ t. let d : n ≡ suc m → ⊥ = eqb-false n (suc m) t in let l : n ≤ m = omega arith in f m l (upward P n x f m l))
+use Rattle.automata.specs.Facts.Laws.{extends-refl, extends-trans, moves-grow}
+use Rattle.automata.specs.Saturation.Laws.{Stands, results-in, results-out}
+use Rattle.rounds.specs.Added.{extend-extends, extend-holds, extend-nothing, extend-held, extend-new}
 
 module _ (rules : List Rule) where
   -- ---- one round
@@ -34,8 +26,8 @@ module _ (rules : List Rule) where
 
   -- after a round every result of the table before is held
   pub round-holds : (A : Automaton) {d : Derivation} → List·Memᴰ d (derivations A rules) → held (round rules A) (d .result) ≡ true
-  unfolding round results
-  round-holds A j = extend-holds A (Memᴰ·map (λ (d : Derivation). d .result) j)
+  unfolding round
+  round-holds A j = extend-holds A (results-in rules A j)
 
   -- a round that adds no move changes nothing
   pub still-same : (A : Automaton) → length (round rules A .moves) ≡ length (A .moves) → round rules A ≡ A
@@ -44,14 +36,12 @@ module _ (rules : List Rule) where
 
   -- and its table is closed
   pub still-closed : (A : Automaton) → length (round rules A .moves) ≡ length (A .moves) → Closed rules A
-  unfolding round results
-  still-closed A e = record { closed = λ d j. extend-nothing A (results rules A) e .1 (d .result) (Memᴰ·map (λ (d : Derivation). d .result) j) }
+  unfolding round
+  still-closed A e = record { closed = λ d j. extend-nothing A (results rules A) e .1 (d .result) (results-in rules A j) }
 
   pub closed-same : (A : Automaton) → Closed rules A → round rules A ≡ A
-  unfolding round results
-  closed-same A c = extend-held A (results rules A) (λ x j.
-      let (d, i, e) = Memᴰ·of-map (λ (d : Derivation). d .result) (derivations A rules) j in
-      ap (held A) (sym e) ∙ c .closed d i)
+  unfolding round
+  closed-same A c = extend-held A (results rules A) (λ x j. let (d, i, e) = results-out rules A j in ap (held A) (sym e) ∙ c .closed d i)
 
   -- a round that changes the number of moves adds a move
   pub round-adds : (A : Automaton) → (length (round rules A .moves) ≡ length (A .moves) → ⊥) → length (A .moves) < length (round rules A .moves)
@@ -60,10 +50,10 @@ module _ (rules : List Rule) where
   -- a move that a round adds is the result of a derivation from the table before
   pub round-new : (A : Automaton) (i : ℕ) → length (A .moves) ≤ i → i < length (round rules A .moves)
       → (d : Derivation) × List·Memᴰ d (derivations A rules) × (held A (d .result) ≡ false) × Stands (round rules A) i (d .result)
-  unfolding round results
+  unfolding round
   round-new A i l h =
       let (x, j, n, s) = extend-new A (results rules A) i l h in
-      let (d, k, e) = Memᴰ·of-map (λ (d : Derivation). d .result) (derivations A rules) j in
+      let (d, k, e) = results-out rules A j in
       (d, k, ap (held A) e ∙ n, subst (λ (y : Result). Stands (round rules A) i y) (sym e) s)
 
   -- ---- the table after n rounds

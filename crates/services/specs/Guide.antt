@@ -2,14 +2,14 @@
 -- Assumes nothing.
 pub mod Laws
 use Prim.Native.Nat.{ℕ, _/_, min}
-use mathlib.Core.Bool.{Bool, true, false}
-use mathlib.Core.Option.{Option, none, some}
+use mathlib.Core.Bool.{true, false}
+use mathlib.Core.Option.{none, some}
 use mathlib.Core.List.{List, [], _∷_, _++_}
 use lib.ListN.{length, getD}
-use lib.Dec.{eqb, ltb, leb}
+use lib.Dec.{eqb, leb}
 use Rattle.automata.specs.Saturation.{Saturated}
 use Rattle.replies.specs.declared.Reply.{Reply}
-use Rattle.replies.specs.declared.Reply.the-variants.{Refused, NoRun, Walked}
+use Rattle.replies.specs.declared.Reply.the-variants.{Refused}
 use Rattle.replies.specs.declared.Halt.the-variants.{CellsShort}
 use Rattle.walks.specs.Guide.{Outcome, outcome, noOutcome, startWalk, guided}
 use Rattle.files.specs.Bytes.{Test, firstHit, testsOn}

@@ -3,14 +3,12 @@
 pub mod Laws
 use Prim.Native.Nat.{ℕ}
 use mathlib.Core.Bool.{Bool, true, false}
-use mathlib.Core.Option.{Option, none, some}
+use mathlib.Core.Option.{none, some}
 use mathlib.Core.List.{List, [], _∷_, _++_, map}
 use lib.ListN.{length}
 use lib.Dec.{eqb, ltb}
 use Rattle.automata.specs.Automaton.{Automaton}
 use Rattle.automata.specs.Acceptance.{accepts2}
-use Rattle.automata.specs.Saturation.{Saturated}
-use Rattle.stacks.specs.System.{Configuration}
 use Rattle.files.specs.Bytes.{Test, firstHit, testsOn}
 use Rattle.files.specs.Case.{caseTests}
 use Rattle.files.specs.Start.{Files, Start, startTests, startsOf, configurationOf}

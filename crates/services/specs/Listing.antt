@@ -3,8 +3,7 @@
 use Prim.Native.Nat.{ℕ, zero, suc, _+_, _*_, _/_, _%_}
 use Prim.Native.Char.{code}
 use Prim.Native.String.{String}
-use mathlib.Core.Bool.{Bool, true, false}
-use mathlib.Core.Option.{Option, none, some}
+use mathlib.Core.Bool.{true, false}
 use mathlib.Core.List.{List, [], _∷_, _++_}
 use lib.ListN.{length}
 use lib.Dec.{eqb}
@@ -15,7 +14,7 @@ use Rattle.replies.specs.declared.Halt.the-variants.{Arrived, TraceFull, CellsS
 use Rattle.replies.specs.declared.Reply.{Reply}
 use Rattle.replies.specs.declared.Reply.the-variants.{Refused, NoRun, Walked}
 use Rattle.files.specs.Start.{Files, startsOf}
-use Rattle.services.specs.Saturate.{Lent, saturateService}
+use Rattle.services.specs.Saturate.{saturateService}
 use Rattle.services.specs.Judge.{JudgeInput, judgeService}
 use Rattle.services.specs.Guide.{GuideInput, guideService, cellWords}
 

@@ -7,14 +7,16 @@ use mathlib.Core.List.{List, [], _∷_, List·Memᴰ, List·Memᴰ·head, List·
 use native.Mathlib.Omega.{arith}
 use lib.Dec.{eqb}
 use borrow.Author.Tests.{eqb-true, eqb-false, eq-eqb}
-use Rattle.words.specs.Lists.Laws.{by-test, only-in, only-out}
+use Rattle.words.specs.Tests.{by-test}
+use Rattle.words.specs.Sets.Laws.{All}
+use Rattle.words.specs.Lists.Laws.{only-in, only-out}
 use Rattle.stacks.specs.Stack.{Stack1, cons1, Stack2, cons2, Annotation, of1, of2}
 use Rattle.automata.specs.Automaton.{Automaton, moveAt, edgeAt, movesOf, edgesOf, entryEdge}
+use Rattle.automata.specs.Automaton.Laws.{MoveOf, EdgeOf, movesOf-in, movesOf-out, edgesOf-in, edgesOf-out}
 use Rattle.automata.specs.Acceptance.{moveFits, edgeFits}
 use Rattle.automata.specs.Acceptance.Laws.{Accepts1, Accepts2, AcceptsNote, moveFits-in, moveFits-out, edgeFits-in, edgeFits-out}
 use Rattle.automata.specs.Derivation.{Derivation}
-use Rattle.automata.specs.Derivation.Numbers.{MoveOf, EdgeOf, Paired, empty, also, movesOf-in, movesOf-out, edgesOf-in, edgesOf-out}
-use Rattle.words.specs.Sets.Laws.{All}
+use Rattle.automata.specs.Derivation.Numbers.{Paired, empty, also}
 use Rattle.walks.specs.Guide.{least, leastChoice, chooses, choosesAll, premise, topChoice, rootChoice}
 
 -- ---- the least choices of a start

@@ -11,8 +11,9 @@ use Rattle.words.specs.Sets.Laws.{All, has-in, all-part, all-left, all-right, a
 use Rattle.stacks.specs.Stack.{Operation, rewrite, push1, push2, copy, pop1, pop2, collapse1, collapse2}
 use Rattle.stacks.specs.System.{Rule}
 use Rattle.automata.specs.Automaton.{Automaton, Move, moveAt, edgeAt, entryEdge, entrySet}
+use Rattle.automata.specs.Automaton.Laws.{MoveOf, EntryIs, EntryMove, entryMove-set}
 use Rattle.automata.specs.Derivation.{Derivation, Joins, joinsOf, named, edgeSets}
-use Rattle.automata.specs.Derivation.Numbers.{Paired, MoveOf, EntryIs, EntryMove, entryMove-set}
+use Rattle.automata.specs.Derivation.Numbers.{Paired}
 use Rattle.automata.specs.Derivation.Joining.{Into, joinAll-into, named-in, edgeSets-part}
 use Rattle.automata.specs.Derivation.Laws.{Says, ByRewrite, ByPush, ByCopy, Concludes}
 use Rattle.automata.specs.Saturation.{Saturated}
@@ -22,7 +23,7 @@ use Rattle.soundness.specs.Facts.{SaturatedFacts}
 use Rattle.soundness.specs.Choices.{chooses-it, choosesAll-it, premise-is, topChoice-is, rootChoice-is}
 use Rattle.soundness.specs.Meaning.{Ok1, Ok2, OkNote, any, one, two, okNote-part, okNote-same, okNote-order1, okNote-order2}
 use Rattle.soundness.specs.Own.{edge-ok}
-use Rattle.soundness.specs.Kept.{usedMoves}
+use Rattle.soundness.specs.Used.{usedMoves}
 
 all-same : {s z : ℕ} {X : ℕ → Type 0} → s ≡ z → All s X → All z X
 all-same {X = X} e f = subst (λ (y : ℕ). All y X) e f

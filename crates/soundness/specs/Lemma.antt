@@ -5,29 +5,30 @@ use Prim.Native.Nat.{ℕ, zero, suc, _+_, _<_, _≤_}
 use mathlib.Core.Path.{_≡_, ap, sym, _∙_, subst}
 use mathlib.Core.Option.{some}
 use mathlib.Core.List.{List, List·Memᴰ}
-use native.Mathlib.Nat.{not-suc-le-zero}
+use native.Mathlib.Nat.{not-suc-le-zero, lt-of-lt-of-le}
 use native.Mathlib.Omega.{arith}
 use lib.ListN.{length, getElem?}
 use lib.Dec.{ltb}
 use borrow.Author.Tests.{ltb-true, ltb-false}
+use Rattle.words.specs.Tests.{by-test}
 use Rattle.words.specs.Sets.Laws.{All}
-use Rattle.words.specs.Lists.Laws.{by-test, getElem?-in}
+use Rattle.words.specs.Lists.Laws.{getElem?-in}
 use Rattle.stacks.specs.Stack.{Operation}
 use Rattle.stacks.specs.System.{Rule}
 use Rattle.automata.specs.Automaton.{Automaton, moveAt, edgeAt, entryEdge, entryControl, entrySet}
-use Rattle.automata.specs.Acceptance.Laws.{entry-edge}
+use Rattle.automata.specs.Automaton.Laws.{MoveOf, EntryIs, entryControl-is, entrySet-is, entry-edge}
 use Rattle.automata.specs.Derivation.{Result, Derivation, resultOf, firstDerivation}
-use Rattle.automata.specs.Derivation.Numbers.{MoveOf, EntryIs, entryControl-is, entrySet-is}
 use Rattle.automata.specs.Derivation.Laws.{Says, says-goes, derivations-out, firstDerivation-out}
+use Rattle.automata.specs.Derivation.Kept.{says-kept}
 use Rattle.automata.specs.Saturation.{Saturated, before, ownMoves}
+use Rattle.automata.specs.Saturation.Laws.{before-extends, before-small}
 use Rattle.walks.specs.Guide.{choicesAfter}
 use Rattle.soundness.specs.Decorated.{Decorated1, cons1′, Decorated2, cons2′, DecoratedNote, erase1, afterDecorated, Arrives}
 use Rattle.soundness.specs.Facts.{SaturatedFacts}
-use Rattle.soundness.specs.Extension.{before-extends, before-below}
 use Rattle.soundness.specs.Meaning.{Ok1, Ok2, OkNote, okNote-same}
 use Rattle.soundness.specs.Step.{arrives-onward}
 use Rattle.soundness.specs.Own.{own-accepts, own-arrives}
-use Rattle.soundness.specs.Kept.{usedMoves, says-kept, says-below}
+use Rattle.soundness.specs.Used.{usedMoves, says-below}
 use Rattle.soundness.specs.Left.{Good, left}
 
 module _ {P : ℕ} {own : Automaton} {rules : List Rule} {T : Saturated} (F : SaturatedFacts P own rules T) where
@@ -48,7 +49,7 @@ module _ {P : ℕ} {own : Automaton} {rules : List Rule} {T : Saturated} (F : Sa
         rule = h .rule;
         numbered = h .numbered;
         says = says-kept (before-extends T i) (h .rule) d o (h .says);
-        uses-smaller = λ j k. before-below T i j (says-below (before T i) (h .rule) d o (h .says) j k);
+        uses-smaller = λ j k. lt-of-lt-of-le (says-below (before T i) (h .rule) d o (h .says) j k) (before-small T i);
         result-is = f .1;
       }
 

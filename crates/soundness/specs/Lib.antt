@@ -1,11 +1,10 @@
 pub mod Decorated
 pub mod Facts
-pub mod Extension
 pub mod Choices
 pub mod Meaning
 pub mod Step
 pub mod Own
-pub mod Kept
+pub mod Used
 pub mod Left
 pub mod Lemma
 pub mod Theorem

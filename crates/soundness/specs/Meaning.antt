@@ -11,8 +11,8 @@ use Rattle.words.specs.Sets.{partOf}
 use Rattle.words.specs.Sets.Laws.{All, all-part}
 use Rattle.stacks.specs.System.{Rule}
 use Rattle.automata.specs.Automaton.{Automaton, entryEdge}
+use Rattle.automata.specs.Automaton.Laws.{EntryIs}
 use Rattle.automata.specs.Acceptance.Laws.{Accepts1, Accepts2}
-use Rattle.automata.specs.Derivation.Numbers.{EntryIs}
 use Rattle.automata.specs.Derivation.Joining.{Fits}
 use Rattle.automata.specs.Saturation.{Saturated}
 use Rattle.soundness.specs.Facts.{SaturatedFacts}

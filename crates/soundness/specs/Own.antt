@@ -9,34 +9,22 @@ use native.Mathlib.Omega.{arith}
 use lib.ListN.{length, getD}
 use Rattle.words.specs.Sets.Laws.{All}
 use Rattle.words.specs.Lists.Laws.{getD-in}
-use Rattle.stacks.specs.Stack.{Annotation, of1, of2, cons1, cons2}
+use Rattle.stacks.specs.Stack.{cons1, cons2}
 use Rattle.stacks.specs.System.{Rule}
-use Rattle.automata.specs.Automaton.{Automaton, Move, Edge, noMove, noEdge, noEntry, edges, moveAt, edgeAt, entryEdge}
+use Rattle.automata.specs.Automaton.{Automaton, Move, Edge, noEdge, noEntry, edges, moveAt, edgeAt, entryEdge}
+use Rattle.automata.specs.Automaton.Laws.{MoveOf, EdgeOf, EntryIs, moveAt-in, entry-edge, edge-cases, edgeAt-inner, length-edges}
 use Rattle.automata.specs.Acceptance.{inTarget}
-use Rattle.automata.specs.Acceptance.Laws.{Accepts1, Accepts2, AcceptsNote, accepts2-in, entry-edge, control-edge, edge-cases, edgeAt-inner, length-edges, extends-moveAt, extends-edgeAt}
-use Rattle.automata.specs.Derivation.Numbers.{MoveOf, EdgeOf, EntryIs}
+use Rattle.automata.specs.Acceptance.Laws.{Accepts1, Accepts2, AcceptsNote, accepts2-in, note-any}
+use Rattle.automata.specs.Facts.Laws.{control-edge, moveAt-kept, edgeAt-kept, entryIs-own}
 use Rattle.automata.specs.Saturation.{Saturated}
 use Rattle.soundness.specs.Decorated.{Decorated1, cons1′, Decorated2, cons2′, DecoratedNote, erase1, erase2, eraseNote, erased, Arrives, here}
 use Rattle.soundness.specs.Facts.{SaturatedFacts}
-use Rattle.soundness.specs.Extension.{entryIs-own}
 use Rattle.soundness.specs.Meaning.{Ok1, Ok2, OkNote, any, one, two}
 use Rattle.soundness.specs.Step.{next-arrived, at}
-
-pub note-any : (A : Automaton) (u : Annotation) (k B : ℕ) → k ≡ 0 → AcceptsNote A u k B
-unfolding Accepts1
-note-any A (of1 u) k B e = rw e tt
-note-any A (of2 u) k B e = rw e tt
 
 module _ {P : ℕ} {own : Automaton} {rules : List Rule} {T : Saturated} (F : SaturatedFacts P own rules T) where
   abbrev table : Automaton
   table = T .table
-
-  pub moveAt-own : (i : ℕ) → i < length (own .moves) → moveAt table i ≡ moveAt own i
-  moveAt-own i h = extends-moveAt (F .extends) i h
-
-  pub in-own : (i : ℕ) → i < length (own .moves) → List·Memᴰ (moveAt own i) (own .moves)
-  unfolding moveAt
-  in-own i h = getD-in (own .moves) i noMove h
 
   -- the annotation is as a move of round 0 asks
   pub note-own : (m : Move) → List·Memᴰ m (own .moves) → {u : DecoratedNote} → OkNote F (m .order) (m .B) u → AcceptsNote own (eraseNote u) (m .order) (m .B)
@@ -55,14 +43,14 @@ module _ {P : ℕ} {own : Automaton} {rules : List Rule} {T : Saturated} (F : Sa
       → Accepts1 own (cons1 a (eraseNote u) (erase1 s)) r
   unfolding Accepts1
   own-accepts {i = i} {u = u} {s = s} l h x y =
-      let e = moveAt-own i l in
-      let g = F .own-inner .rest-inner (moveAt own i) (in-own i l) in
+      let e = moveAt-kept (F .extends) i l in
+      let g = F .own-inner .rest-inner (moveAt own i) (moveAt-in own i l) in
       let x′ : OkNote F (moveAt own i .order) (moveAt own i .B) u = rw e at x in
       let y′ : All (moveAt own i .R) (λ q. Ok1 F q s) = rw e at y in
       record {
         number = i;
         move = record { below = l; state-is = rw e at (h .state-is); symbol-is = rw e at (h .symbol-is) };
-        note = note-own (moveAt own i) (in-own i l) x′;
+        note = note-own (moveAt own i) (moveAt-in own i l) x′;
         rest = λ q k. y′ q k .inner (subst (λ (j : ℕ). q < j) (sym (F .extends .same-J)) (g q k));
       }
 
@@ -80,8 +68,8 @@ module _ {P : ℕ} {own : Automaton} {rules : List Rule} {T : Saturated} (F : Sa
     where
       E : EntryIs own p S e
       E =
-          let m = F .own-table .move-facts (moveAt own i) (in-own i l) .state-exists in
-          let st : moveAt own i .state ≡ table .J + e = ap (λ (m : Move). m .state) (sym (moveAt-own i l)) ∙ h .state-is in
+          let m = F .own-table .move-facts (moveAt own i) (moveAt-in own i l) .state-exists in
+          let st : moveAt own i .state ≡ table .J + e = ap (λ (m : Move). m .state) (sym (moveAt-kept (F .extends) i l)) ∙ h .state-is in
           let j = F .extends .same-J in
           let below : e < length (own .entries) = omega arith in
           entryIs-own (F .extends) below k
@@ -109,7 +97,7 @@ module _ {P : ℕ} {own : Automaton} {rules : List Rule} {T : Saturated} (F : Sa
       record {
         inner = λ l. ⊎-elim (by-inner l) (by-entry l) (edge-cases table n (h .below));
         control = λ l.
-            let r = control-edge table (F .table) l h in
+            let r = control-edge (F .table) l h in
             x .entry q (edgeAt table n .S) (r .0) (r .1 .first-is) (r .1 .entry) t y g (c ∙ r .1 .number-is);
       }
     where
@@ -120,7 +108,7 @@ module _ {P : ℕ} {own : Automaton} {rules : List Rule} {T : Saturated} (F : Sa
           let z : length (edges own) ≡ length (own .inner) + length (own .entries) = length-edges own in
           let k : length (table .inner) ≡ length (own .inner) = ap (length {A = Edge}) (F .extends .same-inner) in
           let below : n < length (edges own) = omega arith in
-          let f : edgeAt table n ≡ edgeAt own n = extends-edgeAt (F .extends) n below in
+          let f : edgeAt table n ≡ edgeAt own n = edgeAt-kept (F .extends) n below in
           record {
             number = n;
             edge = record { below = below; state-is = rw f at (h .state-is) };

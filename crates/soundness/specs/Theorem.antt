@@ -7,17 +7,17 @@ use mathlib.Core.Path.{_≡_, refl, ap, ap₂, subst}
 use mathlib.Core.Option.{some}
 use mathlib.Core.List.{List, []}
 use native.Mathlib.Omega.{arith}
-use lib.ListN.{length}
 use lib.Dec.{ltb}
 use borrow.Author.Tests.{ltb-true, ltb-false}
 use Rattle.words.specs.Sets.Laws.{Has}
-use Rattle.words.specs.Lists.Laws.{by-test, getD-in}
+use Rattle.words.specs.Tests.{by-test}
 use Rattle.stacks.specs.Stack.{Stack1, nil1, cons1, Stack2, nil2, cons2, Annotation, of1, of2}
 use Rattle.stacks.specs.System.{Rule, Configuration, Run, stay, go}
-use Rattle.automata.specs.Automaton.{Automaton, noMove, moveAt, edgeAt}
+use Rattle.automata.specs.Automaton.{Automaton, moveAt, edgeAt}
 use Rattle.automata.specs.Acceptance.{accepts2, inTarget}
 use Rattle.automata.specs.Acceptance.Laws.{Accepts1, Accepts2, AcceptsNote, accepts2-in, accepts2-out}
 use Rattle.automata.specs.Saturation.{Saturated}
+use Rattle.automata.specs.Facts.Laws.{moveAt-facts}
 use Rattle.walks.specs.Guide.{leastChoice}
 use Rattle.soundness.specs.Decorated.{erase1, erase2, eraseNote, decorate1, decorate2, decorateNote, DecoratedWalk, erased, decorated, arrived, next, walkAfter, traceAfter, Arrives, here, onward}
 use Rattle.soundness.specs.Facts.{SaturatedFacts}
@@ -49,10 +49,6 @@ unfolding erased decorated
 erased-decorated A c = λ i. record { control = c .control; stack = erase-decorate2 A (c .stack) i }
 
 module _ {P : ℕ} {own : Automaton} {rules : List Rule} {T : Saturated} (F : SaturatedFacts P own rules T) where
-  orders-small : (i : ℕ) → i < length (T .table .moves) → moveAt (T .table) i .order ≤ 2
-  unfolding moveAt
-  orders-small i h = F .table .move-facts (moveAt (T .table) i) (getD-in (T .table .moves) i noMove h) .order-small
-
   -- every state that accepts a stack is right about it with its least choices
   mutual
     unfolding Accepts1 erase1 decorate1
@@ -69,7 +65,7 @@ module _ {P : ℕ} {own : Automaton} {rules : List Rule} {T : Saturated} (F : Sa
         let x = least-move (T .table) a u s r h in
         let n : ℕ = x .0 in
         good F n r a (decorateNote (T .table) u) (decorate1 (T .table) s) (leastChoice (T .table) (of1 (cons1 a u s))) (x .2)
-        (accepts-okNote u (moveAt (T .table) n .order) (moveAt (T .table) n .B) (orders-small n (x .2 .below)) (x .3)) (λ q k. accepts-ok1 s q (x .4 q k)) (x .1)
+        (accepts-okNote u (moveAt (T .table) n .order) (moveAt (T .table) n .B) (moveAt-facts (F .table) n (x .2 .below) .order-small) (x .3)) (λ q k. accepts-ok1 s q (x .4 q k)) (x .1)
 
     pub accepts-ok2 : (t : Stack2) (q : ℕ) → Accepts2 (T .table) t q → Ok2 F q (decorate2 (T .table) t)
     accepts-ok2 nil2 q h =

@@ -1,6 +1,7 @@
 -- The order of lists of numbers in which the first difference decides, and lists sorted by such a key.
 -- Assumes nothing.
 pub mod Laws
+pub mod Rising
 use Prim.Native.Nat.{ℕ}
 use mathlib.Core.Bool.{Bool, true, false}
 use mathlib.Core.List.{List, [], _∷_}

@@ -1,120 +1,24 @@
 -- What acceptance means: a type for each of the tests of Acceptance.antt, by recursion on the stack, that holds exactly if the test does.
--- An automaton accepts all that an automaton accepts which it extends. The edges of a control are its entries.
+-- An automaton accepts all that an automaton accepts which it extends.
 -- Assumes nothing.
-use Prim.Native.Nat.{ℕ, zero, suc, _+_, _-_, _<_, _≤_}
+use Prim.Native.Nat.{ℕ, zero, suc}
 use mathlib.Core.Bool.{Bool, true, _&&_, false≢true}
 use mathlib.Core.Path.{_≡_, refl, ap, ap₂, sym, _∙_, subst}
-use mathlib.Core.Logic.{_⊎_, inl, inr, ⊎-elim}
-use mathlib.Core.List.{List, [], _∷_, _++_, append-assoc, List·Memᴰ}
-use native.Mathlib.Nat.{not-suc-le-zero, le-of-suc-le-suc, add-zero}
-use native.Mathlib.Omega.{arith}
-use lib.ListN.{length, getD, length-append, List·getD-append}
-use lib.Seq.{getD-append-add}
-use lib.Dec.{eqb, ltb}
-use borrow.Author.Tests.{ltb-true, ltb-false}
+use mathlib.Core.List.{List, List·Memᴰ}
+use lib.ListN.{getD}
+use lib.Dec.{eqb}
+use Rattle.words.specs.Tests.{and-left, and-right}
 use Rattle.words.specs.Sets.{members}
 use Rattle.words.specs.Sets.Laws.{Has, All, has-in, in-has}
 use Rattle.words.specs.Lists.{only, every, some-of, places}
-use Rattle.words.specs.Lists.Laws.{by-test, and-left, and-right, only-in, only-out, every-in, in-every, some-of-in, some-of-out, getD-in, in-getD, places-in, places-out}
+use Rattle.words.specs.Lists.Laws.{only-in, only-out, every-in, in-every, some-of-in, some-of-out, getD-in, in-getD, places-in, places-out}
 use Rattle.stacks.specs.Stack.{Stack1, nil1, cons1, Stack2, nil2, cons2, Annotation, of1, of2}
-use Rattle.automata.specs.Automaton.{Automaton, Move, Edge, Entry, noMove, noEdge, noEntry, edges, entryEdges, edgeAt, moveAt, edgesOf, movesOf, entryEdge}
+use Rattle.automata.specs.Automaton.{Automaton, Move, Edge, noMove, noEdge, edges, edgeAt, moveAt, edgesOf, movesOf}
+use Rattle.automata.specs.Automaton.Laws.{MoveOf, EdgeOf, movesOf-in, movesOf-out, edgesOf-in, edgesOf-out}
+pub use Rattle.automata.specs.Automaton.Laws.{length-entryEdges, entryEdges-at, length-edges, edgeAt-inner, edge-cases, entry-edge}
 use Rattle.automata.specs.Acceptance.{accepts1, accepts2, acceptsNote, moveFits, edgeFits}
-use Rattle.automata.specs.Derivation.Numbers.{MoveOf, EdgeOf, EntryIs, movesOf-in, movesOf-out, edgesOf-in, edgesOf-out}
-use Rattle.automata.specs.Facts.{TableFacts, Extends}
-
--- ---- entries as edges
-
-pub length-entryEdges : (r : ℕ) (es : List Entry) → length (entryEdges r es) ≡ length es
-unfolding entryEdges
-length-entryEdges r [] = refl
-length-entryEdges r (x ∷ es) = ap suc (length-entryEdges (suc r) es)
-
-pub entryEdges-at : (r : ℕ) (es : List Entry) (e : ℕ) → e < length es
-    → getD (entryEdges r es) e noEdge ≡ record { state = getD es e noEntry .control; first = r + e; S = getD es e noEntry .S }
-unfolding entryEdges
-entryEdges-at r [] e h = absurd (not-suc-le-zero h)
-entryEdges-at r (x ∷ es) zero h = ap (λ (n : ℕ). record { state = x .control; first = n; S = x .S }) (sym (add-zero r))
-entryEdges-at r (x ∷ es) (suc e) h =
-    let k : suc r + e ≡ r + suc e = omega arith in
-    entryEdges-at (suc r) es e (le-of-suc-le-suc h)
-    ∙ ap (λ (n : ℕ). record { state = getD es e noEntry .control; first = n; S = getD es e noEntry .S }) k
-
-pub entryEdges-append : (r : ℕ) (xs ys : List Entry) → entryEdges r (xs ++ ys) ≡ entryEdges r xs ++ entryEdges (r + length xs) ys
-unfolding entryEdges
-entryEdges-append r [] ys = ap (λ (n : ℕ). entryEdges n ys) (sym (add-zero r))
-entryEdges-append r (x ∷ xs) ys =
-    let k : suc r + length xs ≡ r + suc (length xs) = omega arith in
-    ap (λ (l : List Edge). record { state = x .control; first = r; S = x .S } ∷ l)
-    (entryEdges-append (suc r) xs ys ∙ ap (λ (n : ℕ). entryEdges (suc r) xs ++ entryEdges n ys) k)
-
--- edge i is entry e, which is [p,S]
-pub record EntryEdge (A : Automaton) (p S e i : ℕ) : Type 0 where
-  pub number-is : i ≡ entryEdge A e
-  pub edge : EdgeOf A p i
-  pub first-is : edgeAt A i .first ≡ A .J + e
-  pub set-is : edgeAt A i .S ≡ S
-  pub entry : EntryIs A p S e
-
-module _ (A : Automaton) where
-  pub length-edges : length (edges A) ≡ length (A .inner) + length (A .entries)
-  unfolding edges
-  length-edges = length-append (A .inner) _ ∙ ap (λ (n : ℕ). length (A .inner) + n) (length-entryEdges (A .J) (A .entries))
-
-  pub edgeAt-inner : (i : ℕ) → i < length (A .inner) → edgeAt A i ≡ getD (A .inner) i noEdge
-  unfolding edgeAt edges
-  edgeAt-inner i h = List·getD-append (A .inner) _ noEdge i h
-
-  -- an entry is an edge of its control
-  pub entry-edge : {p S e : ℕ} → EntryIs A p S e → EntryEdge A p S e (entryEdge A e)
-  unfolding entryEdge edgeAt edges
-  entry-edge {e = e} h =
-      let k = length-edges in
-      let b : e < length (A .entries) = h .below in
-      let x = getD-append-add (A .inner) (entryEdges (A .J) (A .entries)) e noEdge ∙ entryEdges-at (A .J) (A .entries) e b in
-      record {
-        number-is = refl;
-        edge = record { below = omega arith; state-is = ap (λ (z : Edge). z .state) x ∙ h .control-is };
-        first-is = ap (λ (z : Edge). z .first) x;
-        set-is = ap (λ (z : Edge). z .S) x ∙ h .set-is;
-        entry = h;
-      }
-
-  -- an edge is an inner edge or an entry
-  pub edge-cases : (i : ℕ) → i < length (edges A) → (i < length (A .inner)) ⊎ ((e : ℕ) × (e < length (A .entries)) × (i ≡ entryEdge A e))
-  unfolding entryEdge
-  edge-cases i h = by-test (ltb i (length (A .inner)))
-      (λ y. inl (ltb-true i (length (A .inner)) y))
-      (λ n.
-      let l : length (A .inner) ≤ i = ltb-false i (length (A .inner)) n in
-      let k = length-edges in
-      inr (i - length (A .inner), omega arith, omega arith))
-
-  -- the edges of a control are its entries
-  pub control-edge : {P p i : ℕ} → TableFacts P A → p < P → EdgeOf A p i → (e : ℕ) × EntryEdge A p (edgeAt A i .S) e i
-  control-edge {P} {p} {i} F l h = ⊎-elim inner entry (edge-cases i (h .below))
-    where
-      inner : i < length (A .inner) → (e : ℕ) × EntryEdge A p (edgeAt A i .S) e i
-      inner k =
-          let f : P ≤ getD (A .inner) i noEdge .state = F .inner-facts _ (getD-in (A .inner) i noEdge k) .from-inner in
-          let g : getD (A .inner) i noEdge .state ≡ p = ap (λ (z : Edge). z .state) (sym (edgeAt-inner i k)) ∙ h .state-is in
-          absurd (omega arith)
-
-      entry : (e : ℕ) × (e < length (A .entries)) × (i ≡ entryEdge A e) → (e : ℕ) × EntryEdge A p (edgeAt A i .S) e i
-      entry (e, b, q) =
-          let x = entry-edge (record { below = b; control-is = refl; set-is = refl }) in (
-            e,
-            record {
-              number-is = q;
-              edge = h;
-              first-is = ap (λ (k : ℕ). edgeAt A k .first) q ∙ x .first-is;
-              set-is = refl;
-              entry = record {
-                below = b;
-                control-is = sym (x .edge .state-is) ∙ ap (λ (k : ℕ). edgeAt A k .state) (sym q) ∙ h .state-is;
-                set-is = sym (x .set-is) ∙ ap (λ (k : ℕ). edgeAt A k .S) (sym q);
-              };
-            },
-          )
+use Rattle.automata.specs.Facts.{Extends}
+use Rattle.automata.specs.Facts.Laws.{moveAt-kept, moveOf-kept, edgeAt-kept, edgeOf-kept}
 
 -- ---- the meaning
 
@@ -149,6 +53,12 @@ module _ (A : Automaton) where
     AcceptsNote (of2 u) zero B = Unit {0}
     AcceptsNote (of2 u) (suc zero) B = ⊥
     AcceptsNote (of2 u) (suc (suc k)) B = All B (λ q. Accepts2 u q)
+
+-- at order 0 a move asks nothing of the annotation
+pub note-any : (A : Automaton) (u : Annotation) (k B : ℕ) → k ≡ 0 → AcceptsNote A u k B
+unfolding Accepts1
+note-any A (of1 u) k B e = rw e tt
+note-any A (of2 u) k B e = rw e tt
 
 -- ---- the tests and the meaning
 
@@ -262,67 +172,41 @@ module _ (A : Automaton) where
 -- ---- an automaton that extends another accepts all that the other accepts
 
 module _ {own A : Automaton} (X : Extends own A) where
-  pub extends-moveAt : (i : ℕ) → i < length (own .moves) → moveAt A i ≡ moveAt own i
-  unfolding moveAt
-  extends-moveAt i h = ap (λ (z : List Move). getD z i noMove) (X .moves-are) ∙ List·getD-append (own .moves) (X .more-moves) noMove i h
-
-  pub extends-MoveOf : {a r i : ℕ} → MoveOf own a r i → MoveOf A a r i
-  extends-MoveOf {i = i} h =
-      let l : length (A .moves) ≡ length (own .moves) + length (X .more-moves) = ap length (X .moves-are) ∙ length-append (own .moves) (X .more-moves) in
-      let b : i < length (own .moves) = h .below in
-      let e = extends-moveAt i b in
-      record { below = omega arith; state-is = rw e (h .state-is); symbol-is = rw e (h .symbol-is) }
-
-  pub extends-edges : edges A ≡ edges own ++ entryEdges (own .J + length (own .entries)) (X .more-entries)
-  unfolding edges
-  extends-edges = rw (X .same-inner, X .same-J, X .entries-are, entryEdges-append (own .J) (own .entries) (X .more-entries)) (sym (append-assoc (own .inner) _ _))
-
-  pub extends-edgeAt : (i : ℕ) → i < length (edges own) → edgeAt A i ≡ edgeAt own i
-  unfolding edgeAt
-  extends-edgeAt i h = ap (λ (z : List Edge). getD z i noEdge) extends-edges ∙ List·getD-append (edges own) _ noEdge i h
-
-  pub extends-EdgeOf : {q i : ℕ} → EdgeOf own q i → EdgeOf A q i
-  extends-EdgeOf {i = i} h =
-      let more : List Edge = entryEdges (own .J + length (own .entries)) (X .more-entries) in
-      let l : length (edges A) ≡ length (edges own) + length more = ap length extends-edges ∙ length-append (edges own) more in
-      let b : i < length (edges own) = h .below in
-      record { below = omega arith; state-is = rw (extends-edgeAt i b) (h .state-is) }
-
   mutual
     unfolding Accepts1
 
-    pub extends-Accepts1 : (s : Stack1) (r : ℕ) → Accepts1 own s r → Accepts1 A s r
-    extends-Accepts1 nil1 r x = subst (λ (z : ℕ). Has z r) (sym (X .same-final1)) x
-    extends-Accepts1 (cons1 a u s) r x =
-        let e = extends-moveAt (x .number) (x .move .below) in
+    pub Accepts1-kept : (s : Stack1) (r : ℕ) → Accepts1 own s r → Accepts1 A s r
+    Accepts1-kept nil1 r x = subst (λ (z : ℕ). Has z r) (sym (X .same-final1)) x
+    Accepts1-kept (cons1 a u s) r x =
+        let e = moveAt-kept X (x .number) (x .move .below) in
         record {
           number = x .number;
-          move = extends-MoveOf (x .move);
-          note = rw e (extends-AcceptsNote u _ _ (x .note));
-          rest = rw e (λ q k. extends-Accepts1 s q (x .rest q k));
+          move = moveOf-kept X (x .move);
+          note = rw e (AcceptsNote-kept u _ _ (x .note));
+          rest = rw e (λ q k. Accepts1-kept s q (x .rest q k));
         }
 
-    pub extends-Accepts2 : (t : Stack2) (q : ℕ) → Accepts2 own t q → Accepts2 A t q
-    extends-Accepts2 nil2 q x = subst (λ (z : ℕ). Has z q) (sym (X .same-final2)) x
-    extends-Accepts2 (cons2 w t) q x =
-        let e = extends-edgeAt (x .number) (x .edge .below) in
+    pub Accepts2-kept : (t : Stack2) (q : ℕ) → Accepts2 own t q → Accepts2 A t q
+    Accepts2-kept nil2 q x = subst (λ (z : ℕ). Has z q) (sym (X .same-final2)) x
+    Accepts2-kept (cons2 w t) q x =
+        let e = edgeAt-kept X (x .number) (x .edge .below) in
         record {
           number = x .number;
-          edge = extends-EdgeOf (x .edge);
-          first = rw e (extends-Accepts1 w _ (x .first));
-          rest = rw e (λ y k. extends-Accepts2 t y (x .rest y k));
+          edge = edgeOf-kept X (x .edge);
+          first = rw e (Accepts1-kept w _ (x .first));
+          rest = rw e (λ y k. Accepts2-kept t y (x .rest y k));
         }
 
-    pub extends-AcceptsNote : (u : Annotation) (k B : ℕ) → AcceptsNote own u k B → AcceptsNote A u k B
-    extends-AcceptsNote (of1 u) zero B x = tt
-    extends-AcceptsNote (of1 u) (suc zero) B x = λ q h. extends-Accepts1 u q (x q h)
-    extends-AcceptsNote (of1 u) (suc (suc k)) B x = x
-    extends-AcceptsNote (of2 u) zero B x = tt
-    extends-AcceptsNote (of2 u) (suc zero) B x = x
-    extends-AcceptsNote (of2 u) (suc (suc k)) B x = λ q h. extends-Accepts2 u q (x q h)
+    pub AcceptsNote-kept : (u : Annotation) (k B : ℕ) → AcceptsNote own u k B → AcceptsNote A u k B
+    AcceptsNote-kept (of1 u) zero B x = tt
+    AcceptsNote-kept (of1 u) (suc zero) B x = λ q h. Accepts1-kept u q (x q h)
+    AcceptsNote-kept (of1 u) (suc (suc k)) B x = x
+    AcceptsNote-kept (of2 u) zero B x = tt
+    AcceptsNote-kept (of2 u) (suc zero) B x = x
+    AcceptsNote-kept (of2 u) (suc (suc k)) B x = λ q h. Accepts2-kept u q (x q h)
 
-  pub extends-accepts1 : (s : Stack1) (r : ℕ) → accepts1 own s r ≡ true → accepts1 A s r ≡ true
-  extends-accepts1 s r e = accepts1-in A s r (extends-Accepts1 s r (accepts1-out own s r e))
+  pub accepts1-kept : (s : Stack1) (r : ℕ) → accepts1 own s r ≡ true → accepts1 A s r ≡ true
+  accepts1-kept s r e = accepts1-in A s r (Accepts1-kept s r (accepts1-out own s r e))
 
-  pub extends-accepts2 : (t : Stack2) (q : ℕ) → accepts2 own t q ≡ true → accepts2 A t q ≡ true
-  extends-accepts2 t q e = accepts2-in A t q (extends-Accepts2 t q (accepts2-out own t q e))
+  pub accepts2-kept : (t : Stack2) (q : ℕ) → accepts2 own t q ≡ true → accepts2 A t q ≡ true
+  accepts2-kept t q e = accepts2-in A t q (Accepts2-kept t q (accepts2-out own t q e))

@@ -10,7 +10,7 @@ use native.Mathlib.Omega.{arith}
 use lib.Dec.{eqb, leb}
 use borrow.Author.Tests.{eqb-true, eq-eqb, leb-true, leb-false}
 use Rattle.words.specs.Sets.{join, single, partOf}
-use Rattle.words.specs.Sets.Laws.{Has, All, all-empty, all-join, has-empty, has-join-left, has-join-right, has-single, all-single, join-empty-left, zero-or-member, part-refl, part-trans, part-join-left, part-join-right}
+use Rattle.words.specs.Sets.Laws.{Has, All, all-empty, all-join, has-empty, has-join-left, has-join-right, has-single, all-single, join-empty-left, join-zero, part-refl, part-trans, part-join-left, part-join-right}
 use Rattle.words.specs.Lists.Laws.{by-test}
 use Rattle.automata.specs.Automaton.{Automaton, Move, moveAt, edgeAt}
 use Rattle.automata.specs.Derivation.{Joins, joinsOf, clash, joinMove, joinMoves, joinAll, named, edgeSets}
@@ -157,11 +157,18 @@ pub record NoteFacts (j : Joins) : Type 0 where
   pub none-empty : j .order ≡ 0 → j .B ≡ 0
   pub empty-none : j .B ≡ 0 → j .order ≡ 0
 
-pub join-zero : (a b : ℕ) → join a b ≡ 0 → (a ≡ 0) × (b ≡ 0)
-join-zero a b e = (
-  ⊎-elim (λ z. z) (λ x. absurd (has-empty (subst (λ (s : ℕ). Has s (x .0)) e (has-join-left b (x .1))))) (zero-or-member a),
-  ⊎-elim (λ z. z) (λ x. absurd (has-empty (subst (λ (s : ℕ). Has s (x .0)) e (has-join-right a (x .1))))) (zero-or-member b),
-)
+-- the empty set, of order 0
+pub note-none : (R : ℕ) → NoteFacts (record { order = 0; B = 0; R = R })
+note-none R = record { order-small = omega arith; none-empty = λ e. refl; empty-none = λ e. refl }
+
+-- a set with one member, of order 1 or 2
+pub note-single : (k q : ℕ) → k ≤ 2 → (k ≡ 0 → ⊥) → NoteFacts (record { order = k; B = single q; R = 0 })
+note-single k q l n =
+    record {
+      order-small = l;
+      none-empty = λ e. absurd (n e);
+      empty-none = λ e. absurd (has-empty (subst (λ (s : ℕ). Has s q) e (has-single q)));
+    }
 
 pub both-facts : (j : Joins) (m : Move) → NoteFacts j → NoteFacts (joinsOf m) → NoteFacts (both j m)
 both-facts j m x y =

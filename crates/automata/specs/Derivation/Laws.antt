@@ -14,16 +14,17 @@ use lib.ListN.{getD, getElem?}
 use lib.Dec.{eqb}
 use borrow.Author.Tests.{eqb-true, eq-eqb}
 use Rattle.words.specs.Sets.{join, single, members}
-use Rattle.words.specs.Sets.Laws.{or-cases}
+use Rattle.words.specs.Tests.{or-cases}
 use Rattle.words.specs.Lists.{each, when}
-use Rattle.words.specs.Lists.Laws.{each-in, each-out, when-in, when-out, first-some}
+use Rattle.words.specs.Lists.Laws.{each-in, each-out, when-in, when-out, first-some, some-first}
 use Rattle.words.specs.Order.{same}
-use Rattle.words.specs.Order.Laws.{same-eq}
+use Rattle.words.specs.Order.Laws.{same-eq, eq-same}
 use Rattle.stacks.specs.Stack.{Operation, rewrite, push1, push2, copy, pop1, pop2, collapse1, collapse2}
 use Rattle.stacks.specs.System.{Rule}
 use Rattle.automata.specs.Automaton.{Automaton, Move, noEntry, edges, moveAt, entrySet}
 use Rattle.automata.specs.Derivation.{Result, resultKey, Derivation, Joins, noJoins, joinsOf, readings, named, edgeSets, joinAll, controlMoves, controlEntries, conclude, byRewrite, byPush1, byPush2, byCopy, byPop1, byPop2, byCollapse1, byCollapse2, derivationsBy, derivationsFrom, derivations, firstDerivation}
-use Rattle.automata.specs.Derivation.Numbers.{MoveOf, EdgeOf, EntryIs, EntryMove, Paired, controlMoves-in, controlMoves-out, controlEntries-in, controlEntries-out, entrySet-is, entryMove-set, readings-in, readings-out, edgeChoices-in, edgeChoices-out}
+use Rattle.automata.specs.Automaton.Laws.{MoveOf, EdgeOf, EntryIs, EntryMove, entrySet-is, entryMove-set}
+use Rattle.automata.specs.Derivation.Numbers.{Paired, controlMoves-in, controlMoves-out, controlEntries-in, controlEntries-out, readings-in, readings-out, edgeChoices-in, edgeChoices-out}
 
 -- ---- what a derivation by each operation says
 
@@ -314,6 +315,13 @@ resultKey-eq x y e = λ i. record {
   B = getD (e i) 4 0;
   R = getD (e i) 5 0;
 }
+
+-- a result of a derivation has a first derivation
+pub firstDerivation-in : (A : Automaton) (rules : List Rule) (x : Result) {d : Derivation} → List·Memᴰ d (derivations A rules) → d .result ≡ x
+    → (f : Derivation) × (firstDerivation A rules x ≡ some f)
+unfolding firstDerivation
+firstDerivation-in A rules x {d} j e =
+    some-first (λ y. same (resultKey (y .result)) (resultKey x)) j (eq-same (resultKey (d .result)) (resultKey x) (ap resultKey e))
 
 -- the first derivation of a result is in the list, and it has that result
 pub firstDerivation-out : (A : Automaton) (rules : List Rule) (x : Result) {d : Derivation} → firstDerivation A rules x ≡ some d

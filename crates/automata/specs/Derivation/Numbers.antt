@@ -1,139 +1,44 @@
--- What it means to be the number of a move, an edge or an entry, and a list with one number for each member of a set.
+-- The numbers that derivations choose: those of moves and entries of a control, and a list with one number for each member of a set, which
+-- is what a reading and a choice of edges are.
 -- Assumes nothing.
-use Prim.Native.Nat.{ℕ, _+_, _-_, _<_, _≤_}
-use mathlib.Core.Bool.{true, _&&_, false≢true}
+use Prim.Native.Nat.{ℕ, _<_}
+use mathlib.Core.Bool.{true, _&&_}
 use mathlib.Core.Path.{_≡_, refl, ap, ap₂, sym, _∙_, subst}
-use mathlib.Core.Option.{Option, none, some, Option·none-ne-some}
 use mathlib.Core.List.{List, [], _∷_, map}
 use mathlib.Core.List.{List·Memᴰ, List·Memᴰ·head, List·Memᴰ·tail, List·Memᴰ·not-nil}
 use native.Mathlib.Omega.{arith}
-use lib.ListN.{length, getD, getElem?}
-use lib.Dec.{eqb, leb}
-use borrow.Author.Tests.{eqb-true, eq-eqb, leb-true, le-leb}
+use lib.ListN.{getD}
+use lib.Dec.{eqb}
+use borrow.Author.Tests.{eqb-true, eq-eqb}
+use Rattle.words.specs.Tests.{and-left, and-right}
 use Rattle.words.specs.Sets.{members}
+use Rattle.words.specs.Order.{rising}
+use Rattle.words.specs.Order.Laws.{risingFrom-less, rising-tail, rising-cons, one-less}
 use Rattle.words.specs.Lists.{choices}
-use Rattle.words.specs.Lists.Laws.{by-test, and-left, and-right, getElem?-below, getElem?-some}
-use Rattle.words.specs.Lists.Laws.{places-in, places-out, Chosen, choices-in, choices-out}
-use Rattle.automata.specs.Automaton.{Automaton, Entry, noMove, noEdge, noEntry, edges, moveAt, edgeAt, edgesOf, movesOf, entryAt, entryOf, entryControl, entrySet}
+use Rattle.words.specs.Lists.Laws.{places-in, places-out}
+use Rattle.words.specs.Lists.Choices.{Chosen, choices-in, choices-out}
+use Rattle.automata.specs.Automaton.{Automaton, noMove, noEntry, moveAt, edgesOf, movesOf, entryOf, entrySet}
+use Rattle.automata.specs.Automaton.Laws.{MoveOf, EdgeOf, EntryIs, EntryMove, movesOf-in, movesOf-out, edgesOf-in, edgesOf-out, entryOf-in, entryOf-out}
 use Rattle.automata.specs.Derivation.{readings, edgeChoices, controlMoves, controlEntries}
 
--- ---- numbers of moves, edges and entries
+-- ---- entries and moves of a control
 
 module _ (A : Automaton) where
-  -- move i is a move of order-1 state r on symbol a
-  pub record MoveOf (a r i : ℕ) : Type 0 where
-    pub below : i < length (A .moves)
-    pub state-is : moveAt A i .state ≡ r
-    pub symbol-is : moveAt A i .symbol ≡ a
-
-  -- edge e is an edge of order-2 state q
-  pub record EdgeOf (q e : ℕ) : Type 0 where
-    pub below : e < length (edges A)
-    pub state-is : edgeAt A e .state ≡ q
-
-  -- entry e is [p,S]
-  pub record EntryIs (p S e : ℕ) : Type 0 where
-    pub below : e < length (A .entries)
-    pub control-is : getD (A .entries) e noEntry .control ≡ p
-    pub set-is : getD (A .entries) e noEntry .S ≡ S
-
-  pub movesOf-out : (r a : ℕ) {i : ℕ} → List·Memᴰ i (movesOf A r a) → MoveOf a r i
-  unfolding movesOf moveAt
-  movesOf-out r a {i} j =
-      let h = places-out (λ m. eqb (m .state) r && eqb (m .symbol) a) (A .moves) noMove j in
-      record {
-        below = h .0;
-        state-is = eqb-true _ _ (and-left (eqb (moveAt A i .state) r) _ (h .1));
-        symbol-is = eqb-true _ _ (and-right (eqb (moveAt A i .state) r) _ (h .1));
-      }
-
-  pub movesOf-in : {a r i : ℕ} → MoveOf a r i → List·Memᴰ i (movesOf A r a)
-  unfolding movesOf moveAt
-  movesOf-in {a} {r} {i} h =
-      places-in (λ m. eqb (m .state) r && eqb (m .symbol) a) (A .moves) noMove i (h .below)
-      (ap₂ _&&_ (eq-eqb _ _ (h .state-is)) (eq-eqb _ _ (h .symbol-is)))
-
-  pub edgesOf-out : (q : ℕ) {e : ℕ} → List·Memᴰ e (edgesOf A q) → EdgeOf q e
-  unfolding edgesOf edgeAt
-  edgesOf-out q {e} j =
-      let h = places-out (λ e. eqb (e .state) q) (edges A) noEdge j in
-      record { below = h .0; state-is = eqb-true _ _ (h .1) }
-
-  pub edgesOf-in : {q e : ℕ} → EdgeOf q e → List·Memᴰ e (edgesOf A q)
-  unfolding edgesOf edgeAt
-  edgesOf-in {q} {e} h = places-in (λ e. eqb (e .state) q) (edges A) noEdge e (h .below) (eq-eqb _ _ (h .state-is))
-
-  pub controlEntries-out : (p : ℕ) {e : ℕ} → List·Memᴰ e (controlEntries A p) → EntryIs p (getD (A .entries) e noEntry .S) e
+  pub controlEntries-out : (p : ℕ) {e : ℕ} → List·Memᴰ e (controlEntries A p) → EntryIs A p (getD (A .entries) e noEntry .S) e
   unfolding controlEntries
   controlEntries-out p {e} j =
       let h = places-out (λ e. eqb (e .control) p) (A .entries) noEntry j in
       record { below = h .0; control-is = eqb-true _ _ (h .1); set-is = refl }
 
-  pub controlEntries-in : {p S e : ℕ} → EntryIs p S e → List·Memᴰ e (controlEntries A p)
+  pub controlEntries-in : {p S e : ℕ} → EntryIs A p S e → List·Memᴰ e (controlEntries A p)
   unfolding controlEntries
   controlEntries-in {p} {S} {e} h = places-in (λ e. eqb (e .control) p) (A .entries) noEntry e (h .below) (eq-eqb _ _ (h .control-is))
 
-  pub entryAt-entry : (e : ℕ) → entryAt A (A .J + e) ≡ getElem? (A .entries) e
-  unfolding entryAt
-  entryAt-entry e =
-      let z : A .J + e - A .J ≡ e = omega arith in
-      rw (entryAt, le-leb (A .J) (A .J + e) (omega arith), z)
-
-  pub entryAt-some : (r : ℕ) {x : Entry} → entryAt A r ≡ some x → (e : ℕ) × (r ≡ A .J + e) × (getElem? (A .entries) e ≡ some x)
-  unfolding entryAt
-  entryAt-some r {x} h = by-test (leb (A .J) r)
-      (λ t. let l : A .J ≤ r = leb-true _ _ t in let z : r ≡ A .J + (r - A .J) = omega arith in (r - A .J, z, rw (entryAt, t) at h))
-      (λ t. absurd (Option·none-ne-some x (rw (entryAt, t) at h)))
-
-  pub entryIs-at : {p S e : ℕ} → EntryIs p S e → (x : Entry) × (entryAt A (A .J + e) ≡ some x) × (x .control ≡ p) × (x .S ≡ S)
-  entryIs-at {e = e} h = (getD (A .entries) e noEntry, entryAt-entry e ∙ getElem?-below (A .entries) e noEntry (h .below), h .control-is, h .set-is)
-
-  pub entrySet-is : {p S e : ℕ} → EntryIs p S e → entrySet A (A .J + e) ≡ S
-  unfolding entrySet
-  entrySet-is h = let x = entryIs-at h in rw (entrySet, x .1) (x .3)
-
-  pub entryControl-is : {p S e : ℕ} → EntryIs p S e → entryControl A (A .J + e) ≡ p
-  unfolding entryControl
-  entryControl-is h = let x = entryIs-at h in rw (entryControl, x .1) (x .2)
-
-  pub entryOf-in : {p S e : ℕ} → EntryIs p S e → entryOf A p (A .J + e) ≡ true
-  unfolding entryOf
-  entryOf-in h = let x = entryIs-at h in rw (entryOf, x .1) (eq-eqb _ _ (x .2))
-
-  pub entryOf-out : (p r : ℕ) → entryOf A p r ≡ true → (e : ℕ) × (r ≡ A .J + e) × EntryIs p (entrySet A r) e
-  unfolding entryOf entrySet
-  entryOf-out p r h = go (entryAt A r) refl
-    where
-      go : (o : Option Entry) → entryAt A r ≡ o → (e : ℕ) × (r ≡ A .J + e) × EntryIs p (entrySet A r) e
-      go none y = absurd (false≢true (rw (entryOf, y) at h))
-      go (some x) y =
-          let s = entryAt-some r y in
-          let g = getElem?-some (A .entries) (s .0) (s .2) in (
-            s .0,
-            s .1,
-            record {
-              below = g .0;
-              control-is = ap (λ (e : Entry). e .control) (g .1 noEntry) ∙ eqb-true _ _ (rw (entryOf, y) at h);
-              set-is = ap (λ (e : Entry). e .S) (g .1 noEntry) ∙ rw (entrySet, y);
-            },
-          )
-
-  -- move i is a move on b of entry [p,S]
-  pub record EntryMove (p S b i : ℕ) : Type 0 where
-    pub below : i < length (A .moves)
-    pub symbol-is : moveAt A i .symbol ≡ b
-    pub entry : ℕ
-    pub state-is : moveAt A i .state ≡ A .J + entry
-    pub entry-is : EntryIs p S entry
-
-  pub entryMove-set : {p S b i : ℕ} → EntryMove p S b i → entrySet A (moveAt A i .state) ≡ S
-  entryMove-set h = ap (entrySet A) (h .state-is) ∙ entrySet-is (h .entry-is)
-
-  pub controlMoves-out : (p b : ℕ) {i : ℕ} → List·Memᴰ i (controlMoves A p b) → EntryMove p (entrySet A (moveAt A i .state)) b i
+  pub controlMoves-out : (p b : ℕ) {i : ℕ} → List·Memᴰ i (controlMoves A p b) → EntryMove A p (entrySet A (moveAt A i .state)) b i
   unfolding controlMoves moveAt
   controlMoves-out p b {i} j =
       let h = places-out (λ m. eqb (m .symbol) b && entryOf A p (m .state)) (A .moves) noMove j in
-      let x = entryOf-out p (moveAt A i .state) (and-right (eqb (moveAt A i .symbol) b) _ (h .1)) in
+      let x = entryOf-out A p (moveAt A i .state) (and-right (eqb (moveAt A i .symbol) b) _ (h .1)) in
       record {
         below = h .0;
         symbol-is = eqb-true _ _ (and-left (eqb (moveAt A i .symbol) b) _ (h .1));
@@ -142,11 +47,11 @@ module _ (A : Automaton) where
         entry-is = x .2;
       }
 
-  pub controlMoves-in : {p S b i : ℕ} → EntryMove p S b i → List·Memᴰ i (controlMoves A p b)
+  pub controlMoves-in : {p S b i : ℕ} → EntryMove A p S b i → List·Memᴰ i (controlMoves A p b)
   unfolding controlMoves moveAt
   controlMoves-in {p} {S} {b} {i} h =
       places-in (λ m. eqb (m .symbol) b && entryOf A p (m .state)) (A .moves) noMove i (h .below)
-      (ap₂ _&&_ (eq-eqb _ _ (h .symbol-is)) (ap (entryOf A p) (h .state-is) ∙ entryOf-in (h .entry-is)))
+      (ap₂ _&&_ (eq-eqb _ _ (h .symbol-is)) (ap (entryOf A p) (h .state-is) ∙ entryOf-in A (h .entry-is)))
 
 -- ---- one number for each state
 
@@ -172,6 +77,33 @@ pub paired-state : {X : ℕ → ℕ → Type 0} {qs ns : List ℕ} {n : ℕ} →
 paired-state empty j = absurd (List·Memᴰ·not-nil j)
 paired-state {X = X} (also {q = q} x ps) (List·Memᴰ·head e) = (q, List·Memᴰ·head refl, subst (X q) (sym e) x)
 paired-state (also x ps) (List·Memᴰ·tail j) = let r = paired-state ps j in (r .0, List·Memᴰ·tail (r .1), r .2)
+
+-- each state has a number
+pub paired-number : {X : ℕ → ℕ → Type 0} {qs ns : List ℕ} {q : ℕ} → Paired X qs ns → List·Memᴰ q qs → (n : ℕ) × List·Memᴰ n ns × X q n
+paired-number empty j = absurd (List·Memᴰ·not-nil j)
+paired-number {X = X} (also {n = n} x ps) (List·Memᴰ·head e) = (n, List·Memᴰ·head refl, subst (λ (y : ℕ). X y n) (sym e) x)
+paired-number (also x ps) (List·Memᴰ·tail j) = let (n, i, y) = paired-number ps j in (n, List·Memᴰ·tail i, y)
+
+-- later numbers have other states
+paired-later : {X : ℕ → ℕ → Type 0} (stateOf : ℕ → ℕ) → ((q n : ℕ) → X q n → stateOf n ≡ q) → {q : ℕ} {qs ns : List ℕ} → Paired X qs ns
+    → rising (λ y. y ∷ []) (q ∷ qs) ≡ true → {n : ℕ} → List·Memᴰ n ns → stateOf n ≡ q → ⊥
+paired-later stateOf f {q} {qs} ps r {n} j e =
+    let (y, i, x) = paired-state ps j in
+    let l : q < y = one-less q y (risingFrom-less (λ z. z ∷ []) q qs (sym (rising-cons (λ z. z ∷ []) q qs) ∙ r) i) in
+    let z : stateOf n ≡ y = f y n x in
+    omega arith
+
+-- where the states rise and a number determines its state, numbers of one state are equal
+pub paired-once : {X : ℕ → ℕ → Type 0} (stateOf : ℕ → ℕ) → ((q n : ℕ) → X q n → stateOf n ≡ q) → {qs ns : List ℕ} → Paired X qs ns
+    → rising (λ q. q ∷ []) qs ≡ true → {m n : ℕ} → List·Memᴰ m ns → List·Memᴰ n ns → stateOf m ≡ stateOf n → m ≡ n
+paired-once stateOf f empty r i j e = absurd (List·Memᴰ·not-nil i)
+paired-once stateOf f (also x ps) r (List·Memᴰ·head a) (List·Memᴰ·head b) e = a ∙ sym b
+paired-once stateOf f (also {q = q} {n = k} x ps) r (List·Memᴰ·head a) (List·Memᴰ·tail j) e =
+    absurd (paired-later stateOf f ps r j (sym e ∙ ap stateOf a ∙ f q k x))
+paired-once stateOf f (also {q = q} {n = k} x ps) r (List·Memᴰ·tail i) (List·Memᴰ·head b) e =
+    absurd (paired-later stateOf f ps r i (e ∙ ap stateOf b ∙ f q k x))
+paired-once stateOf f (also {q = q} {qs = qs} x ps) r (List·Memᴰ·tail i) (List·Memᴰ·tail j) e =
+    paired-once stateOf f ps (rising-tail (λ y. y ∷ []) q qs (sym (rising-cons (λ y. y ∷ []) q qs) ∙ r)) i j e
 
 -- `choices` lists exactly the lists with one number for each state
 module _ (X : ℕ → ℕ → Type 0) (numbers : ℕ → List ℕ) where

@@ -1,9 +1,8 @@
 -- Demand 1, proved case by case of what each service answers.
 -- Assumes nothing.
-use Prim.Native.Nat.{ℕ, zero, suc, _+_, _-_, _*_, _/_, _≤_}
-use mathlib.Core.Bool.{Bool, true, false}
+use Prim.Native.Nat.{ℕ, zero, suc, _+_, _-_, _*_, _≤_}
 use mathlib.Core.Path.{_≡_, refl, ap, sym, _∙_, subst}
-use mathlib.Core.Option.{Option, none, some}
+use mathlib.Core.Option.{some}
 use mathlib.Core.List.{List, [], _∷_, _++_, map, List·Memᴰ, List·Memᴰ·head, List·Memᴰ·tail, Memᴰ·append-left, Memᴰ·append-right}
 use native.Mathlib.Nat.{zero-add, zero-mul, suc-mul, sub-zero}
 use native.Mathlib.Omega.{arith}
@@ -11,14 +10,12 @@ use lib.ListN.{length, length-append, length-replicate, length-map}
 use lib.Dec.{leb}
 use Rattle.words.specs.Lists.{each}
 use Rattle.words.specs.Lists.Laws.{by-test}
-use Rattle.automata.specs.Automaton.{Automaton, Move, Entry}
+use Rattle.automata.specs.Automaton.{Automaton}
 use Rattle.automata.specs.Saturation.{Saturated}
 use Rattle.rounds.specs.Limits.{KeepsLimits, saturate-some, within-keeps}
 use Rattle.replies.specs.Numbers.{refusalOf}
 use Rattle.replies.specs.declared.Halt.{Halt}
-use Rattle.replies.specs.declared.Reply.{Reply}
-use Rattle.replies.specs.declared.Reply.the-variants.{Refused, NoRun, Walked}
-use Rattle.walks.specs.Guide.{Guided, Walk, Next, arrived, to, stuck, next, Outcome, outcome, noOutcome, startWalk, guided}
+use Rattle.walks.specs.Guide.{Walk, Next, arrived, to, stuck, next, Outcome, outcome, noOutcome, startWalk, guided}
 use Rattle.stacks.specs.System.{Rule}
 use Rattle.files.specs.Bytes.{Test, firstHit}
 use Rattle.files.specs.Case.{caseTests, caseRefusal, ownOf, rulesOf}

@@ -1,26 +1,25 @@
 -- Demand 2, proved: judge's marks by the saturated table, which accepts exactly what has a run; and 9 by the tables after n rounds.
 -- Assumes nothing.
-use Prim.Native.Nat.{ℕ, _≤_, _<_}
+use Prim.Native.Nat.{ℕ, _<_}
 use mathlib.Core.Bool.{Bool, true, false, false≢true}
-use mathlib.Core.Path.{_≡_, refl, ap, sym, _∙_}
-use mathlib.Core.Logic.{_↔_}
+use mathlib.Core.Path.{_≡_, refl, sym, _∙_}
 use mathlib.Core.Option.{Option, none, some, Option·none-ne-some}
 use native.Mathlib.Nat.{lt-irrefl, lt-of-lt-of-le}
-use mathlib.Core.List.{List, [], _∷_, map}
+use mathlib.Core.List.{List, map}
 use lib.ListN.{length, getD, List·getD-append, length-map}
 use borrow.Author.Tests.{eqb-false}
-use Rattle.stacks.specs.System.{Configuration, Rule}
-use Rattle.automata.specs.Saturation.{Size, Saturated, tableAfter, within}
+use Rattle.stacks.specs.System.{Configuration}
+use Rattle.automata.specs.Saturation.{Saturated}
 use Rattle.automata.specs.Acceptance.{accepts2}
 use Rattle.rounds.specs.Limits.{saturate-some, saturate-none, exceeds-none}
 use Rattle.walks.specs.Cell.Values.{getD-map-below}
 use Rattle.files.specs.Case.Laws.{case-rules, case-table, case-own}
-use Rattle.files.specs.Case.{head, ownOf, rulesOf, caseRefusal}
-use Rattle.files.specs.Start.{Start, startRefusal, startsOf, configurationOf}
+use Rattle.files.specs.Case.{ownOf, rulesOf, caseRefusal}
+use Rattle.files.specs.Start.{Start, startsOf, configurationOf}
 use Rattle.services.specs.Memory.{lent, padded}
 use Rattle.services.specs.Saturate.{Lent, SaturateDone, saturated, saturateRefused, saturateFilled, saturateService}
 use Rattle.services.specs.Saturate.Laws.{SaturateCase, case-refused, size-exceeded, filled, saturate-cases}
-use Rattle.services.specs.Judge.{JudgeInput, JudgeDone, judgeLent, judgeFiles, accepted, mark, judgeLeft, judgeService}
+use Rattle.services.specs.Judge.{JudgeInput, JudgeDone, judgeLent, accepted, mark, judgeLeft, judgeService}
 use Rattle.services.specs.Judge.Laws.{JudgeCase, start-refused, answers-short, judged, judge-cases}
 use Rattle.demands.specs.Reach.{reaches-published, accepted-reaches, reaches-accepted}
 use Rattle.demands.specs.Demand2.{startAt, configurationAt, Runs, Marks, Demand2, Exceeds, SaturateSize, JudgeSize}
@@ -45,7 +44,7 @@ table-marks x T sound e n =
     let table = case-table (x .case) sound in
     let own = case-own (x .case) sound in
     marks-by (x .case) (x .start) n (accepts2 (T .table) (c .stack) (c .control))
-    (λ h. reaches-published .0 (accepted-reaches table own (λ ρ j. case-rules (x .case) sound j) s c h))
+    (λ h. reaches-published .0 (accepted-reaches table own (λ ρ j. case-rules (x .case) sound j) (s .after) c h))
     (λ r. reaches-accepted table own (λ ρ j. case-rules (x .case) sound j) s c (reaches-published .1 r))
 
 -- the answers of judge hold the marks

@@ -2,20 +2,18 @@
 -- guide's answer is that run's first steps.
 -- Assumes nothing.
 use Prim.Native.Nat.{ℕ, _≤_, _<_}
-use mathlib.Core.Bool.{Bool, true, false, false≢true}
+use mathlib.Core.Bool.{true, false≢true}
 use mathlib.Core.Path.{_≡_, refl, ap, sym, _∙_, subst}
-use mathlib.Core.Logic.{_↔_}
-use mathlib.Core.Option.{Option, none, some, Option·some-injective}
+use mathlib.Core.Option.{some, Option·some-injective}
 use native.Mathlib.Nat.{le-trans, lt-irrefl, lt-of-lt-of-le}
-use mathlib.Core.List.{List, [], _∷_}
+use mathlib.Core.List.{List, []}
 use native.Mathlib.Omega.{arith}
 use lib.ListN.{length, getD, take, length-map}
-use Rattle.stacks.specs.System.{Configuration, Rule, Run}
+use Rattle.stacks.specs.System.{Configuration, Run}
 use lib.Dec.{leb}
 use borrow.Author.Tests.{eqb-false, leb-true, leb-false}
 use Rattle.words.specs.Lists.Laws.{by-test, getD-in}
 use Rattle.automata.specs.Automaton.{Automaton}
-use Rattle.automata.specs.Acceptance.{inTarget}
 use Rattle.automata.specs.Saturation.{Saturated}
 use Rattle.replies.specs.declared.Reply.the-variants.{Walked}
 use Rattle.replies.specs.declared.Halt.the-variants.{CellsShort}
@@ -23,12 +21,12 @@ use Rattle.files.specs.Case.{caseRefusal, ownOf, rulesOf}
 use Rattle.files.specs.Bytes.{firstHit}
 use Rattle.files.specs.Start.{Files, Start, startTests, startRefusal, startsOf, cellsOf, configurationOf}
 use Rattle.files.specs.Start.Laws.{start-facts, start-cells}
-use Rattle.services.specs.Memory.{zeros, padded, lent}
+use Rattle.services.specs.Memory.{lent}
 use Rattle.services.specs.Saturate.{saturated}
 use Rattle.services.specs.Judge.{JudgeInput, JudgeDone, judgeLent, judgeFiles, accepted, mark, judgeLeft, judgeService}
 use Rattle.services.specs.Judge.Laws.{JudgeCase, case-refused, start-refused, answers-short, size-exceeded, judged, judge-cases}
 use Rattle.walks.specs.Guide.{Walk, walkAfter, traceAfter, outcome, startWalk, guided}
-use Rattle.services.specs.Guide.{GuideInput, GuideDone, guideFiles, guideLent, cellsLent, startNamed, guideWalk, guideLeft, guideService}
+use Rattle.services.specs.Guide.{GuideDone, guideFiles, guideLent, cellsLent, startNamed, guideWalk, guideLeft, guideService}
 use Rattle.services.specs.Guide.Laws.{GuideCase, start-missing, no-run, cells-short, walked, guide-cases, walk-goes, walk-short}
 use Rattle.guidance.specs.Prefix.{haltBy, isArrival, FirstHalt, guided-prefix, guided-arrives, arrival-fits}
 use Rattle.guidance.specs.Arrival

@@ -1,10 +1,10 @@
 -- What guide answers, case by case.
 -- Assumes nothing.
 use Prim.Native.Nat.{ℕ, _≤_, _<_}
-use mathlib.Core.Bool.{Bool, true, false}
+use mathlib.Core.Bool.{true, false}
 use mathlib.Core.Path.{_≡_, refl, ap, sym, _∙_, subst}
-use mathlib.Core.Option.{Option, none, some}
-use mathlib.Core.List.{List, [], _∷_, _++_}
+use mathlib.Core.Option.{none, some}
+use mathlib.Core.List.{List, [], _++_}
 use lib.ListN.{length}
 use lib.Dec.{eqb, leb}
 use borrow.Author.Tests.{eqb-true, eqb-false, ne-eqb, le-leb, lt-leb, leb-true, leb-false}
@@ -15,9 +15,9 @@ use Rattle.replies.specs.declared.Halt.the-variants.{CellsShort}
 use Rattle.walks.specs.Guide.{Outcome, outcome, noOutcome, startWalk, guided}
 use Rattle.files.specs.Bytes.{Test, firstHit, testsOn}
 use Rattle.files.specs.Bytes.Laws.{firstHit-testsOn, firstHit-fails, firstHit-passes}
-use Rattle.files.specs.Case.{caseTests, caseRefusal, rulesOf}
-use Rattle.files.specs.Start.{Files, startTests, startRefusal, startsOf, cellsOf}
-use Rattle.services.specs.Saturate.{Lent, saturated, sizeTests}
+use Rattle.files.specs.Case.{caseRefusal, rulesOf}
+use Rattle.files.specs.Start.{startTests, startRefusal, startsOf, cellsOf}
+use Rattle.services.specs.Saturate.{saturated, sizeTests}
 use Rattle.services.specs.Saturate.Laws.{size-refused, size-passed, case-first, case-passed}
 use Rattle.services.specs.Judge.{accepted}
 use Rattle.services.specs.Judge.Laws.{start-first, start-passed}

@@ -1,10 +1,10 @@
 -- What judge answers, case by case.
 -- Assumes nothing.
 use Prim.Native.Nat.{ℕ, _≤_, _<_}
-use mathlib.Core.Bool.{Bool, true, false}
+use mathlib.Core.Bool.{true}
 use mathlib.Core.Path.{_≡_, refl, ap, sym, _∙_, subst}
-use mathlib.Core.Option.{Option, none, some}
-use mathlib.Core.List.{List, [], _∷_, _++_, map}
+use mathlib.Core.Option.{none, some}
+use mathlib.Core.List.{List, [], _++_, map}
 use lib.ListN.{length}
 use lib.Dec.{eqb, ltb}
 use borrow.Author.Tests.{eqb-true, eqb-false, ne-eqb, lt-ltb, le-ltb, ltb-true, ltb-false}
@@ -14,9 +14,9 @@ use Rattle.words.specs.Options.{by-option}
 use Rattle.automata.specs.Saturation.{Saturated}
 use Rattle.files.specs.Bytes.{Test, firstHit, testsOn}
 use Rattle.files.specs.Bytes.Laws.{numbered, firstHit-past, firstHit-stays, firstHit-testsOn, numbered-testsOn, firstHit-fails, firstHit-passes}
-use Rattle.files.specs.Case.{caseTests, caseRefusal}
+use Rattle.files.specs.Case.{caseRefusal}
 use Rattle.files.specs.Start.{Files, startTests, startRefusal, startsOf}
-use Rattle.services.specs.Saturate.{Lent, saturated, sizeTests}
+use Rattle.services.specs.Saturate.{saturated, sizeTests}
 use Rattle.services.specs.Saturate.Laws.{size-refused, size-passed, case-first, case-passed}
 use Rattle.services.specs.Judge.{JudgeInput, judgeLent, judgeFiles, answerTests, judgeRefusal, mark, JudgeDone, judgeLeft, judgeAnswer, judgeService}
 

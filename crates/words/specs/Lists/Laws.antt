@@ -3,27 +3,21 @@
 use Prim.Native.Nat.{ℕ, zero, suc, _+_, _<_, _≤_, suc-le-suc}
 use mathlib.Core.Bool.{Bool, true, false, not, _&&_, _||_, false≢true, and-assoc, and-true, or-assoc, or-true, or-false}
 use mathlib.Core.Path.{_≡_, refl, ap, ap₂, sym, _∙_, subst}
-use mathlib.Core.Logic.{⊎-elim}
+use mathlib.Core.Logic.{_⊎_, inl, inr, ⊎-elim}
 use mathlib.Core.Option.{Option, some, Option·some-injective, Option·none-ne-some, Option·some-ne-none}
 use mathlib.Core.List.{List, [], _∷_, Pairwise, _++_, map, append-nil, append-assoc}
 use mathlib.Core.List.{List·Memᴰ, List·Memᴰ·head, List·Memᴰ·tail, List·Memᴰ·not-nil, List·Memᴰ·append-cases, List·Memᴰ·eq-of-singleton}
-use mathlib.Core.List.{Memᴰ·append-left, Memᴰ·append-right, Memᴰ·cast, Memᴰ·map, Memᴰ·of-map}
+use mathlib.Core.List.{Memᴰ·append-left, Memᴰ·append-right, Memᴰ·cast}
 use native.Mathlib.Nat.{not-suc-le-zero, le-of-suc-le-suc, zero-add, add-zero}
 use native.Mathlib.Omega.{arith}
-use lib.ListN.{length, getD, getElem?, take}
-use lib.Seq.{take-suc, length-take-le}
+use lib.ListN.{length, getD, getElem?, take, length-append, List·getD-append}
+use lib.Seq.{take-suc, length-take-le, getD-at}
+use lib.Dec.{ltb}
+use borrow.Author.Tests.{ltb-true, ltb-false}
 use Rattle.words.specs.Order.{rising, risingFrom}
 use Rattle.words.specs.Order.Laws.{less-one, risingFrom-cons, rising-numbers}
-pub use Rattle.words.specs.Order.Laws.{by-test}
-use Rattle.words.specs.Lists.{each, when, only, every, some-of, first, placesFrom, places, choices}
-
-pub and-left : (x y : Bool) → x && y ≡ true → x ≡ true
-and-left true y e = refl
-and-left false y e = e
-
-pub and-right : (x y : Bool) → x && y ≡ true → y ≡ true
-and-right true y e = e
-and-right false y e = absurd (false≢true e)
+pub use Rattle.words.specs.Tests.{by-test, and-left, and-right}
+use Rattle.words.specs.Lists.{each, when, only, every, some-of, first, placesFrom, places}
 
 -- ---- each
 
@@ -283,6 +277,19 @@ module _ {A : Type 0} where
   pub getElem?-in : (l : List A) (i : ℕ) {x : A} → getElem? l i ≡ some x → List·Memᴰ x l
   getElem?-in l i {x} h = let r = getElem?-some l i h in subst (λ (y : A). List·Memᴰ y l) (r .1 x) (getD-in l i x (r .0))
 
+  -- an element of a list with one appended
+  pub last-or-before : (xs : List A) (y : A) (k : ℕ) (d : A) → k < length (xs ++ y ∷ [])
+      → ((k < length xs) × (getD (xs ++ y ∷ []) k d ≡ getD xs k d)) ⊎ ((k ≡ length xs) × (getD (xs ++ y ∷ []) k d ≡ y))
+  last-or-before xs y k d h =
+      let n : length (xs ++ y ∷ []) ≡ length xs + 1 = length-append xs (y ∷ []) in
+      by-test (ltb k (length xs))
+      (λ t. let l : k < length xs = ltb-true k (length xs) t in inl (l, List·getD-append xs (y ∷ []) d k l))
+      (λ t. let l : length xs ≤ k = ltb-false k (length xs) t in let e : k ≡ length xs = omega arith in inr (e, getD-at xs y [] d k (sym e)))
+
+  pub length-zero : (l : List A) → length l ≡ 0 → l ≡ []
+  length-zero [] e = refl
+  length-zero (x ∷ l) e = absurd (omega arith)
+
 -- ---- places
 
 module _ {A : Type 0} where
@@ -366,28 +373,3 @@ module _ {A : Type 0} where
 
   pub places-pairwise : (test : A → Bool) (l : List A) → Pairwise _<_ (places test l)
   places-pairwise test l = rising-numbers (places test l) (places-rising test l)
-
--- ---- choices
-
-module _ {A : Type 0} where
-  -- xs has one element of each list of ls
-  pub data Chosen : List A → List (List A) → Type 0 where
-    none : Chosen [] []
-    also : {x : A} {l : List A} {xs : List A} {ls : List (List A)} → List·Memᴰ x l → Chosen xs ls → Chosen (x ∷ xs) (l ∷ ls)
-
-  pub choices-in : {xs : List A} {ls : List (List A)} → Chosen xs ls → List·Memᴰ xs (choices ls)
-  unfolding choices
-  choices-in none = List·Memᴰ·head refl
-  choices-in (also {x = x} {ls = ls} i c) = each-in (λ y. map (λ ys. y ∷ ys) (choices ls)) i (Memᴰ·map (λ ys. x ∷ ys) (choices-in c))
-
-  pub choices-out : (ls : List (List A)) {xs : List A} → List·Memᴰ xs (choices ls) → Chosen xs ls
-  unfolding choices
-  choices-out [] j = subst (λ (z : List A). Chosen z []) (sym (List·Memᴰ·eq-of-singleton j)) none
-  choices-out (l ∷ ls) j =
-      let r = each-out l (λ y. map (λ ys. y ∷ ys) (choices ls)) j in
-      let m = Memᴰ·of-map (λ ys. r .0 ∷ ys) (choices ls) (r .2) in
-      subst (λ (z : List A). Chosen z (l ∷ ls)) (m .2) (also (r .1) (choices-out ls (m .1)))
-
-  pub chosen-length : {xs : List A} {ls : List (List A)} → Chosen xs ls → length xs ≡ length ls
-  chosen-length none = refl
-  chosen-length (also i c) = ap suc (chosen-length c)

@@ -11,13 +11,9 @@ use native.Mathlib.Omega.{arith}
 use lib.Arith.{lt-of-le-ne}
 use lib.Dec.{eqb, ltb}
 use borrow.Author.Tests.{lt-ltb, le-ltb, ltb-true, ltb-false, eqb-true, eqb-false, eq-eqb, ne-eqb}
+pub use Rattle.words.specs.Tests.{by-test}
 use Rattle.words.specs.Lists.{only}
 use Rattle.words.specs.Order.{less, same, insert, sorted, risingFrom, rising}
-
--- by the value of a test
-pub by-test : (t : Bool) {X : Type 0} → (t ≡ true → X) → (t ≡ false → X) → X
-by-test true f g = f refl
-by-test false f g = g refl
 
 -- ---- the order
 

@@ -12,6 +12,7 @@ use lib.Arith.{bin-ind}
 use lib.Bits.{bitOr, digits, or-shr, or-step, or-lt, shifted-half, shifted-even}
 use lib.Pow.{pow-mono, pow-lt}
 use borrow.Author.Tests.{eqb-true, eq-eqb}
+pub use Rattle.words.specs.Tests.{or-cases}
 use Rattle.words.specs.Order.{rising, risingFrom}
 use Rattle.words.specs.Order.Laws.{less-one, risingFrom-cons, rising-numbers}
 use Rattle.words.specs.Sets.{member, single, joinBits, join, partOf, membersFrom, members}
@@ -161,10 +162,6 @@ pub record Has (s n : ℕ) : Type 0 where
 abbrev pub All : ℕ → (ℕ → Type 0) → Type 0
 All s P = (n : ℕ) → Has s n → P n
 
-pub or-cases : (x y : Bool) → x || y ≡ true → (x ≡ true) ⊎ (y ≡ true)
-or-cases true y e = inl refl
-or-cases false y e = inr e
-
 pub has-below : (w : ℕ) {s n : ℕ} → s < 2 ^ w → Has s n → n < w
 has-below w {s} {n} l h = member-below w s n l (h .has)
 
@@ -253,6 +250,9 @@ part-join-left a b = has-part λ n h. has-join-left b h
 
 pub part-join-right : (a b : ℕ) → partOf b (join a b) ≡ true
 part-join-right a b = has-part λ n h. has-join-right a h
+
+pub join-zero : (a b : ℕ) → join a b ≡ 0 → (a ≡ 0) × (b ≡ 0)
+join-zero a b e = (part-antisym a 0 (rw e at (part-join-left a b)) (part-empty a), part-antisym b 0 (rw e at (part-join-right a b)) (part-empty b))
 
 pub join-part : (a b c : ℕ) → partOf a c ≡ true → partOf b c ≡ true → partOf (join a b) c ≡ true
 join-part a b c x y = has-part (all-join (part-has a c x) (part-has b c y))

@@ -1,52 +1,23 @@
--- The table before a move's round is the table after the rounds before it.
+-- The sizes of the tables after 0, 1 and so on rounds. By them the table before a move's round is known within the table after any number of
+-- rounds.
 -- Assumes nothing.
 use Prim.Native.Nat.{ℕ, zero, suc, _+_, _-_, _≤_, _<_}
 use mathlib.Core.Path.{_≡_, refl, ap, sym, _∙_}
 use mathlib.Core.Logic.{⊎-elim}
-use mathlib.Core.List.{List, [], _∷_, _++_, append-nil, List·Memᴰ, List·Memᴰ·head, List·Memᴰ·tail, List·Memᴰ·not-nil, List·Memᴰ·append-cases, List·Memᴰ·eq-of-singleton}
+use mathlib.Core.List.{List, [], _∷_, _++_, append-nil, List·Memᴰ, List·Memᴰ·not-nil, List·Memᴰ·append-cases, List·Memᴰ·eq-of-singleton}
 use native.Mathlib.Nat.{add-zero, zero-add, le-trans}
 use native.Mathlib.Omega.{arith}
-use lib.ListN.{length, take}
-use lib.Seq.{take-append-seam, append-snoc}
-use borrow.Author.Tests.{le-leb, lt-leb}
+use lib.ListN.{length}
+use lib.Seq.{append-snoc}
 use Rattle.stacks.specs.System.{Rule}
 use Rattle.automata.specs.Automaton.{Automaton}
-use Rattle.automata.specs.Saturation.{Size, sizeOf, tableAfter, upTo, lastUpTo, ownMoves}
-use Rattle.automata.specs.Facts.{Extends}
-use Rattle.rounds.specs.Extension.{moves-grow}
+use Rattle.automata.specs.Saturation.{Size, sizeOf, tableAfter, Saturated, upTo, lastUpTo, ownMoves}
+use Rattle.automata.specs.Saturation.Laws.{extends-upTo, lastUpTo-past, lastUpTo-no}
+use Rattle.automata.specs.Facts.Laws.{moves-grow}
 use Rattle.rounds.specs.Rounds.{after-extends}
 use Rattle.rounds.specs.First.{AddedAfter}
 
--- an automaton is that part of each extension of it that has its size
-pub upTo-extends : {A C : Automaton} → Extends A C → upTo (sizeOf A) C ≡ A
-unfolding upTo sizeOf
-upTo-extends {A} {C} x =
-    let e : take (length (A .entries)) (C .entries) ≡ A .entries =
-    ap (take (length (A .entries))) (x .entries-are) ∙ take-append-seam (A .entries) (x .more-entries) in
-    let m : take (length (A .moves)) (C .moves) ≡ A .moves =
-    ap (take (length (A .moves))) (x .moves-are) ∙ take-append-seam (A .moves) (x .more-moves) in
-    λ i. record { J = x .same-J i; final1 = x .same-final1 i; final2 = x .same-final2 i; inner = x .same-inner i; entries = e i; moves = m i }
-
-pub upTo-after : (rules : List Rule) (own : Automaton) (n m : ℕ) → n ≤ m → upTo (sizeOf (tableAfter rules own n)) (tableAfter rules own m) ≡ tableAfter rules own n
-upTo-after rules own n m h = upTo-extends (after-extends rules own n m h)
-
--- ---- the last size that has no more than i moves
-
-pub lastUpTo-yes : (z y : Size) (ys : List Size) (i : ℕ) → y .moves ≤ i → lastUpTo z (y ∷ ys) i ≡ lastUpTo y ys i
-unfolding lastUpTo
-lastUpTo-yes z y ys i h = rw (lastUpTo, le-leb (y .moves) i h)
-
-pub lastUpTo-no : (z y : Size) (ys : List Size) (i : ℕ) → i < y .moves → lastUpTo z (y ∷ ys) i ≡ z
-unfolding lastUpTo
-lastUpTo-no z y ys i h = rw (lastUpTo, lt-leb (y .moves) i h)
-
-pub lastUpTo-past : (z : Size) (xs : List Size) (y : Size) (ys : List Size) (i : ℕ) → ((x : Size) → List·Memᴰ x xs → x .moves ≤ i) → y .moves ≤ i
-    → lastUpTo z (xs ++ y ∷ ys) i ≡ lastUpTo y ys i
-lastUpTo-past z [] y ys i h l = lastUpTo-yes z y ys i l
-lastUpTo-past z (x ∷ xs) y ys i h l =
-    lastUpTo-yes z x (xs ++ y ∷ ys) i (h x (List·Memᴰ·head refl)) ∙ lastUpTo-past x xs y ys i (λ w j. h w (List·Memᴰ·tail j)) l
-
--- ---- the sizes of the tables after 0, 1 and so on rounds
+-- ---- the sizes
 
 module _ (rules : List Rule) (own : Automaton) where
   -- the sizes of the first n tables
@@ -76,6 +47,17 @@ module _ (rules : List Rule) (own : Automaton) where
       (λ i. let e : z .moves ≡ length (tableAfter rules own n .moves) = ap (λ (y : Size). y .moves) (List·Memᴰ·eq-of-singleton i) in omega arith)
       (List·Memᴰ·append-cases (sizesBefore n) j)
 
+  -- the first of them has the number of the own moves
+  pub ownMoves-is : (N : ℕ) → ownMoves (sizesBefore (suc N)) ≡ length (own .moves)
+  unfolding ownMoves sizesBefore sizesFrom sizeOf tableAfter
+  ownMoves-is N = ap (λ (m : ℕ). ownMoves (sizesBefore m)) (sym (zero-add (suc N))) ∙ ap ownMoves (sizes-split 0 (suc N))
+
+  -- ---- the table before a move's round
+
+  -- a table of fewer rounds is that part of a table of more rounds that has its size
+  pub upTo-after : (n m : ℕ) → n ≤ m → upTo (sizeOf (tableAfter rules own n)) (tableAfter rules own m) ≡ tableAfter rules own n
+  upTo-after n m h = extends-upTo (after-extends rules own n m h)
+
   -- of the sizes of the tables after 0 to N rounds, the last before the round that adds move i
   pub lastUpTo-round : (z : Size) {n i : ℕ} → AddedAfter rules own n i → (N : ℕ) → n < N
       → lastUpTo z (sizesBefore (suc N)) i ≡ sizeOf (tableAfter rules own n)
@@ -89,6 +71,13 @@ module _ (rules : List Rule) (own : Automaton) where
       ∙ lastUpTo-past z (sizesBefore n) (sizeOf (tableAfter rules own n)) (sizesFrom (suc n) (suc k)) i (λ x j. le-trans (sizesBefore-small n j) l) l
       ∙ lastUpTo-no (sizeOf (tableAfter rules own n)) (sizeOf (tableAfter rules own (suc n))) (sizesFrom (suc (suc n)) k) i (a .then-there)
 
-  pub ownMoves-is : (N : ℕ) → ownMoves (sizesBefore (suc N)) ≡ length (own .moves)
-  unfolding ownMoves sizesBefore sizesFrom sizeOf tableAfter
-  ownMoves-is N = ap (λ (m : ℕ). ownMoves (sizesBefore m)) (sym (zero-add (suc N))) ∙ ap ownMoves (sizes-split 0 (suc N))
+  -- ---- the table after some number of rounds, with its sizes
+
+  pub record AfterRounds (T : Saturated) : Type 0 where
+    pub rounds : ℕ
+    pub table-is : T .table ≡ tableAfter rules own rounds
+    pub sizes-are : T .sizes ≡ sizesBefore (suc rounds)
+
+  -- there is one for each number of rounds
+  unfoldable pub after-rounds : (n : ℕ) → AfterRounds (record { table = tableAfter rules own n; sizes = sizesBefore (suc n) })
+  after-rounds n = record { rounds = n; table-is = refl; sizes-are = refl }
