@@ -181,12 +181,21 @@ fn file_edges_right(h: Head, file: &[u8]) -> bool
     edges_right(h, edge_body(file), bytes_in::count_of(file, 2))
 }
 
+// The number of the file's entries.
+pub fn entry_total(h: Head, file: &[u8]) -> u64
+    requires { ⌜ placed caseBodies (now file) ≡ true ⌝ }
+    ensures { λ r. ⌜ r ≡ length (entriesOf (theHead h) (edgeRecords (now (file .entry)))) ⌝ }
+    ensures { λ r. ⌜ r ≤ 64 ⌝ }
+{
+    entries_in(h, edge_body(file), bytes_in::count_of(file, 2))
+}
+
 // The number of order-1 states: J and the file's entries.
 fn states_of(h: Head, file: &[u8]) -> u64
     requires { ⌜ (placed caseBodies (now file) ≡ true) × (h .inner1 ≤ 16) ⌝ }
     ensures { λ r. ⌜ r ≡ h .inner1 + length (entriesOf (theHead h) (edgeRecords (now (file .entry)))) ⌝ }
 {
-    h.inner1 + entries_in(h, edge_body(file), bytes_in::count_of(file, 2))
+    h.inner1 + entry_total(h, file)
 }
 
 // Every move of the file keeps its bounds, where there are so many order-1 states.

@@ -302,7 +302,7 @@ pub fn move_right(h: Head, n: u64, m: Move) -> bool
 // ---- order
 
 // The order of two keys that begin with x and y, the order of their rests being known.
-fn key_before(x: u64, y: u64, rest: bool) -> bool
+pub fn key_before(x: u64, y: u64, rest: bool) -> bool
     ensures { λ r. ⌜ r ≡ lessThen x y rest ⌝ }
 {
     if x < y {

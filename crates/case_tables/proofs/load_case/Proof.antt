@@ -1,0 +1,89 @@
+-- `case_tables::load_case` meets its contract.
+-- Assumes nothing.
+use mathlib.Core.Path.{refl}
+use native.Mathlib.Omega.{arith}
+use Rattle.files.specs.Case.{ownOf}
+use Rattle.files.specs.Case.Laws.{CasePlaces, case-places}
+use Rattle.tables.specs.Records.{edgeRow, entryRow, moveRow}
+use Rattle.case_file.specs.Bodies.{body-fits}
+use Rattle.case_tables.specs.Own.{Holds, own-entries, own-loaded, holds-inner, holds-entries, holds-moves}
+use borrow.Author.Needs.{needs}
+use Rattle.case_tables.proofs.load_case.Statement.{statement}
+use Rattle.case_tables.proofs.load_case.Tie as tie
+
+head-of-requires : tie.Need-head-of-requires
+head-of-requires c κs = search needs
+
+count-of-requires : tie.Need-count-of-requires
+count-of-requires c κs =
+    let p : CasePlaces (c .before .before .before .before .before .args .file .now) = case-places _ (c .before .before .before .before .before .pre .0) in
+    omega arith
+
+count-of-requires-2 : tie.Need-count-of-requires-2
+count-of-requires-2 c κs =
+    let p : CasePlaces (c .before .before .before .before .before .before .args .file .now) = case-places _ (c .before .before .before .before .before .before .pre .0) in
+    omega arith
+
+edge-body-requires : tie.Need-edge-body-requires
+edge-body-requires c κs = search needs
+
+load-inner-requires : tie.Need-load-inner-requires
+load-inner-requires c κs =
+    let p : CasePlaces (c .before .before .before .before .before .before .before .before .before .args .file .now) = case-places _ (c .before .before .before .before .before .before .before .before .before .pre .0) in
+    (body-fits _ _ _ _ _ (omega arith) (c .before .edge-body .ensures) (c .before .before .before .count-of .ensures .0), omega arith, omega arith)
+
+edge-body-requires-2 : tie.Need-edge-body-requires-2
+edge-body-requires-2 c κs = search needs
+
+load-entries-requires : tie.Need-load-entries-requires
+load-entries-requires c κs =
+    let p : CasePlaces (c .before .before .before .before .before .before .before .before .before .before .before .before .before .before .args .file .now) = case-places _ (c .before .before .before .before .before .before .before .before .before .before .before .before .before .before .pre .0) in (
+      body-fits _ _ _ _ _ (omega arith) (c .before .edge-body2 .ensures) (c .before .before .before .before .before .before .before .before .count-of .ensures .0),
+      omega arith,
+      rw (own-entries _ _ _ _ (c .before .before .before .before .before .before .before .before .before .head-of .ensures) (c .before .edge-body2 .ensures) (c .before .before .before .before .before .before .before .before .count-of .ensures .0)) (c .before .before .before .before .before .before .before .before .before .before .before .before .before .before .pre .1 .entry-room),
+    )
+
+move-body-requires : tie.Need-move-body-requires
+move-body-requires c κs = search needs
+
+load-moves-requires : tie.Need-load-moves-requires
+load-moves-requires c κs =
+    let p : CasePlaces (c .before .before .before .before .before .before .before .before .before .before .before .before .before .before .before .before .before .before .before .args .file .now) = case-places _ (c .before .before .before .before .before .before .before .before .before .before .before .before .before .before .before .before .before .before .before .pre .0) in
+    (body-fits _ _ _ _ _ (omega arith) (c .before .move-body .ensures) (c .before .before .before .before .before .before .before .before .before .before .before .before .count-of2 .ensures .0), omega arith, omega arith)
+
+same-length : tie.Need-same-length
+same-length c = search needs
+
+same-length-2 : tie.Need-same-length-2
+same-length-2 c = search needs
+
+same-length-3 : tie.Need-same-length-3
+same-length-3 c = search needs
+
+returns : tie.Need-returns
+returns c =
+    let i : Holds edgeRow (ownOf (c .before .before .before .before .before .before .before .before .before .before .before .before .before .before .before .before .before .before .before .before .before .before .args .file .now) .inner) (c .before .before .before .before .before .before .before .before .before .before .before .before .before .before .before .before .before .before .before .before .before .before .args .inner .now) _ _ =
+    holds-inner _ _ _ _ _ _ _ (c .before .before .before .before .before .before .before .before .before .before .before .before .before .before .before .before .before .head-of .ensures) (c .before .before .before .before .before .before .before .before .before .before .before .before .before .before .edge-body .ensures) (c .before .before .before .before .before .before .before .before .before .before .before .before .before .before .before .before .count-of .ensures .0) (c .before .before .before .before .before .before .before .before .before .before .before .before .load-inner .ensures .0) (c .before .before .before .before .before .before .before .before .before .before .before .before .load-inner .ensures .1 .0) (c .before .before .before .before .before .before .before .before .before .before .before .before .load-inner .ensures .1 .1) (c .before .before .before .before .before .before .before .before .before .before .before .before .before .before .before .before .before .before .before .before .before .before .pre .1 .inner-room) in
+    let e : Holds entryRow (ownOf (c .before .before .before .before .before .before .before .before .before .before .before .before .before .before .before .before .before .before .before .before .before .before .args .file .now) .entries) (c .before .before .before .before .before .before .before .before .before .before .before .before .before .before .before .before .before .before .before .before .before .before .args .entries .now) _ _ =
+    holds-entries _ _ _ _ _ _ _ (c .before .before .before .before .before .before .before .before .before .before .before .before .before .before .before .before .before .head-of .ensures) (c .before .before .before .before .before .before .before .before .before .edge-body2 .ensures) (c .before .before .before .before .before .before .before .before .before .before .before .before .before .before .before .before .count-of .ensures .0) (c .before .before .before .before .before .before .before .load-entries .ensures .0) (c .before .before .before .before .before .before .before .load-entries .ensures .1) (c .before .before .before .before .before .before .before .before .before .before .before .before .before .before .before .before .before .before .before .before .before .before .pre .1 .entry-room) in
+    let m : Holds moveRow (ownOf (c .before .before .before .before .before .before .before .before .before .before .before .before .before .before .before .before .before .before .before .before .before .before .args .file .now) .moves) (c .before .before .before .before .before .before .before .before .before .before .before .before .before .before .before .before .before .before .before .before .before .before .args .moves .now) _ _ =
+    holds-moves _ _ _ _ _ (c .before .before .before .before .move-body .ensures) (c .before .before .before .before .before .before .before .before .before .before .before .before .before .before .before .count-of2 .ensures .0) (c .before .before .load-moves .ensures) (c .before .before .before .before .before .before .before .before .before .before .before .before .before .before .before .before .before .before .before .before .before .before .pre .1 .move-room) in
+    (own-loaded _ _ _ _ _ _ _ _ _ (c .before .before .before .before .before .before .before .before .before .before .before .before .before .before .before .before .before .head-of .ensures) refl refl refl i e m, (i .is, (e .is, m .is)))
+
+pub load-case-spec : {M : Type 1} → statement M
+load-case-spec =
+    tie.close
+    (tie.spec
+    head-of-requires
+    count-of-requires
+    count-of-requires-2
+    edge-body-requires
+    load-inner-requires
+    edge-body-requires-2
+    load-entries-requires
+    move-body-requires
+    load-moves-requires
+    same-length
+    same-length-2
+    same-length-3
+    returns)

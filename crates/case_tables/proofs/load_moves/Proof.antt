@@ -1,0 +1,63 @@
+-- `case_tables::load_moves` meets its contract. The invariant: the first i moves are written.
+-- Assumes nothing.
+use Prim.Native.Nat.{ℕ, _≤_, _-_}
+use mathlib.Core.Path.{_≡_, ap, sym, _∙_}
+use mathlib.Core.List.{map}
+use lib.ListN.{length}
+use native.Mathlib.Omega.{arith}
+use Rattle.files.specs.Bytes.{records}
+use Rattle.files.specs.Case.{moveOf}
+use Rattle.tables.specs.Records.{moveRow}
+use Rattle.case_tables.specs.Written.{written}
+use Rattle.case_tables.specs.Decoded.{moves-more}
+use borrow.Author.Needs.{needs}
+use Rattle.case_tables.proofs.load_moves.Statement.{statement}
+use Rattle.case_tables.proofs.load_moves.Tie as tie
+
+abbrev Inv-loop : tie.InvT-loop
+Inv-loop body n t₀ i₀ t i = (i ≤ n) × (t ≡ written moveRow t₀ 0 (map moveOf (records i 19 body))) × (length t ≡ length t₀)
+
+abbrev μ-loop : tie.MeasureT-loop
+μ-loop body n t₀ i₀ t i = n - i
+
+loop-holds : tie.Need-loop-holds Inv-loop μ-loop
+unfolding written records
+loop-holds c = search needs
+
+move-at-requires : tie.Need-move-at-requires Inv-loop μ-loop
+move-at-requires c κs = search needs
+
+put-move-requires : tie.Need-put-move-requires Inv-loop μ-loop
+put-move-requires c κs = search needs
+
+add-i : tie.Need-add-i Inv-loop μ-loop
+add-i c = search needs
+
+loop-less : tie.Need-loop-less Inv-loop μ-loop
+loop-less c = search needs
+
+loop-again : tie.Need-loop-again Inv-loop μ-loop
+loop-again c = (search needs, moves-more _ _ _ _ _ _ (c .before .before .before .before .before .before .loop .inv .1) (c .before .before .before .move-at .ensures) (c .before .before .put-move .ensures), search needs)
+
+same-length : tie.Need-same-length Inv-loop μ-loop
+same-length c = search needs
+
+returns : tie.Need-returns Inv-loop μ-loop
+returns c =
+    let e : c .before .loop .i ≡ c .before .before .before .before .args .n = omega arith in
+    rw e at (c .before .loop .inv .1)
+
+pub load-moves-spec : {M : Type 1} → statement M
+load-moves-spec =
+    tie.close
+    (tie.spec
+    Inv-loop
+    μ-loop
+    loop-holds
+    move-at-requires
+    put-move-requires
+    add-i
+    loop-less
+    loop-again
+    same-length
+    returns)

@@ -1,0 +1,4 @@
+pub mod Written
+pub mod Insertion
+pub mod Decoded
+pub mod Own

@@ -1,0 +1,193 @@
+// The inner edges, entries and moves of a case, decoded once into tables of words.
+ghost use mathlib.Core.Path.{_≡_};
+ghost use mathlib.Core.Bool.{true};
+ghost use mathlib.Core.List.{[], _∷_, map};
+ghost use Prim.Native.Nat.{_<_, _≤_, _+_, _*_};
+ghost use lib.ListN.{length};
+ghost use Rattle.words.specs.Order.{less};
+ghost use Rattle.automata.specs.Automaton.{choiceKey};
+ghost use Rattle.files.specs.Bytes.{placed, records};
+ghost use Rattle.files.specs.Case.{caseBodies, edgeBytes, entriesOf, innerEdges, moveOf, ownOf};
+ghost use Rattle.tables.specs.Records.{asEdge, edgeRow, entryRow, moveRow};
+ghost use Rattle.tables.specs.Held.{automatonOf};
+ghost use Rattle.case_records.specs.Values.{theHead, theEdge};
+ghost use Rattle.case_tables.specs.Written.{written};
+ghost use Rattle.case_tables.specs.Insertion.{Place, reachedAt, Moved, Inserted};
+ghost use Rattle.case_tables.specs.Decoded.{MoreInner};
+ghost use Rattle.case_tables.specs.Own.{Room};
+use case_records::Head;
+use tables::Table;
+
+// ---- sorted insertion of inner edges
+
+// The inner edge x comes before y by (state, order-1 state, S).
+fn edge_before(x: tables::Edge, y: tables::Edge) -> bool
+    ensures { λ r. ⌜ r ≡ less (choiceKey (asEdge x)) (choiceKey (asEdge y)) ⌝ }
+{
+    let s = case_records::key_before(x.s, y.s, false);
+    let first = case_records::key_before(x.first, y.first, s);
+    case_records::key_before(x.state, y.state, first)
+}
+
+// The number of leading rows, of the first n, that come before x.
+fn edge_place(t: &[u64], n: usize, x: tables::Edge) -> usize
+    requires { ⌜ n * 3 ≤ length (now t) ⌝ }
+    ensures { λ i. ⌜ Place edgeRow choiceKey (now (t .entry)) n (asEdge x) i ⌝ }
+{
+    let mut i: usize = 0;
+    while i < n {
+        if !edge_before(tables::edge_at(t, i), x) {
+            return i;
+        }
+        i += 1;
+    }
+    n
+}
+
+// Row i is one of the first n, and x does not come before it.
+fn edge_reached(t: &[u64], n: usize, i: usize, x: tables::Edge) -> bool
+    requires { ⌜ n * 3 ≤ length (now t) ⌝ }
+    ensures { λ r. ⌜ r ≡ reachedAt edgeRow choiceKey (now (t .entry)) n i (asEdge x) ⌝ }
+{
+    if n <= i {
+        return false;
+    }
+    !edge_before(x, tables::edge_at(t, i))
+}
+
+// Moves rows i and following, of the first n, each to the row after it.
+fn open_edge(t: &mut [u64], i: usize, n: usize)
+    requires { ⌜ (i ≤ n) × (n * 3 + 3 ≤ length (now t)) ⌝ }
+    ensures { λ _. ⌜ Moved edgeRow choiceKey (now (t .entry)) (now (t .exit)) n i ⌝ }
+{
+    let mut j = n;
+    while i < j {
+        let k = j - 1;
+        let x = tables::edge_at(t, k);
+        tables::put_edge(t, j, x);
+        j = k;
+    }
+}
+
+// Inserts x into the first n rows, which are sorted, unless it is there. Answers the number of rows then.
+fn insert_edge(t: &mut [u64], n: usize, x: tables::Edge) -> usize
+    requires { ⌜ n * 3 + 3 ≤ length (now t) ⌝ }
+    ensures { λ r. ⌜ Inserted edgeRow choiceKey (now (t .entry)) (now (t .exit)) n r (asEdge x) ⌝ }
+{
+    let i = edge_place(t, n, x);
+    if edge_reached(t, n, i, x) {
+        return n;
+    }
+    open_edge(t, i, n);
+    tables::put_edge(t, i, x);
+    n + 1
+}
+
+// ---- inner edges
+
+// Inserts the edge into the first n rows, if it is one of an inner state. Answers the number of rows then.
+fn add_inner(h: Head, e: case_records::Edge, t: &mut [u64], n: usize) -> usize
+    requires { ⌜ n * 3 + 3 ≤ length (now t) ⌝ }
+    ensures { λ r. ⌜ MoreInner (theHead h) (theEdge e) (now (t .entry)) (now (t .exit)) n r ⌝ }
+{
+    if e.state < h.controls {
+        return n;
+    }
+    let x = tables::Edge {
+        state: e.state,
+        first: e.second,
+        s: e.others,
+    };
+    insert_edge(t, n, x)
+}
+
+// Writes the inner edges among the n edges of the body, by (state, order-1 state, S). Answers their number.
+pub fn load_inner(h: Head, body: &[u8], n: usize, t: &mut [u64]) -> usize
+    requires { ⌜ (n * 4 ≤ length (now body)) × (n ≤ 64) × (n * 3 ≤ length (now t)) ⌝ }
+    ensures { λ r. ⌜ now (t .exit) ≡ written edgeRow (now (t .entry)) 0 (innerEdges (theHead h) (map edgeBytes (records n 4 (now (body .entry))))) ⌝ }
+    ensures { λ r. ⌜ r ≡ length (innerEdges (theHead h) (map edgeBytes (records n 4 (now (body .entry))))) ⌝ }
+    ensures { λ r. ⌜ r ≤ n ⌝ }
+{
+    let mut i = n;
+    let mut k: usize = 0;
+    while 0 < i {
+        i -= 1;
+        k = add_inner(h, case_records::edge_at(body, i), t, k);
+    }
+    k
+}
+
+// ---- entries
+
+// Writes the edge into row k, if it is an entry. Answers the number of rows then.
+fn add_entry(h: Head, e: case_records::Edge, t: &mut [u64], k: usize) -> usize
+    requires { ⌜ (k ≤ 64) × (e .state < h .controls → k * 2 + 2 ≤ length (now t)) ⌝ }
+    ensures { λ r. ⌜ now (t .exit) ≡ written entryRow (now (t .entry)) k (entriesOf (theHead h) (theEdge e ∷ [])) ⌝ }
+    ensures { λ r. ⌜ r ≡ k + length (entriesOf (theHead h) (theEdge e ∷ [])) ⌝ }
+    ensures { λ r. ⌜ r ≤ k + 1 ⌝ }
+{
+    if e.state < h.controls {
+        let x = tables::Entry {
+            control: e.state,
+            s: e.others,
+        };
+        tables::put_entry(t, k, x);
+        return k + 1;
+    }
+    k
+}
+
+// Writes the entries among the n edges of the body. Answers their number.
+pub fn load_entries(h: Head, body: &[u8], n: usize, t: &mut [u64]) -> usize
+    requires { ⌜ (n * 4 ≤ length (now body)) × (n ≤ 64) × (length (entriesOf (theHead h) (map edgeBytes (records n 4 (now body)))) * 2 ≤ length (now t)) ⌝ }
+    ensures { λ r. ⌜ now (t .exit) ≡ written entryRow (now (t .entry)) 0 (entriesOf (theHead h) (map edgeBytes (records n 4 (now (body .entry))))) ⌝ }
+    ensures { λ r. ⌜ r ≡ length (entriesOf (theHead h) (map edgeBytes (records n 4 (now (body .entry))))) ⌝ }
+{
+    let mut i: usize = 0;
+    let mut k: usize = 0;
+    while i < n {
+        k = add_entry(h, case_records::edge_at(body, i), t, k);
+        i += 1;
+    }
+    k
+}
+
+// ---- moves
+
+// Writes the n moves of the body.
+pub fn load_moves(body: &[u8], n: usize, t: &mut [u64])
+    requires { ⌜ (n * 19 ≤ length (now body)) × (n ≤ 1024) × (n * 5 ≤ length (now t)) ⌝ }
+    ensures { λ _. ⌜ now (t .exit) ≡ written moveRow (now (t .entry)) 0 (map moveOf (records n 19 (now (body .entry)))) ⌝ }
+{
+    let mut i: usize = 0;
+    while i < n {
+        tables::put_move(t, i, case_records::move_at(body, i));
+        i += 1;
+    }
+}
+
+// ---- the case's own automaton
+
+// Decodes the automaton of a file whose bodies are in place.
+pub fn load_case(file: &[u8], inner: &mut [u64], entries: &mut [u64], moves: &mut [u64]) -> Table
+    requires { ⌜ (placed caseBodies (now file) ≡ true) × Room (now file) (now inner) (now entries) (now moves) ⌝ }
+    ensures { λ z. ⌜ automatonOf z (now (inner .exit)) (now (entries .exit)) (now (moves .exit)) ≡ ownOf (now (file .entry)) ⌝ }
+    ensures { λ z. ⌜ now (inner .exit) ≡ written edgeRow (now (inner .entry)) 0 (ownOf (now (file .entry)) .inner) ⌝ }
+    ensures { λ z. ⌜ now (entries .exit) ≡ written entryRow (now (entries .entry)) 0 (ownOf (now (file .entry)) .entries) ⌝ }
+    ensures { λ z. ⌜ now (moves .exit) ≡ written moveRow (now (moves .entry)) 0 (ownOf (now (file .entry)) .moves) ⌝ }
+{
+    let h = case_file::head_of(file);
+    let n = bytes_in::count_of(file, 2);
+    let m = bytes_in::count_of(file, 3);
+    let inner_count = load_inner(h, case_file::edge_body(file), n, inner);
+    let entry_count = load_entries(h, case_file::edge_body(file), n, entries);
+    load_moves(case_file::move_body(file), m, moves);
+    Table {
+        states: h.inner1,
+        final1: h.final1,
+        final2: h.final2,
+        edges: inner_count,
+        entries: entry_count,
+        moves: m,
+    }
+}

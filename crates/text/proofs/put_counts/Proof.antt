@@ -1,0 +1,52 @@
+-- `text::put_counts` meets its contract.
+-- Assumes nothing.
+use native.Mathlib.Omega.{arith}
+use Rattle.services.specs.Listing.{ascii, countsText}
+use Rattle.text.specs.Written.{written-then}
+use borrow.Author.Needs.{needs}
+use Rattle.text.proofs.put_counts.Statement.{statement}
+use Rattle.text.proofs.put_counts.Tie as tie
+
+slice-aggregate-put-text : tie.Need-slice-aggregate-put-text
+slice-aggregate-put-text c = search needs
+
+put-text-requires : tie.Need-put-text-requires
+put-text-requires c κs = search needs
+
+put-decimal-requires : tie.Need-put-decimal-requires
+put-decimal-requires c κs = search needs
+
+slice-aggregate-put-text-2 : tie.Need-slice-aggregate-put-text-2
+slice-aggregate-put-text-2 c = search needs
+
+put-text-requires-2 : tie.Need-put-text-requires-2
+put-text-requires-2 c κs = search needs
+
+put-decimal-requires-2 : tie.Need-put-decimal-requires-2
+put-decimal-requires-2 c κs = search needs
+
+same-length : tie.Need-same-length
+same-length c = search needs
+
+returns : tie.Need-returns
+unfolding countsText ascii
+returns c =
+    let cells = c .before .before .before .before .before .before in
+    let after-steps = cells .before .before .before .before .before in
+    let steps = after-steps .before .before .before .before in (
+      written-then (written-then (written-then (steps .put-text .ensures) (after-steps .put-decimal .ensures .0)) (cells .put-text2 .ensures)) (c .before .before .put-decimal2 .ensures .0),
+      omega arith,
+    )
+
+pub put-counts-spec : {M : Type 1} → statement M
+put-counts-spec =
+    tie.close
+    (tie.spec
+    slice-aggregate-put-text
+    put-text-requires
+    put-decimal-requires
+    slice-aggregate-put-text-2
+    put-text-requires-2
+    put-decimal-requires-2
+    same-length
+    returns)
