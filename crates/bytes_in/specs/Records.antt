@@ -5,7 +5,7 @@ use mathlib.Core.Bool.{Bool, true, false, _&&_, and-false, false≢true}
 use mathlib.Core.Path.{_≡_, refl, ap, ap₂, sym, _∙_}
 use mathlib.Core.List.{List, [], _∷_, _++_, map, map-append, List·Memᴰ, List·Memᴰ·head, List·Memᴰ·append-cases, List·Memᴰ·eq-of-singleton, Memᴰ·append-right}
 use mathlib.Core.Logic.{⊎-elim}
-use lib.ListN.{take, drop}
+use lib.ListN.{length, take, drop, length-take, length-drop}
 use lib.Seq.{drop-drop, take-take, take-nil}
 use native.Mathlib.Nat.{zero-add, add-zero, zero-mul, suc-mul, suc-add}
 use native.Mathlib.Numerals.{add-one}
@@ -25,6 +25,10 @@ recordAt size i b = take size (drop (i * size) b)
 -- the body of line n
 unfoldable pub bodyOf : List ℕ → ℕ → ℕ → List ℕ
 bodyOf file n size = take (countOf file n * size) (drop (offsetOf file n) file)
+
+-- the records number i and following, of n
+unfoldable pub recordsFrom : ℕ → ℕ → ℕ → List ℕ → List (List ℕ)
+recordsFrom n size i b = records (n - i) size (drop (i * size) b)
 
 -- ---- records by number
 
@@ -47,6 +51,23 @@ pub records-more : (size i : ℕ) (b : List ℕ) → records (i + 1) size b ≡ 
 unfolding records recordAt
 records-more size i b = records-add i 1 size b
 
+pub from-last : (n size : ℕ) (b : List ℕ) → recordsFrom n size n b ≡ []
+unfolding recordsFrom records
+from-last n size b = let e : n - n ≡ 0 = omega arith in rw e
+
+pub from-first : (n size : ℕ) (b : List ℕ) → recordsFrom n size 0 b ≡ records n size b
+unfolding recordsFrom
+from-first n size b =
+    let e : n - 0 ≡ n = omega arith in
+    rw (e, zero-mul)
+
+pub from-cons : (n size i : ℕ) (b : List ℕ) → i < n → recordsFrom n size i b ≡ recordAt size i b ∷ recordsFrom n size (i + 1) b
+unfolding recordsFrom recordAt records
+from-cons n size i b h =
+    let e : n - i ≡ suc (n - (i + 1)) = omega arith in
+    let d : i * size + size ≡ (i + 1) * size = sym (suc-mul i size) ∙ ap (λ (k : ℕ). k * size) (sym (add-one i)) in
+    rw (e, drop-drop, d)
+
 drop-take : (k r : ℕ) (b : List ℕ) → drop k (take (k + r) b) ≡ take r (drop k b)
 drop-take zero r b = rw zero-add
 drop-take (suc k) r [] = rw (suc-add, take-nil)
@@ -68,6 +89,23 @@ records-part (suc n) size m b h =
 pub body-records : (file : List ℕ) (n size : ℕ) → recordsOf file n size ≡ records (countOf file n) size (bodyOf file n size)
 unfolding recordsOf bodyOf
 body-records file n size = sym (records-part (countOf file n) size (countOf file n * size) (drop (offsetOf file n) file) (omega arith))
+
+pub length-body : (file : List ℕ) (n size : ℕ) → offsetOf file n + countOf file n * size ≤ length file
+    → length (bodyOf file n size) ≡ countOf file n * size
+unfolding bodyOf
+length-body file n size h = simp (length-take, length-drop) (omega arith)
+
+-- a body handed on with its number of records
+pub body-fits : (file : List ℕ) (n size : ℕ) (part : List ℕ) (count : ℕ) → offsetOf file n + countOf file n * size ≤ length file
+    → part ≡ bodyOf file n size → count ≡ countOf file n → count * size ≤ length part
+body-fits file n size part count h e f =
+    let l : length part ≡ countOf file n * size = ap length e ∙ length-body file n size h in
+    let m : count * size ≡ countOf file n * size = ap (λ (k : ℕ). k * size) f in
+    omega arith
+
+pub records-here : (file : List ℕ) (n size : ℕ) (part : List ℕ) (count : ℕ) → part ≡ bodyOf file n size → count ≡ countOf file n
+    → records count size part ≡ recordsOf file n size
+records-here file n size part count e f = rw (e, f) (sym (body-records file n size))
 
 -- the part of a body that is its record number i
 pub part-is : (size i : ℕ) (b : List ℕ) → take (i * size + size - i * size) (drop (i * size) b) ≡ recordAt size i b

@@ -1,4 +1,4 @@
--- The bodies of a case file whose bodies are in place, and its entries.
+-- The head of a case file whose bodies are in place, and its entries.
 -- Assumes nothing.
 use Prim.Native.Nat.{ℕ, _+_, _*_, _<_, _≤_}
 use mathlib.Core.Bool.{Bool, true, false}
@@ -14,26 +14,7 @@ use Rattle.words.specs.Lists.Laws.{only-append}
 use Rattle.files.specs.Bytes.{countOf, offsetOf, records, recordsOf}
 use Rattle.files.specs.Case.{Head, headOf, head, EdgeBytes, edgeBytes, entriesOf}
 use Rattle.files.specs.Case.Laws.{CasePlaces}
-use Rattle.bytes_in.specs.Records.{recordAt, bodyOf, body-records, map-more}
-
--- ---- bodies
-
-pub length-body : (file : List ℕ) (n size : ℕ) → offsetOf file n + countOf file n * size ≤ length file
-    → length (bodyOf file n size) ≡ countOf file n * size
-unfolding bodyOf
-length-body file n size h = simp (length-take, length-drop) (omega arith)
-
--- a body handed on with its number of records
-pub body-fits : (file : List ℕ) (n size : ℕ) (part : List ℕ) (count : ℕ) → offsetOf file n + countOf file n * size ≤ length file
-    → part ≡ bodyOf file n size → count ≡ countOf file n → count * size ≤ length part
-body-fits file n size part count h e f =
-    let l : length part ≡ countOf file n * size = ap length e ∙ length-body file n size h in
-    let m : count * size ≡ countOf file n * size = ap (λ (k : ℕ). k * size) f in
-    omega arith
-
-pub records-here : (file : List ℕ) (n size : ℕ) (part : List ℕ) (count : ℕ) → part ≡ bodyOf file n size → count ≡ countOf file n
-    → records count size part ≡ recordsOf file n size
-records-here file n size part count e f = rw (e, f) (sym (body-records file n size))
+use Rattle.bytes_in.specs.Records.{recordAt, bodyOf, length-body, records-here, map-more}
 
 -- ---- the head
 

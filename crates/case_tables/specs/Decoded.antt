@@ -17,7 +17,7 @@ use Rattle.automata.specs.Automaton.{Move, Edge, Entry, choiceKey}
 use Rattle.files.specs.Bytes.{records}
 use Rattle.files.specs.Case.{Head, EdgeBytes, edgeBytes, entriesOf, innerEdges, moveOf}
 use Rattle.files.specs.Bytes.Laws.{length-records}
-use Rattle.bytes_in.specs.Records.{recordAt, records-split, map-more}
+use Rattle.bytes_in.specs.Records.{recordAt, recordsFrom, records-split, from-last, from-first, from-cons, map-more}
 use Rattle.tables.specs.Rows.{firstOf, rowsIn, putRow}
 use Rattle.tables.specs.Rows.Laws.{length-rowsIn}
 use Rattle.tables.specs.Records.{edgeRow, entryRow, moveRow}
@@ -69,23 +69,8 @@ more-inner h x t t′ n r e i = record { rows = i .rows ∙ sym (with-inner h x 
 -- ---- the edges from number i on
 
 -- edges number i and following of a body with n edges
-unfoldable pub edgesFrom : List ℕ → ℕ → ℕ → List EdgeBytes
-edgesFrom b n i = map edgeBytes (records (n - i) 4 (drop (i * 4) b))
-
-pub edges-none : (b : List ℕ) (n : ℕ) → edgesFrom b n n ≡ []
-unfolding edgesFrom records
-edges-none b n = let e : n - n ≡ 0 = omega arith in rw e
-
-pub edges-all : (b : List ℕ) (n : ℕ) → edgesFrom b n 0 ≡ map edgeBytes (records n 4 b)
-unfolding edgesFrom
-edges-all b n = let e : n - 0 ≡ n = omega arith in rw e
-
-pub edges-cons : (b : List ℕ) (n i : ℕ) → i < n → edgesFrom b n i ≡ edgeBytes (recordAt 4 i b) ∷ edgesFrom b n (i + 1)
-unfolding edgesFrom recordAt records
-edges-cons b n i h =
-    let e : n - i ≡ suc (n - (i + 1)) = omega arith in
-    let d : i * 4 + 4 ≡ (i + 1) * 4 = omega arith in
-    rw (e, drop-drop, d)
+abbrev pub edgesFrom : List ℕ → ℕ → ℕ → List EdgeBytes
+edgesFrom b n i = map edgeBytes (recordsFrom n 4 i b)
 
 -- ---- entries
 
@@ -153,7 +138,7 @@ pub record InnerFrom (h : Head) (b t₀ t : List ℕ) (n i k : ℕ) : Type 0 whe
 pub inner-last : (h : Head) (b t : List ℕ) (n : ℕ) → InnerFrom h b t t n n 0
 unfolding rowsIn firstOf
 inner-last h b t n =
-    record { rows = sym (ap (innerEdges h) (edges-none b n) ∙ inner-none h); behind = refl; few = omega arith; long = refl }
+    record { rows = sym (ap (λ (l : List (List ℕ)). innerEdges h (map edgeBytes l)) (from-last n 4 b) ∙ inner-none h); behind = refl; few = omega arith; long = refl }
 
 pub inner-step : (h : Head) (b t₀ t t′ : List ℕ) (n i k r : ℕ) (x : EdgeBytes) → InnerFrom h b t₀ t n i k → 0 < i
     → x ≡ edgeBytes (recordAt 4 (i - 1) b) → MoreInner h x t t′ k r → length t′ ≡ length t → InnerFrom h b t₀ t′ n (i - 1) r
@@ -167,7 +152,7 @@ inner-step h b t₀ t t′ n i k r x p l e m len =
           m .rows
           ∙ ap₂ (withInner h) e (p .rows ∙ ap (λ (j : ℕ). innerEdges h (edgesFrom b n j)) next)
           ∙ sym (inner-cons h (edgeBytes (recordAt 4 (i - 1) b)) (edgesFrom b n (i - 1 + 1)))
-          ∙ ap (innerEdges h) (sym (edges-cons b n (i - 1) (omega arith)));
+          ∙ ap (λ (l : List (List ℕ)). innerEdges h (map edgeBytes l)) (sym (from-cons n 4 (i - 1) b (omega arith)));
       behind = m .behind ∙ drop-later (k * 3) (r * 3) t t₀ (omega arith) (p .behind);
       few = omega arith;
       long = len ∙ p .long;
@@ -180,7 +165,7 @@ inner-all h b t₀ t n i k p z l =
     let zero-left : i ≡ 0 = omega arith in
     let few : k + i ≤ n = p .few in
     let all : rowsIn edgeRow k t ≡ innerEdges h (map edgeBytes (records n 4 b)) =
-    p .rows ∙ ap (λ (j : ℕ). innerEdges h (edgesFrom b n j)) zero-left ∙ ap (innerEdges h) (edges-all b n) in
+    p .rows ∙ ap (λ (j : ℕ). innerEdges h (edgesFrom b n j)) zero-left ∙ ap (λ (l : List (List ℕ)). innerEdges h (map edgeBytes l)) (from-first n 4 b) in
     let count : k ≡ length (innerEdges h (map edgeBytes (records n 4 b))) = sym (length-rowsIn edgeRow k t) ∙ ap length all in (
       written-whole edgeRow t₀ t (innerEdges h (map edgeBytes (records n 4 b)))
           (omega arith)

@@ -13,8 +13,7 @@ use Rattle.tables.specs.declared.Table.{Table}
 use Rattle.tables.specs.Rows.{Layout, rowsIn}
 use Rattle.tables.specs.Records.{edgeRow, entryRow, moveRow}
 use Rattle.tables.specs.Held.{automatonOf}
-use Rattle.bytes_in.specs.Records.{bodyOf}
-use Rattle.case_file.specs.Bodies.{records-here}
+use Rattle.bytes_in.specs.Records.{bodyOf, records-here}
 use Rattle.case_tables.specs.Written.{written, rows-written}
 
 -- The tables lent hold as many inner edges as the file has edges, its entries and its moves.

@@ -3,7 +3,8 @@
 use Prim.Native.Nat.{ℕ, zero, suc, _+_, _*_, _^_, _≤_, _<_}
 use mathlib.Core.Path.{_≡_, refl, ap, sym, _∙_}
 use mathlib.Core.List.{List, _++_, append-assoc, append-nil}
-use native.Mathlib.Nat.{add-zero}
+use native.Mathlib.Nat.{add-zero, zero-add}
+use native.Mathlib.Numerals.{add-one}
 use native.Mathlib.Omega.{arith}
 use lib.ListN.{length, length-append}
 use Rattle.replies.specs.Numbers.{countsOf}
@@ -34,6 +35,11 @@ startLines-more f n (suc k) =
     let z : suc n + k ≡ n + suc k = omega arith in
     ap (λ (l : List ℕ). startLine f n ++ l) (startLines-more f (suc n) k ∙ ap (λ (m : ℕ). startLines f (suc n) k ++ startLine f m) z)
     ∙ sym (append-assoc (startLine f n) (startLines f (suc n) k) (startLine f (n + suc k)))
+
+-- one line more, from the first on
+pub startLines-next : (f : Files) (n : ℕ) → startLines f 0 (n + 1) ≡ startLines f 0 n ++ startLine f n
+startLines-next f n =
+    ap (startLines f 0) (add-one n) ∙ startLines-more f 0 n ∙ ap (λ (m : ℕ). startLines f 0 n ++ startLine f m) (zero-add n)
 
 -- ---- how long a line is, for numbers of at most k digits
 

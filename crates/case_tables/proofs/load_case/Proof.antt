@@ -5,7 +5,7 @@ use native.Mathlib.Omega.{arith}
 use Rattle.files.specs.Case.{ownOf}
 use Rattle.files.specs.Case.Laws.{CasePlaces, case-places}
 use Rattle.tables.specs.Records.{edgeRow, entryRow, moveRow}
-use Rattle.case_file.specs.Bodies.{body-fits}
+use Rattle.bytes_in.specs.Records.{body-fits}
 use Rattle.case_tables.specs.Own.{Holds, own-entries, own-loaded, holds-inner, holds-entries, holds-moves}
 use borrow.Author.Needs.{needs}
 use Rattle.case_tables.proofs.load_case.Statement.{statement}

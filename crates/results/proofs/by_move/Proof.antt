@@ -1,0 +1,45 @@
+-- `results::by_move` meets its contract.
+-- Assumes nothing.
+use native.Mathlib.Omega.{arith}
+use borrow.Author.Tests.{not-true, not-false}
+use Rattle.results.specs.Steps.{step-other, step-control, step-premise}
+use borrow.Author.Needs.{needs}
+use Rattle.results.proofs.by_move.Statement.{statement}
+use Rattle.results.proofs.by_move.Tie as tie
+
+move-at-requires : tie.Need-move-at-requires
+move-at-requires c κs = omega (arith, (c .before .before .before .before .pre .2 .moves-lent))
+
+returns : tie.Need-returns
+returns c = step-other (c .before .before .before .before .before .before .before .args .z) _ _ _ _ _ _ _ _ _ _ _ _ _ (c .before .before .move-at .ensures) (c .before .before .before .before .before .before .before .pre .3 .number) (c .if1 .taken)
+
+entry-of-requires : tie.Need-entry-of-requires
+entry-of-requires c κs = (c .before .before .before .before .before .before .before .pre .1)
+
+returns-2 : tie.Need-returns-2
+returns-2 c = step-control (c .before .before .before .before .before .before .before .before .before .args .z) _ _ _ _ _ _ _ _ _ _ _ _ _ (c .before .before .before .before .move-at .ensures) (c .before .before .before .before .before .before .before .before .before .pre .3 .number) _ (c .before .entry-of .ensures) (not-true (c .before .entry-of .result) (c .if2 .taken))
+
+entry-set-requires : tie.Need-entry-set-requires
+entry-set-requires c κs = (c .before .before .before .before .before .before .before .before .before .pre .1)
+
+by-premise-requires : tie.Need-by-premise-requires
+by-premise-requires c κs = ((c .before .before .before .before .before .before .before .before .before .before .before .pre .0), (c .before .before .before .before .before .before .before .before .before .before .before .pre .1), (c .before .before .before .before .before .before .before .before .before .before .before .pre .2), (c .before .before .before .before .before .before .before .before .before .before .before .pre .3))
+
+same-length : tie.Need-same-length
+same-length c = search needs
+
+returns-3 : tie.Need-returns-3
+returns-3 c = step-premise (c .before .before .before .before .before .before .before .before .before .before .before .before .before .before .args .z) _ _ _ _ _ _ _ _ _ _ _ _ _ (c .before .before .before .before .before .before .before .before .before .move-at .ensures) (c .before .before .before .before .before .before .before .before .before .before .before .before .before .before .pre .3 .number) _ _ _ _ (c .before .before .before .before .before .before .before .if1 .left) (c .before .before .before .before .before .before .entry-of .ensures) (not-false (c .before .before .before .before .before .before .entry-of .result) (c .before .before .before .before .before .if2 .left)) (c .before .before .before .before .entry-set .ensures) (c .before .before .by-premise .ensures)
+
+pub by-move-spec : {M : Type 1} → statement M
+by-move-spec =
+    tie.close
+    (tie.spec
+    move-at-requires
+    returns
+    entry-of-requires
+    returns-2
+    entry-set-requires
+    by-premise-requires
+    same-length
+    returns-3)

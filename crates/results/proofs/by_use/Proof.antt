@@ -1,0 +1,59 @@
+-- `results::by_use` meets its contract.
+-- Assumes nothing.
+use Rattle.results.specs.Uses.{uses-moves, uses-entries, uses-nothing}
+use borrow.Author.Needs.{needs}
+use Rattle.results.proofs.by_use.Statement.{statement}
+use Rattle.results.proofs.by_use.Tie as tie
+
+enum-known-used : tie.Need-enum-known-used
+enum-known-used c = search needs
+
+by-moves-requires : tie.Need-by-moves-requires
+by-moves-requires c κs = (c .before .before .before .before .before .before .before .before .pre)
+
+enum-known-used-2 : tie.Need-enum-known-used-2
+enum-known-used-2 c = search needs
+
+by-entries-requires : tie.Need-by-entries-requires
+by-entries-requires c κs = ((c .before .before .before .before .before .before .before .before .pre .1), (c .before .before .before .before .before .before .before .before .pre .2), (c .before .before .before .before .before .before .before .before .pre .3))
+
+enum-known-used-3 : tie.Need-enum-known-used-3
+enum-known-used-3 c = search needs
+
+offer-requires : tie.Need-offer-requires
+offer-requires c κs = ((c .before .before .before .before .before .before .before .before .pre .1), (c .before .before .before .before .before .before .before .before .pre .2), (c .before .before .before .before .before .before .before .before .pre .3))
+
+same-length : tie.Need-same-length
+same-length c = search needs
+
+returns : tie.Need-returns
+returns c = uses-moves (c .before .before .before .before .before .before .before .before .before .before .before .args .z) _ _ _ _ _ _ _ _ _ _ _ _ _ _ (c .before .before .before .before .before .used .given .1) (c .before .before .by-moves .ensures)
+
+same-length-2 : tie.Need-same-length-2
+same-length-2 c = search needs
+
+returns-2 : tie.Need-returns-2
+returns-2 c = uses-entries (c .before .before .before .before .before .before .before .before .before .before .before .args .z) _ _ _ _ _ _ _ _ _ _ _ _ _ (c .before .before .before .before .before .used2 .given .1) (c .before .before .by-entries .ensures)
+
+same-length-3 : tie.Need-same-length-3
+same-length-3 c = search needs
+
+returns-3 : tie.Need-returns-3
+returns-3 c = uses-nothing (c .before .before .before .before .before .before .before .before .before .before .before .args .z) _ _ _ _ _ _ _ _ _ _ _ _ _ (c .before .before .before .before .before .used3 .given .1) (c .before .before .offer .ensures)
+
+pub by-use-spec : {M : Type 1} → statement M
+by-use-spec =
+    tie.close
+    (tie.spec
+    enum-known-used
+    by-moves-requires
+    enum-known-used-2
+    by-entries-requires
+    enum-known-used-3
+    offer-requires
+    same-length
+    returns
+    same-length-2
+    returns-2
+    same-length-3
+    returns-3)

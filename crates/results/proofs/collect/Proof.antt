@@ -1,0 +1,54 @@
+-- `results::collect` meets its contract.
+-- Assumes nothing.
+use Prim.Native.Nat.{_-_, _≤_}
+use native.Mathlib.Omega.{arith}
+use Rattle.tables.specs.Held.{automatonOf}
+use Rattle.results.specs.Collecting.{RulesUpTo, rules-none, rules-more, rules-all, next-small}
+use borrow.Author.Needs.{needs}
+use Rattle.results.proofs.collect.Statement.{statement}
+use Rattle.results.proofs.collect.Tie as tie
+
+abbrev Inv-loop : tie.InvT-loop
+Inv-loop z inner entries moves body count out₀ room n₀ i₀ out n i = (i ≤ count) × RulesUpTo (automatonOf z inner entries moves) room body out₀ i n out
+
+abbrev μ-loop : tie.MeasureT-loop
+μ-loop z inner entries moves body count out₀ room n₀ i₀ out n i = count - i
+
+loop-holds : tie.Need-loop-holds Inv-loop μ-loop
+loop-holds c = (search needs, rules-none _ _ _ _)
+
+rule-at-requires : tie.Need-rule-at-requires Inv-loop μ-loop
+rule-at-requires c κs = omega (arith, (c .before .before .before .before .before .before .before .pre .3 .rules-lent))
+
+by-rule-requires : tie.Need-by-rule-requires Inv-loop μ-loop
+by-rule-requires c κs = ((c .before .before .before .before .before .before .before .before .before .pre .0), (c .before .before .before .before .before .before .before .before .before .pre .1), (c .before .before .before .before .before .before .before .before .before .pre .2), record { room-lent = omega (arith, (c .before .before .before .before .before .before .before .before .before .pre .4), (c .before .before .before .loop .inv .1 .long)); number = (c .before .before .before .loop .inv .1 .offered .number) }, next-small _ _ _ _ (c .before .before .before .before .before .before .before .before .before .pre .3) (c .before .before .loop-test .taken) (c .before .rule-at .ensures))
+
+add-i : tie.Need-add-i Inv-loop μ-loop
+add-i c = search needs
+
+loop-less : tie.Need-loop-less Inv-loop μ-loop
+loop-less c = search needs
+
+loop-again : tie.Need-loop-again Inv-loop μ-loop
+loop-again c = (search needs, rules-more _ _ _ _ _ _ _ _ _ _ (c .before .before .before .before .before .before .loop .inv .1) (c .before .before .before .before .rule-at .ensures) (c .before .before .by-rule .ensures) (c .before .before .by-rule .kept .1 .1 .1 .1 .1 .0))
+
+same-length : tie.Need-same-length Inv-loop μ-loop
+same-length c = (c .before .loop .inv .1 .long)
+
+returns : tie.Need-returns Inv-loop μ-loop
+returns c = (rules-all _ _ _ _ _ _ _ _ (c .before .loop .inv .1) (c .before .loop .inv .0) (c .loop-test .left), (c .before .loop .inv .1 .offered .number))
+
+pub collect-spec : {M : Type 1} → statement M
+collect-spec =
+    tie.close
+    (tie.spec
+    Inv-loop
+    μ-loop
+    loop-holds
+    rule-at-requires
+    by-rule-requires
+    add-i
+    loop-less
+    loop-again
+    same-length
+    returns)

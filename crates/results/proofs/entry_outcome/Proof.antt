@@ -1,0 +1,24 @@
+-- `results::entry_outcome` meets its contract.
+-- Assumes nothing.
+use Rattle.results.specs.Entries.{is-popped, is-collapsed}
+use borrow.Author.Needs.{needs}
+use Rattle.results.proofs.entry_outcome.Statement.{statement}
+use Rattle.results.proofs.entry_outcome.Tie as tie
+
+one-bit-requires : tie.Need-one-bit-requires
+one-bit-requires c κs = search needs
+
+enum-told : tie.Need-enum-told
+enum-told c = search needs
+
+enum-told-2 : tie.Need-enum-told-2
+enum-told-2 c = search needs
+
+returns : tie.Need-returns
+returns c = is-popped _ _ _ _ _ _ (c .enum-told .given .1) (c .before .before .one-bit .ensures)
+
+returns-2 : tie.Need-returns-2
+returns-2 c = is-collapsed _ _ _ _ _ _ (c .enum-told2 .given .1) (c .before .before .one-bit .ensures)
+
+pub entry-outcome-spec : {M : Type 1} → statement M
+entry-outcome-spec = tie.close (tie.spec one-bit-requires enum-told enum-told-2 returns returns-2)

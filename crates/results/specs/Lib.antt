@@ -1,0 +1,5 @@
+pub mod Rules
+pub mod Steps
+pub mod Entries
+pub mod Uses
+pub mod Collecting

@@ -1,0 +1,359 @@
+// The results of all rules from the table of the earlier rounds, collected: those that are not yet held, sorted, each once.
+ghost use mathlib.Core.Path.{_≡_};
+ghost use mathlib.Core.Bool.{_||_};
+ghost use mathlib.Core.List.{[], _∷_};
+ghost use Prim.Native.Nat.{_<_, _≤_, _+_, _*_};
+ghost use lib.ListN.{length};
+ghost use lib.Dec.{eqb};
+ghost use Rattle.words.specs.Sets.{members};
+ghost use Rattle.words.specs.Lists.{when};
+ghost use Rattle.automata.specs.Automaton.{entryOf, entrySet};
+ghost use Rattle.tables.specs.Rows.{rowAt};
+ghost use Rattle.tables.specs.Records.{asMove, asResult, moveRow, entryRow};
+ghost use Rattle.tables.specs.Held.{automatonOf, tableOf, EdgesStand, EntriesStand, MovesStand};
+ghost use Rattle.tables.specs.Pending.{pendingIn, limited};
+ghost use Rattle.readings.specs.Joining.{theJoins};
+ghost use Rattle.readings.specs.Offers.{Collects, Room};
+ghost use Rattle.readings.specs.Readings.{readResults};
+ghost use Rattle.results.specs.Rules.{orderFits, premiseResults, movesResults, entryResult, entriesResults, ruleResults};
+ghost use Rattle.case_records.specs.Values.{theOperation, theRule};
+ghost use Rattle.results.specs.Collecting.{RulesStand, rulesIn, newResults};
+ghost use Rattle.results.specs.Steps.{moveStep, entryStep};
+ghost use Rattle.results.specs.Uses.{theOutcome, useOf, useResults};
+
+// How an operation uses a move of an entry.
+pub enum Premise {
+    Rewritten,
+    Pushed1,
+    Pushed2,
+    Copied,
+}
+
+// How an operation uses an entry itself.
+pub enum EntryPremise {
+    Popped,
+    Collapsed,
+}
+
+// Whether an annotation set of this order is empty or of order k.
+fn order_fits(k: u64, order: u64) -> bool
+    ensures { λ r. ⌜ r ≡ eqb order 0 || eqb order k ⌝ }
+{
+    if order == 0 {
+        return true;
+    }
+    order == k
+}
+
+// Collects what a push of order k gives by move m for the set s: the readings from the move's rest set, joined to the rest set `rest`.
+fn by_push(
+    z: tables::Table,
+    entries: &[u64],
+    moves: &[u64],
+    to: readings::Goal,
+    s: u64,
+    m: tables::Move,
+    k: u64,
+    rest: u64,
+    out: &mut [u64],
+    n: usize,
+    room: usize,
+) -> usize
+    requires { ⌜ EntriesStand z (now entries) × MovesStand z (now moves) × Room room n (now out) ⌝ }
+    ensures { λ r. ⌜ Collects (tableOf z (now (entries .entry)) (now (moves .entry))) room n (now (out .entry)) (when (orderFits k (asMove m)) (readResults (tableOf z (now (entries .entry)) (now (moves .entry))) (to .control) (to .symbol) s (members (m .r)) (theJoins 0 0 rest))) r (now (out .exit)) ⌝ }
+{
+    if !order_fits(k, m.order) {
+        return n;
+    }
+    readings::read_from(z, entries, moves, to, s, m.r, 0, 0, rest, out, n, room)
+}
+
+// Collects what move m of an entry with the set s gives.
+fn by_premise(
+    z: tables::Table,
+    inner: &[u64],
+    entries: &[u64],
+    moves: &[u64],
+    to: readings::Goal,
+    kind: Premise,
+    s: u64,
+    m: tables::Move,
+    out: &mut [u64],
+    n: usize,
+    room: usize,
+) -> usize
+    requires { ⌜ EdgesStand z (now inner) × EntriesStand z (now entries) × MovesStand z (now moves) × Room room n (now out) ⌝ }
+    ensures { λ r. ⌜ Collects (automatonOf z (now (inner .entry)) (now (entries .entry)) (now (moves .entry))) room n (now (out .entry)) (premiseResults (automatonOf z (now (inner .entry)) (now (entries .entry)) (now (moves .entry))) (to .control) (to .symbol) kind s (asMove m)) r (now (out .exit)) ⌝ }
+{
+    match kind {
+        Premise::Rewritten => {
+            let x = tables::Outcome {
+                control: to.control,
+                s: s,
+                symbol: to.symbol,
+                order: m.order,
+                b: m.b,
+                r: m.r,
+            };
+            readings::offer(z, entries, moves, x, out, n, room)
+        }
+        Premise::Pushed1 => by_push(z, entries, moves, to, s, m, 1, m.b, out, n, room),
+        Premise::Pushed2 => {
+            let all = sets::join(s, m.b);
+            by_push(z, entries, moves, to, all, m, 2, 0, out, n, room)
+        }
+        Premise::Copied => {
+            let j = readings::Joins {
+                order: m.order,
+                b: m.b,
+                r: m.r,
+            };
+            readings::read_edges(z, inner, entries, moves, to, j, s, 0, 0, out, n, room)
+        }
+    }
+}
+
+// Collects what move number i gives, where it is one on b of an entry of control q.
+fn by_move(
+    z: tables::Table,
+    inner: &[u64],
+    entries: &[u64],
+    moves: &[u64],
+    to: readings::Goal,
+    kind: Premise,
+    b: u64,
+    q: u64,
+    i: usize,
+    out: &mut [u64],
+    n: usize,
+    room: usize,
+) -> usize
+    requires { ⌜ EdgesStand z (now inner) × EntriesStand z (now entries) × MovesStand z (now moves) × Room room n (now out) × (i < z .moves) ⌝ }
+    ensures { λ r. ⌜ Collects (automatonOf z (now (inner .entry)) (now (entries .entry)) (now (moves .entry))) room n (now (out .entry)) (moveStep (automatonOf z (now (inner .entry)) (now (entries .entry)) (now (moves .entry))) (to .control) (to .symbol) kind b q (rowAt moveRow (now (moves .entry)) i)) r (now (out .exit)) ⌝ }
+{
+    let m = tables::move_at(moves, i);
+    if m.symbol != b {
+        return n;
+    }
+    if !tables::entry_of(z, entries, q, m.state) {
+        return n;
+    }
+    let s = tables::entry_set(z, entries, m.state);
+    by_premise(z, inner, entries, moves, to, kind, s, m, out, n, room)
+}
+
+// Collects what the moves on b of the entries of control q give.
+fn by_moves(
+    z: tables::Table,
+    inner: &[u64],
+    entries: &[u64],
+    moves: &[u64],
+    to: readings::Goal,
+    kind: Premise,
+    b: u64,
+    q: u64,
+    out: &mut [u64],
+    n: usize,
+    room: usize,
+) -> usize
+    requires { ⌜ EdgesStand z (now inner) × EntriesStand z (now entries) × MovesStand z (now moves) × Room room n (now out) ⌝ }
+    ensures { λ r. ⌜ Collects (automatonOf z (now (inner .entry)) (now (entries .entry)) (now (moves .entry))) room n (now (out .entry)) (movesResults (automatonOf z (now (inner .entry)) (now (entries .entry)) (now (moves .entry))) (to .control) (to .symbol) kind b q) r (now (out .exit)) ⌝ }
+{
+    let count = z.moves;
+    let mut k = n;
+    let mut i: usize = 0;
+    while i < count {
+        k = by_move(z, inner, entries, moves, to, kind, b, q, i, out, k, room);
+        i += 1;
+    }
+    k
+}
+
+// What order-1 state r, an entry with the set s, gives.
+fn entry_outcome(to: readings::Goal, kind: EntryPremise, s: u64, r: u64) -> tables::Outcome
+    requires { ⌜ r < 64 ⌝ }
+    ensures { λ x. ⌜ asResult x ≡ entryResult (to .control) (to .symbol) kind s r ⌝ }
+{
+    let bit = sets::one_bit(r);
+    match kind {
+        EntryPremise::Popped => tables::Outcome {
+            control: to.control,
+            s: s,
+            symbol: to.symbol,
+            order: 0,
+            b: 0,
+            r: bit,
+        },
+        EntryPremise::Collapsed => tables::Outcome {
+            control: to.control,
+            s: s,
+            symbol: to.symbol,
+            order: 1,
+            b: bit,
+            r: 0,
+        },
+    }
+}
+
+// Collects what entry number i gives, where its control is q.
+fn by_entry(
+    z: tables::Table,
+    entries: &[u64],
+    moves: &[u64],
+    to: readings::Goal,
+    kind: EntryPremise,
+    q: u64,
+    i: usize,
+    out: &mut [u64],
+    n: usize,
+    room: usize,
+) -> usize
+    requires { ⌜ EntriesStand z (now entries) × MovesStand z (now moves) × Room room n (now out) × (i < z .entries) ⌝ }
+    ensures { λ r. ⌜ Collects (tableOf z (now (entries .entry)) (now (moves .entry))) room n (now (out .entry)) (entryStep (tableOf z (now (entries .entry)) (now (moves .entry))) (to .control) (to .symbol) kind q i (rowAt entryRow (now (entries .entry)) i)) r (now (out .exit)) ⌝ }
+{
+    let e = tables::entry_at(entries, i);
+    if e.control != q {
+        return n;
+    }
+    let x = entry_outcome(to, kind, e.s, z.states + i as u64);
+    readings::offer(z, entries, moves, x, out, n, room)
+}
+
+// Collects what the entries of control q give.
+fn by_entries(
+    z: tables::Table,
+    entries: &[u64],
+    moves: &[u64],
+    to: readings::Goal,
+    kind: EntryPremise,
+    q: u64,
+    out: &mut [u64],
+    n: usize,
+    room: usize,
+) -> usize
+    requires { ⌜ EntriesStand z (now entries) × MovesStand z (now moves) × Room room n (now out) ⌝ }
+    ensures { λ r. ⌜ Collects (tableOf z (now (entries .entry)) (now (moves .entry))) room n (now (out .entry)) (entriesResults (tableOf z (now (entries .entry)) (now (moves .entry))) (to .control) (to .symbol) kind q) r (now (out .exit)) ⌝ }
+{
+    let count = z.entries;
+    let mut k = n;
+    let mut i: usize = 0;
+    while i < count {
+        k = by_entry(z, entries, moves, to, kind, q, i, out, k, room);
+        i += 1;
+    }
+    k
+}
+
+// What a rule's operation uses: moves on a symbol, entries, or nothing, for one result.
+pub enum Use {
+    Moves(Premise, u64),
+    Entries(EntryPremise),
+    Nothing(tables::Outcome),
+}
+
+// The result (order, b, empty) to a symbol of entry [control, s].
+fn outcome(control: u64, s: u64, symbol: u64, order: u64, b: u64) -> tables::Outcome
+    ensures { λ x. ⌜ x ≡ theOutcome control s symbol order b ⌝ }
+{
+    tables::Outcome {
+        control: control,
+        s: s,
+        symbol: symbol,
+        order: order,
+        b: b,
+        r: 0,
+    }
+}
+
+// What a rule's operation uses.
+fn use_of(rule: case_records::Rule) -> Use
+    requires { ⌜ rule .next < 64 ⌝ }
+    ensures { λ r. ⌜ r ≡ useOf (rule .control) (rule .symbol) (rule .next) (theOperation (rule .operation)) ⌝ }
+{
+    let bit = sets::one_bit(rule.next);
+    let p = rule.control;
+    let a = rule.symbol;
+    let operation = rule.operation;
+    match operation {
+        case_records::Operation::Rewrite(b) => Use::Moves(Premise::Rewritten, b),
+        case_records::Operation::Push1(b) => Use::Moves(Premise::Pushed1, b),
+        case_records::Operation::Push2(b) => Use::Moves(Premise::Pushed2, b),
+        case_records::Operation::Copy => Use::Moves(Premise::Copied, a),
+        case_records::Operation::Pop1 => Use::Entries(EntryPremise::Popped),
+        case_records::Operation::Pop2 => Use::Nothing(outcome(p, bit, a, 0, 0)),
+        case_records::Operation::Collapse1 => Use::Entries(EntryPremise::Collapsed),
+        case_records::Operation::Collapse2 => Use::Nothing(outcome(p, 0, a, 2, bit)),
+    }
+}
+
+// Collects what an operation gives that uses this and goes to control q.
+fn by_use(
+    z: tables::Table,
+    inner: &[u64],
+    entries: &[u64],
+    moves: &[u64],
+    to: readings::Goal,
+    q: u64,
+    used: Use,
+    out: &mut [u64],
+    n: usize,
+    room: usize,
+) -> usize
+    requires { ⌜ EdgesStand z (now inner) × EntriesStand z (now entries) × MovesStand z (now moves) × Room room n (now out) ⌝ }
+    ensures { λ r. ⌜ Collects (automatonOf z (now (inner .entry)) (now (entries .entry)) (now (moves .entry))) room n (now (out .entry)) (useResults (automatonOf z (now (inner .entry)) (now (entries .entry)) (now (moves .entry))) (to .control) (to .symbol) q used) r (now (out .exit)) ⌝ }
+{
+    match used {
+        Use::Moves(k, b) => by_moves(z, inner, entries, moves, to, k, b, q, out, n, room),
+        Use::Entries(k) => by_entries(z, entries, moves, to, k, q, out, n, room),
+        Use::Nothing(x) => readings::offer(z, entries, moves, x, out, n, room),
+    }
+}
+
+// Collects the results of a rule.
+pub fn by_rule(
+    z: tables::Table,
+    inner: &[u64],
+    entries: &[u64],
+    moves: &[u64],
+    rule: case_records::Rule,
+    out: &mut [u64],
+    n: usize,
+    room: usize,
+) -> usize
+    requires { ⌜ EdgesStand z (now inner) × EntriesStand z (now entries) × MovesStand z (now moves) × Room room n (now out) × (rule .next < 64) ⌝ }
+    ensures { λ r. ⌜ Collects (automatonOf z (now (inner .entry)) (now (entries .entry)) (now (moves .entry))) room n (now (out .entry)) (ruleResults (automatonOf z (now (inner .entry)) (now (entries .entry)) (now (moves .entry))) (theRule rule)) r (now (out .exit)) ⌝ }
+{
+    let to = readings::Goal {
+        control: rule.control,
+        symbol: rule.symbol,
+    };
+    let q = rule.next;
+    let used = use_of(rule);
+    by_use(z, inner, entries, moves, to, q, used, out, n, room)
+}
+
+// Collects the results of the first `count` rules of a body that are not yet held: sorted, each once, in the first rows of `out`. Answers
+// their number, and a number above `room` where there is no room for them.
+pub fn collect(
+    z: tables::Table,
+    inner: &[u64],
+    entries: &[u64],
+    moves: &[u64],
+    body: &[u8],
+    count: usize,
+    out: &mut [u64],
+    room: usize,
+) -> usize
+    requires { ⌜ EdgesStand z (now inner) × EntriesStand z (now entries) × MovesStand z (now moves) × RulesStand count (now body) × (room * 6 ≤ length (now out)) ⌝ }
+    ensures { λ n. ⌜ pendingIn room n (now (out .exit)) ≡ limited room (newResults (rulesIn count (now (body .entry))) (automatonOf z (now (inner .entry)) (now (entries .entry)) (now (moves .entry)))) ⌝ }
+    ensures { λ n. ⌜ n ≤ room + 1 ⌝ }
+{
+    let mut n: usize = 0;
+    let mut i: usize = 0;
+    while i < count {
+        let rule = case_records::rule_at(body, i);
+        n = by_rule(z, inner, entries, moves, rule, out, n, room);
+        i += 1;
+    }
+    n
+}
