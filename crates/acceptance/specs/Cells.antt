@@ -2,6 +2,7 @@
 -- n stands for.
 -- Assumes nothing.
 pub mod Turns
+pub mod Body
 use Prim.Native.Nat.{ℕ, zero, suc, _<_}
 use mathlib.Core.Path.{_≡_, refl, ap, sym, _∙_}
 use mathlib.Core.List.{List, []}

@@ -1,15 +1,18 @@
 // Acceptance of the cells of a start file: one word of states a cell, for the first so many moves and entries of a table.
 ghost use mathlib.Core.Path.{_≡_};
-ghost use Prim.Native.Nat.{_<_, _≤_};
-ghost use lib.ListN.{length, getD, take};
+ghost use mathlib.Core.List.{_++_};
+ghost use Prim.Native.Nat.{_<_, _≤_, _*_};
+ghost use lib.ListN.{length, getD, take, drop, set};
 ghost use Rattle.words.specs.Sets.{member, partOf};
 ghost use Rattle.tables.specs.Rows.{rowsIn};
 ghost use Rattle.tables.specs.Records.{moveRow, asMove, asEdge};
 ghost use Rattle.tables.specs.Held.{automatonOf, edgesIn, EdgesStand, EntriesStand};
+ghost use Rattle.walks.specs.Cell.Formed.{cellOrder, cellAt, orderAt};
 ghost use Rattle.cell_memory.specs.Memory.{cellOf};
 ghost use Rattle.acceptance.specs.Words.{noteMet, moveMet, edgeMet, statesMet, withState};
 ghost use Rattle.acceptance.specs.Named.{MovesNamed, EdgesNamed, Stands};
-ghost use Rattle.acceptance.specs.Cells.{wordBy};
+ghost use Rattle.acceptance.specs.Cells.{cellWord, cellWords, annotationOrder, wordBy};
+ghost use Rattle.acceptance.specs.Cells.Body.{cellsIn};
 use cell_memory::Cell;
 use tables::Edge;
 use tables::Move;
@@ -155,5 +158,82 @@ pub fn cell_word(
             let rest = word_before(words, n, t as usize);
             above_word(z, inner, entries, top, rest)
         }
+    }
+}
+
+// ---- the cells of a start file
+
+// The order of the stack that a cell stands for.
+pub fn cell_order(cell: Cell) -> u64
+    ensures { λ r. ⌜ r ≡ cellOrder (cellOf cell) ⌝ }
+{
+    match cell {
+        Cell::Empty1 => 1,
+        Cell::Symbol(_, _, _) => 1,
+        Cell::Empty2 => 2,
+        Cell::Above(_, _) => 2,
+    }
+}
+
+// The order of cell i, of the first n in the body, and 1 where there is none.
+fn order_at(body: &[u8], n: usize, i: usize) -> u64
+    requires { ⌜ n * 6 ≤ length (now body) ⌝ }
+    ensures { λ r. ⌜ r ≡ orderAt (cellsIn n (now (body .entry))) i ⌝ }
+{
+    if n <= i {
+        return 1;
+    }
+    cell_order(start_records::cell_at(body, i))
+}
+
+// The order of the annotation of a symbol.
+fn annotation_order(body: &[u8], n: usize, cell: Cell) -> u64
+    requires { ⌜ n * 6 ≤ length (now body) ⌝ }
+    ensures { λ r. ⌜ r ≡ annotationOrder (cellsIn n (now (body .entry))) (cellOf cell) ⌝ }
+{
+    match cell {
+        Cell::Empty1 => 0,
+        Cell::Symbol(_, u, _) => order_at(body, n, u as usize),
+        Cell::Empty2 => 0,
+        Cell::Above(_, _) => 0,
+    }
+}
+
+// Writes the word of cell i, of the first n in the body, by those of the cells before it.
+fn put_word(
+    z: Table,
+    inner: &[u64],
+    entries: &[u64],
+    moves: &[u64],
+    body: &[u8],
+    n: usize,
+    words: &mut [u64],
+    i: usize,
+)
+    requires { ⌜ Stands z (now inner) (now entries) (now moves) × (n * 6 ≤ length (now body)) × (i < n) × (n ≤ length (now words)) ⌝ }
+    ensures { λ _. ⌜ now (words .exit) ≡ set (now (words .entry)) i (cellWord (automatonOf z (now (inner .entry)) (now (entries .entry)) (now (moves .entry))) (cellsIn n (now (body .entry))) (take i (now (words .entry))) (cellAt (cellsIn n (now (body .entry))) i)) ⌝ }
+{
+    let cell = start_records::cell_at(body, i);
+    let k = annotation_order(body, n, cell);
+    words[i] = cell_word(z, inner, entries, moves, words, i, cell, k);
+}
+
+// Writes the words of the first n cells in the body, for the automaton in these tables.
+pub fn fill_words(
+    z: Table,
+    inner: &[u64],
+    entries: &[u64],
+    moves: &[u64],
+    body: &[u8],
+    n: usize,
+    words: &mut [u64],
+)
+    requires { ⌜ Stands z (now inner) (now entries) (now moves) × (n * 6 ≤ length (now body)) × (n ≤ length (now words)) ⌝ }
+    ensures { λ _. ⌜ now (words .exit) ≡ cellWords (automatonOf z (now (inner .entry)) (now (entries .entry)) (now (moves .entry))) (cellsIn n (now (body .entry))) ++ drop n (now (words .entry)) ⌝ }
+{
+    let mut i: usize = 0;
+    while i < n {
+        put_word(z, inner, entries, moves, body, n, words, i);
+        i += 1;
     }
 }

@@ -113,7 +113,7 @@ pub fn offset_of(file: &[u8], n: usize) -> usize
 }
 
 // Line n has the body's kind, a count in its range, and the offset.
-pub fn line_right(file: &[u8], n: usize, offset: usize, b: Body) -> bool
+fn line_right(file: &[u8], n: usize, offset: usize, b: Body) -> bool
     requires { ⌜ 9 + 8 * n ≤ length (now file) ⌝ }
     ensures { λ r. ⌜ r ≡ lineRight (now (file .entry)) n offset (theBody b) ⌝ }
 {

@@ -1,17 +1,15 @@
 -- The head of a case file whose bodies are in place, and its entries.
 -- Assumes nothing.
 use Prim.Native.Nat.{ℕ, _+_, _*_, _<_, _≤_}
-use mathlib.Core.Bool.{Bool, true, false}
-use mathlib.Core.Path.{_≡_, refl, ap, ap₂, sym, _∙_}
+use mathlib.Core.Path.{_≡_, ap, ap₂, sym, _∙_}
 use mathlib.Core.List.{List, [], _∷_, _++_, map, map-append}
-use lib.ListN.{length, getD, take, drop, length-append, length-take, length-drop}
+use lib.ListN.{length, getD, take, length-append}
 use lib.Seq.{take-all}
-use lib.Dec.{ltb}
 use native.Mathlib.Omega.{arith}
 use borrow.Author.Tests.{lt-ltb, le-ltb}
 use Rattle.words.specs.Lists.{only}
 use Rattle.words.specs.Lists.Laws.{only-append}
-use Rattle.files.specs.Bytes.{countOf, offsetOf, records, recordsOf}
+use Rattle.files.specs.Bytes.{countOf, offsetOf, records}
 use Rattle.files.specs.Case.{Head, headOf, head, EdgeBytes, edgeBytes, entriesOf}
 use Rattle.files.specs.Case.Laws.{CasePlaces}
 use Rattle.bytes_in.specs.Records.{recordAt, bodyOf, length-body, records-here, map-more}

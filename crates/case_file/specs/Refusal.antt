@@ -16,26 +16,23 @@ refusalBy true true false ordered = 3
 refusalBy true true true false = 4
 refusalBy true true true true = 0
 
-by-tests : (p h r s : Bool) → ℕ
-by-tests p h r s =
-    elim (not p) [
-      | true ↦ 1
-      | false ↦ elim (not h) [ true ↦ 2 | false ↦ elim (not r) [ true ↦ 3 | false ↦ elim (not s) [ true ↦ 4 | false ↦ 0 ] ] ]
-    ]
-
-tests-by : (p h r s : Bool) → by-tests p h r s ≡ refusalBy p h r s
-unfolding by-tests refusalBy
-tests-by false h r s = refl
-tests-by true false r s = refl
-tests-by true true false s = refl
-tests-by true true true false = refl
-tests-by true true true true = refl
-
 pub refusal-is : (file : List ℕ)
     → caseRefusal file
     ≡ refusalBy (placed caseBodies file) (headRight (head file)) (recordsRight file)
     (rising edgeKey (edgeRecords file) && rising moveKey (moveRecords file))
-unfolding caseRefusal caseTests firstHit by-tests
+unfolding caseRefusal caseTests firstHit refusalBy
 refusal-is file =
-    tests-by (placed caseBodies file) (headRight (head file)) (recordsRight file)
+    go (placed caseBodies file) (headRight (head file)) (recordsRight file)
     (rising edgeKey (edgeRecords file) && rising moveKey (moveRecords file))
+  where
+    go : (p h r s : Bool)
+        → elim (not p) [
+          | true ↦ 1
+          | false ↦ elim (not h) [ true ↦ 2 | false ↦ elim (not r) [ true ↦ 3 | false ↦ elim (not s) [ true ↦ 4 | false ↦ 0 ] ] ]
+        ]
+        ≡ refusalBy p h r s
+    go false h r s = refl
+    go true false r s = refl
+    go true true false s = refl
+    go true true true false = refl
+    go true true true true = refl

@@ -1,7 +1,7 @@
 -- The edges of a case, one by one: an entry more, or an inner edge more.
 -- Assumes nothing.
-use Prim.Native.Nat.{ℕ, zero, suc, _+_, _*_, _-_, _≤_, _<_}
-use mathlib.Core.Bool.{Bool, true, false, not}
+use Prim.Native.Nat.{ℕ, suc, _+_, _*_, _-_, _≤_, _<_}
+use mathlib.Core.Bool.{true, false}
 use mathlib.Core.Path.{_≡_, refl, ap, ap₂, sym, _∙_}
 use mathlib.Core.List.{List, [], _∷_, _++_, map, map-append}
 use lib.ListN.{length, drop, length-append, length-map}
@@ -11,7 +11,7 @@ use lib.Seq.{drop-drop}
 use native.Mathlib.Nat.{zero-add}
 use native.Mathlib.Omega.{arith}
 use Rattle.words.specs.Lists.{only}
-use Rattle.words.specs.Lists.Laws.{by-test, only-yes, only-no}
+use Rattle.words.specs.Lists.Laws.{by-test}
 use Rattle.words.specs.Order.{insert, sorted}
 use Rattle.automata.specs.Automaton.{Move, Edge, Entry, choiceKey}
 use Rattle.files.specs.Bytes.{records}

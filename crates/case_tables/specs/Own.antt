@@ -1,14 +1,13 @@
 -- The case's own automaton in three tables.
 -- Assumes nothing.
 use Prim.Native.Nat.{ℕ, _*_, _≤_}
-use mathlib.Core.Path.{_≡_, refl, ap, ap₂, sym, _∙_}
+use mathlib.Core.Path.{_≡_, ap, ap₂, sym, _∙_}
 use mathlib.Core.List.{List, map}
 use lib.ListN.{length, length-map}
 use native.Mathlib.Omega.{arith}
-use Rattle.automata.specs.Automaton.{Automaton, Move, Edge, Entry}
 use Rattle.files.specs.Bytes.{countOf, records, recordsOf}
 use Rattle.files.specs.Bytes.Laws.{length-recordsOf}
-use Rattle.files.specs.Case.{Head, head, EdgeBytes, edgeBytes, edgeRecords, entriesOf, innerEdges, moveOf, moveRecords, ownOf}
+use Rattle.files.specs.Case.{Head, head, edgeBytes, edgeRecords, entriesOf, innerEdges, moveOf, moveRecords, ownOf}
 use Rattle.tables.specs.declared.Table.{Table}
 use Rattle.tables.specs.Rows.{Layout, rowsIn}
 use Rattle.tables.specs.Records.{edgeRow, entryRow, moveRow}

@@ -1,15 +1,15 @@
 -- Records written into the rows of a table, one after another.
 -- Assumes nothing.
-use Prim.Native.Nat.{ℕ, zero, suc, _+_, _*_, _-_, _≤_, _<_}
+use Prim.Native.Nat.{ℕ, suc, _+_, _*_, _≤_}
 use mathlib.Core.Path.{_≡_, refl, ap, ap₂, sym, _∙_}
 use mathlib.Core.List.{List, [], _∷_, _++_, append-assoc, append-nil}
-use lib.ListN.{length, take, drop, length-append}
+use lib.ListN.{length, drop}
 use native.Mathlib.Nat.{add-zero, add-suc, suc-add, zero-add, suc-mul, mul-le-mul-right}
 use native.Mathlib.Numerals.{add-one}
 use native.Mathlib.Omega.{arith}
 use Rattle.words.specs.Lists.{each}
 use Rattle.tables.specs.Rows.{Layout, firstOf, rowsIn, putRow}
-use Rattle.tables.specs.Rows.Laws.{length-rowsIn, length-putRow, drop-putRow, put-more, rowsIn-whole}
+use Rattle.tables.specs.Rows.Laws.{length-putRow, drop-putRow, put-more, rowsIn-whole}
 
 module _ {A : Type 0} (L : Layout A) where
   -- the table with these records in the rows from number k on, and all other rows as they were

@@ -1,18 +1,18 @@
 -- The checks of a start file, record by record, and its refusal by its tests.
 -- Assumes nothing.
-use Prim.Native.Nat.{ℕ, zero, suc, _+_, _*_, _-_, _≤_, _<_}
+use Prim.Native.Nat.{ℕ, suc, _+_, _-_, _<_}
 use mathlib.Core.Bool.{Bool, true, false, not, _&&_}
-use mathlib.Core.Path.{_≡_, refl, ap, ap₂, sym, _∙_}
+use mathlib.Core.Path.{_≡_, refl, ap, sym, _∙_}
 use mathlib.Core.List.{List, [], _∷_, map}
-use lib.ListN.{length, getD, take, drop, length-take, length-drop}
+use lib.ListN.{getD, drop}
 use lib.Seq.{getD-take, getD-drop}
 use native.Mathlib.Numerals.{add-one}
 use native.Mathlib.Omega.{arith}
 use Rattle.words.specs.Lists.{every}
 use Rattle.words.specs.Lists.Laws.{by-test}
 use Rattle.files.specs.Bytes.{countOf, offsetOf, placed, firstHit, records, recordsOf}
-use Rattle.files.specs.Case.{head, headOf}
-use Rattle.files.specs.Start.{Files, startBodies, CellBytes, cellBytes, startOf, startsOf, cellRecords, startRight, cellRight, cellsRight, startFileRight, startTests, startRefusal}
+use Rattle.files.specs.Case.{head}
+use Rattle.files.specs.Start.{Files, startBodies, CellBytes, cellBytes, startsOf, cellRecords, startRight, cellRight, cellsRight, startFileRight, startTests, startRefusal}
 use Rattle.bytes_in.specs.Records.{recordAt, recordsFrom, from-first, from-last, from-cons}
 
 -- a case file and a start file

@@ -1,6 +1,6 @@
 -- What the values of the code stand for: starts and the fields of cells.
 -- Assumes nothing.
-use Prim.Native.Nat.{ℕ, _<_, _^_}
+use Prim.Native.Nat.{_<_, _^_}
 use Rattle.files.specs.Start as Files
 use Rattle.start_records.specs.declared.Start.{Start}
 use Rattle.start_records.specs.declared.Fields.{Fields}

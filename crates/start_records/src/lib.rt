@@ -1,7 +1,7 @@
 // The records of a start file: what each one's bytes stand for, and whether it keeps the bounds of its body.
 ghost use mathlib.Core.Path.{_≡_};
 ghost use mathlib.Core.List.{map};
-ghost use Prim.Native.Nat.{_<_, _≤_, _+_, _*_, _^_};
+ghost use Prim.Native.Nat.{_≤_, _+_, _*_};
 ghost use lib.ListN.{length};
 ghost use Rattle.files.specs.Bytes.{records};
 ghost use Rattle.files.specs.Start.{startOf, cellBytes, orderOf, refersTo, cellRight, startRight, cellOf};

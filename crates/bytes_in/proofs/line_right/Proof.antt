@@ -1,7 +1,7 @@
 -- `bytes_in::line_right` meets its contract.
 -- Assumes nothing.
 use borrow.Author.Tests.{ne-eqb, eq-eqb, le-leb, lt-leb}
-use Rattle.files.specs.Bytes.{lineRight, kindOf, countOf, offsetOf}
+use Rattle.files.specs.Bytes.{lineRight, kindOf, countOf}
 use borrow.Author.Needs.{needs}
 use Rattle.bytes_in.proofs.line_right.Statement.{statement}
 use Rattle.bytes_in.proofs.line_right.Tie as tie

@@ -1,7 +1,7 @@
 -- `bytes_in::next_body` meets its contract.
 -- Assumes nothing.
 use Prim.Native.Nat.{_<_, _*_}
-use mathlib.Core.Path.{_≡_, ap, ap₂, sym, _∙_}
+use mathlib.Core.Path.{sym, _∙_}
 use native.Mathlib.Omega.{arith}
 use Rattle.bytes_in.specs.Contents.{product-small, nextBody-right, nextBody-wrong}
 use borrow.Author.Needs.{needs}

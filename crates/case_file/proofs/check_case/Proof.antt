@@ -1,8 +1,7 @@
 -- `case_file::check_case` meets its contract.
 -- Assumes nothing.
-use mathlib.Core.Path.{sym, ap, _∙_}
+use mathlib.Core.Path.{sym, _∙_}
 use borrow.Author.Tests.{not-true, not-false}
-use Rattle.files.specs.Case.{headRight}
 use Rattle.case_file.specs.Refusal.{refusalBy, refusal-is}
 use borrow.Author.Needs.{needs}
 use Rattle.case_file.proofs.check_case.Statement.{statement}

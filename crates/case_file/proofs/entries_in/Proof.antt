@@ -1,7 +1,7 @@
 -- `case_file::entries_in` meets its contract. The invariant: the count is the number of entries among the first i edges.
 -- Assumes nothing.
 use Prim.Native.Nat.{_≤_, _-_}
-use mathlib.Core.Path.{_≡_, sym, _∙_}
+use mathlib.Core.Path.{_≡_}
 use mathlib.Core.List.{map}
 use lib.ListN.{length}
 use native.Mathlib.Omega.{arith}

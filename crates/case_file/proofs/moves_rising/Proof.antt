@@ -1,10 +1,9 @@
 -- `case_file::moves_rising` meets its contract. The invariant: the first i + 1 records are strictly increasing.
 -- Assumes nothing.
-use Prim.Native.Nat.{ℕ, _+_, _≤_, _-_}
-use mathlib.Core.Bool.{true, false}
+use Prim.Native.Nat.{_+_, _≤_, _-_}
+use mathlib.Core.Bool.{true}
 use mathlib.Core.Path.{_≡_, ap₂, sym, _∙_}
 use mathlib.Core.List.{map}
-use native.Mathlib.Omega.{arith}
 use borrow.Author.Tests.{not-true, not-false}
 use Rattle.words.specs.Order.{less, rising}
 use Rattle.automata.specs.Automaton.{Move}

@@ -1,7 +1,5 @@
 -- `case_tables::edge_reached` meets its contract.
 -- Assumes nothing.
-use Rattle.automata.specs.Automaton.{choiceKey}
-use Rattle.tables.specs.Records.{edgeRow}
 use Rattle.case_tables.specs.Insertion.{reached-not, reached-below}
 use borrow.Author.Needs.{needs}
 use Rattle.case_tables.proofs.edge_reached.Statement.{statement}

@@ -1,8 +1,6 @@
 -- `start_records::refers_to` meets its contract.
 -- Assumes nothing.
-use Prim.Native.Nat.{ℕ}
-use mathlib.Core.Path.{_≡_, ap, sym, _∙_}
-use borrow.Author.Tests.{lt-ltb, le-ltb}
+use mathlib.Core.Path.{sym}
 use Rattle.start_records.specs.Cells.{refers-not, refers-kind}
 use borrow.Author.Needs.{needs}
 use Rattle.start_records.proofs.refers_to.Statement.{statement}

@@ -1,7 +1,5 @@
 -- `start_records::start_right` meets its contract.
 -- Assumes nothing.
-use mathlib.Core.Path.{_≡_, sym, ap, _∙_}
-use lib.ListN.{length}
 use borrow.Author.Tests.{lt-ltb, le-ltb}
 use Rattle.files.specs.Start.{startRight}
 use Rattle.start_records.specs.Cells.{length-cells}
