@@ -1,0 +1,56 @@
+-- `saturation::add_round` meets its contract.
+-- Assumes nothing.
+use native.Mathlib.Omega.{arith}
+use Rattle.saturation.specs.Rounding.{standing-entries, standing-moves, rounded-over, rounded-added}
+use borrow.Author.Needs.{needs}
+use Rattle.saturation.proofs.add_round.Statement.{statement}
+use Rattle.saturation.proofs.add_round.Tie as tie
+
+sub-room : tie.Need-sub-room
+sub-room c = omega (arith, (c .before .before .before .before .before .before .before .pre .0 .moves-few))
+
+collect-requires : tie.Need-collect-requires
+collect-requires c κs = ((c .before .before .before .before .before .before .before .before .before .before .pre .0 .edges), standing-entries (c .before .before .before .before .before .before .before .before .before .before .args .z) _ _ _ _ _ (c .before .before .before .before .before .before .before .before .before .before .pre .0), standing-moves (c .before .before .before .before .before .before .before .before .before .before .args .z) _ _ _ _ _ (c .before .before .before .before .before .before .before .before .before .before .pre .0), (c .before .before .before .before .before .before .before .before .before .before .pre .1), omega (arith, (c .before .before .before .before .before .before .before .before .before .before .pre .2)))
+
+same-length : tie.Need-same-length
+same-length c = search needs
+
+same-length-2 : tie.Need-same-length-2
+same-length-2 c = search needs
+
+same-length-3 : tie.Need-same-length-3
+same-length-3 c = search needs
+
+returns : tie.Need-returns
+returns c = rounded-over _ _ (c .before .before .before .before .before .before .before .before .before .before .before .before .before .before .args .z) _ _ _ _ (c .before .before .before .before .before .before .before .before .before .before .before .before .before .before .pre .0) _ _ (c .before .before .before .collect .ensures .0) (c .if1 .taken)
+
+add-results-requires : tie.Need-add-results-requires
+add-results-requires c κs = ((c .before .before .before .before .before .before .before .before .before .before .before .before .before .before .before .before .before .pre .0 .growing), omega (arith, (c .before .before .before .before .before .before .before .before .before .before .before .before .before .before .before .before .before .pre .0 .moves-few), (c .before .before .before .before .before .before .before .before .before .before .before .before .before .before .before .before .before .pre .0 .moves-lent), (c .before .before .before .if1 .left)), omega (arith, (c .before .before .before .before .before .before .before .before .before .before .before .before .before .before .before .before .before .pre .2), (c .before .before .before .if1 .left), (c .before .before .before .before .before .before .collect .kept .1 .1 .1 .1 .1 .1 .0)))
+
+same-length-4 : tie.Need-same-length-4
+same-length-4 c = search needs
+
+same-length-5 : tie.Need-same-length-5
+same-length-5 c = search needs
+
+same-length-6 : tie.Need-same-length-6
+same-length-6 c = search needs
+
+returns-2 : tie.Need-returns-2
+returns-2 c = rounded-added _ _ (c .before .before .before .before .before .before .before .before .before .before .before .before .before .before .before .before .before .before .before .before .before .before .args .z) _ _ _ _ (c .before .before .before .before .before .before .before .before .before .before .before .before .before .before .before .before .before .before .before .before .before .before .pre .0) _ _ (c .before .before .before .before .before .before .before .before .before .before .before .collect .ensures .0) _ _ _ _ (c .before .before .before .before .before .before .before .before .if1 .left) (c .before .before .before .before .add-results .ensures)
+
+pub add-round-spec : {M : Type 1} → statement M
+add-round-spec =
+    tie.close
+    (tie.spec
+    sub-room
+    collect-requires
+    same-length
+    same-length-2
+    same-length-3
+    returns
+    add-results-requires
+    same-length-4
+    same-length-5
+    same-length-6
+    returns-2)

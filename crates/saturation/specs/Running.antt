@@ -1,0 +1,103 @@
+-- Rounds until one adds no move or passes a limit.
+-- Assumes nothing.
+pub mod Laws
+use Prim.Native.Nat.{ℕ, _-_, _/_, _≤_, _<_, min}
+use mathlib.Core.Bool.{Bool, true, false}
+use mathlib.Core.Path.{_≡_, refl}
+use mathlib.Core.Option.{Option, none, some}
+use mathlib.Core.List.{List, [], _∷_}
+use native.Mathlib.Omega.{arith}
+use lib.ListN.{length, getD}
+use Rattle.stacks.specs.System.{Rule}
+use Rattle.automata.specs.Automaton.{Automaton}
+use Rattle.automata.specs.Saturation.{Size, Saturated, saturate, saturateFrom}
+use Rattle.services.specs.Memory.{lent}
+use Rattle.tables.specs.declared.Table.{Table}
+use Rattle.tables.specs.Rows.{firstOf, Layout, rowsIn}
+use Rattle.tables.specs.Records.{entryRow, moveRow}
+use Rattle.tables.specs.Held.{automatonOf, EdgesStand, EntriesStand, MovesStand}
+use Rattle.tables.specs.Filled.{Filled}
+use Rattle.saturation.specs.Rounding.{Standing}
+
+-- ---- limits
+
+unfoldable pub mostMoves : ℕ → ℕ
+mostMoves words = min (words / 5) 1024
+
+unfoldable pub mostEntries : ℕ → ℕ → ℕ
+mostEntries words states = min (words / 2) (64 - states)
+
+-- ---- sizes in rows of two words
+
+abbrev pub theSize : ℕ → ℕ → Size
+theSize moves entries = record { moves = moves; entries = entries }
+
+unfoldable pub sizeWords : Size → List ℕ
+sizeWords x = x .moves ∷ x .entries ∷ []
+
+abbrev pub sizeFrom : (ℕ → ℕ) → Size
+sizeFrom f = record { moves = f 0; entries = f 1 }
+
+pub size-length : (x : Size) → length (sizeWords x) ≡ 2
+unfolding sizeWords
+size-length x = refl
+
+pub size-words : (f : ℕ → ℕ) → sizeWords (sizeFrom f) ≡ firstOf 2 f
+unfolding sizeWords firstOf
+size-words f = refl
+
+pub size-back : (x : Size) → sizeFrom (λ j. getD (sizeWords x) j 0) ≡ x
+unfolding sizeWords
+size-back x = refl
+
+pub size-same : (f g : ℕ → ℕ) → ((j : ℕ) → j < 2 → f j ≡ g j) → sizeFrom f ≡ sizeFrom g
+size-same f g h = λ i. record { moves = h 0 (omega arith) i; entries = h 1 (omega arith) i }
+
+abbrev pub sizeRow : Layout Size
+sizeRow =
+    record {
+      width = 2;
+      words = sizeWords;
+      read = sizeFrom;
+      some-words = omega arith;
+      length-words = size-length;
+      words-read = size-words;
+      read-words = size-back;
+      read-same = size-same;
+    }
+
+-- ---- the loop
+
+-- The tables of round 0, with at most 1,024 moves.
+pub record Given (z : Table) (inner entries moves : List ℕ) : Type 0 where
+  pub edges : EdgesStand z inner
+  pub entries-stand : EntriesStand z entries
+  pub moves-stand : MovesStand z moves
+  pub moves-few : z .moves ≤ 1024
+
+-- the saturated table with its sizes, or none
+unfoldable pub ended : Bool → Automaton → List Size → Option Saturated
+ended true A sizes = some (record { table = A; sizes = sizes })
+ended false A sizes = none
+
+module _ (rules : List Rule) (inner : List ℕ) (z : Table) (entries moves : List ℕ) where
+  -- The tables at the end: saturated, with their sizes, zeros behind the last rows staying there; or a limit is passed.
+  pub record Ends (fits : Bool) (z′ : Table) (k : ℕ) (entries′ moves′ sizes : List ℕ) : Type 0 where
+    pub saturated : saturate rules (lent (length moves) (length entries)) (automatonOf z inner entries moves)
+        ≡ ended fits (automatonOf z′ inner entries′ moves′) (rowsIn sizeRow k sizes)
+    pub standing : fits ≡ true → Standing z′ (mostMoves (length moves)) (mostEntries (length entries) (z .states)) inner entries′ moves′
+    pub entries-filled : fits ≡ true → Filled entryRow (z .entries) entries → Filled entryRow (z′ .entries) entries′
+    pub moves-filled : fits ≡ true → Filled moveRow (z .moves) moves → Filled moveRow (z′ .moves) moves′
+    pub few : k ≤ 1025
+
+  -- After k rounds: what is left to do from here gives the whole.
+  pub record Runs (z′ : Table) (k : ℕ) (entries′ moves′ sizes : List ℕ) : Type 0 where
+    pub standing : Standing z′ (mostMoves (length moves)) (mostEntries (length entries) (z .states)) inner entries′ moves′
+    pub left : saturate rules (lent (length moves) (length entries)) (automatonOf z inner entries moves)
+        ≡ saturateFrom rules (lent (length moves) (length entries)) (1025 - k) (rowsIn sizeRow k sizes) (automatonOf z′ inner entries′ moves′)
+    pub count : k ≤ z′ .moves
+    pub same-states : z′ .states ≡ z .states
+    pub entries-filled : Filled entryRow (z .entries) entries → Filled entryRow (z′ .entries) entries′
+    pub moves-filled : Filled moveRow (z .moves) moves → Filled moveRow (z′ .moves) moves′
+    pub entries-long : length entries′ ≡ length entries
+    pub moves-long : length moves′ ≡ length moves

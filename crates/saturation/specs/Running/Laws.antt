@@ -1,0 +1,237 @@
+-- What holds of rounds until one adds no move or passes a limit.
+-- Assumes nothing.
+use Prim.Native.Nat.{ℕ, zero, suc, _+_, _-_, _*_, _/_, _≤_, _<_, min}
+use mathlib.Core.Bool.{Bool, true, false, false≢true}
+use mathlib.Core.Path.{_≡_, refl, ap, ap₂, sym, _∙_, subst, subst₂}
+use mathlib.Core.Logic.{_⊎_, inl, inr}
+use mathlib.Core.Option.{none, some}
+use mathlib.Core.List.{List, [], _∷_, _++_}
+use native.Mathlib.Nat.{min-le-left, min-le-right, le-min}
+use native.Mathlib.Omega.{arith}
+use lib.ListN.{length}
+use Rattle.words.specs.Lists.Laws.{by-test}
+use Rattle.stacks.specs.System.{Rule}
+use Rattle.automata.specs.Automaton.{Automaton}
+use Rattle.automata.specs.Saturation.{Size, sizeOf, within, round, saturate, saturateFrom}
+use Rattle.rounds.specs.Rounds.{round-extends, still-same}
+use Rattle.rounds.specs.Limits.{KeepsLimits, within-keeps, keeps-within, saturateFrom-exceeds, saturateFrom-ends, saturateFrom-goes-on}
+use Rattle.services.specs.Memory.{lent}
+use Rattle.tables.specs.declared.Table.{Table}
+use Rattle.tables.specs.Rows.{firstOf, rowsIn, putRow}
+use Rattle.tables.specs.Rows.Laws.{length-rowsIn, put-more}
+use Rattle.tables.specs.Records.{entryRow, moveRow}
+use Rattle.tables.specs.Held.{automatonOf}
+use Rattle.results.specs.Collecting.{newResults}
+use Rattle.saturation.specs.Adding.{Grows}
+use Rattle.saturation.specs.Rounding.{Standing, Rounded, round-is}
+use Rattle.saturation.specs.Running.{mostMoves, mostEntries, theSize, sizeRow, Given, ended, Ends, Runs}
+
+-- ---- limits
+
+module _ (m e J : ℕ) (small : J ≤ 64) (A : Automaton) (same : A .J ≡ J) where
+  pub fits-within : length (A .moves) ≤ mostMoves m → length (A .entries) ≤ mostEntries e J → within (lent m e) A ≡ true
+  unfolding mostMoves mostEntries lent
+  fits-within a b =
+      let c : min (e / 2) (64 - J) ≤ e / 2 = min-le-left (e / 2) (64 - J) in
+      let d : min (e / 2) (64 - J) ≤ 64 - J = min-le-right (e / 2) (64 - J) in
+      keeps-within (lent m e) A (record { moves-fit = a; entries-fit = omega arith; states-fit = omega arith })
+
+  pub within-fits : within (lent m e) A ≡ true → (length (A .moves) ≤ mostMoves m) × (length (A .entries) ≤ mostEntries e J)
+  unfolding mostMoves mostEntries lent
+  within-fits h =
+      let k : KeepsLimits (lent m e) A = within-keeps (lent m e) A h in
+      let a : length (A .entries) ≤ e / 2 = k .entries-fit in
+      let b : A .J + length (A .entries) ≤ 64 = k .states-fit in
+      (k .moves-fit, le-min a (omega arith))
+
+  pub over-without : (mostMoves m < length (A .moves)) ⊎ (mostEntries e J < length (A .entries)) → within (lent m e) A ≡ false
+  over-without o = by-test (within (lent m e) A) (λ h. absurd (no o (within-fits h))) (λ h. h)
+    where
+      no : (mostMoves m < length (A .moves)) ⊎ (mostEntries e J < length (A .entries)) → (length (A .moves) ≤ mostMoves m) × (length (A .entries) ≤ mostEntries e J) → ⊥
+      no (inl l) f = let g : length (A .moves) ≤ mostMoves m = f .0 in omega arith
+      no (inr l) f = let g : length (A .entries) ≤ mostEntries e J = f .1 in omega arith
+
+-- ---- the loop
+
+module _ (rules : List Rule) (inner : List ℕ) (z : Table) (entries moves : List ℕ) where
+  pub runs-given : (sizes : List ℕ) → Given z inner entries moves → Runs rules inner z entries moves z 0 entries moves sizes
+  unfolding saturate rowsIn firstOf mostMoves mostEntries
+  runs-given sizes g =
+      let a : z .entries * 2 ≤ length entries = g .entries-stand .entries-lent in
+      let b : z .states + z .entries ≤ 64 = g .entries-stand .states-few in
+      let c : z .moves * 5 ≤ length moves = g .moves-stand .moves-lent in
+      let d : z .moves ≤ 1024 = g .moves-few in
+      let e : min (length entries / 2) (64 - z .states) ≤ length entries / 2 = min-le-left (length entries / 2) (64 - z .states) in
+      let f : min (length entries / 2) (64 - z .states) ≤ 64 - z .states = min-le-right (length entries / 2) (64 - z .states) in
+      let h : min (length moves / 5) 1024 ≤ length moves / 5 = min-le-left (length moves / 5) 1024 in
+      record {
+        standing = record {
+          edges = g .edges;
+          growing = record { entries-few = le-min (omega arith) (omega arith); entries-lent = omega arith; states-few = omega arith };
+          moves-few = le-min (omega arith) d;
+          moves-lent = omega arith;
+        };
+        left = refl;
+        count = omega arith;
+        same-states = refl;
+        entries-filled = λ x. x;
+        moves-filled = λ x. x;
+        entries-long = refl;
+        moves-long = refl;
+      }
+
+  module _ (z₁ : Table) (k : ℕ) (e₁ m₁ sizes : List ℕ) (h : Runs rules inner z entries moves z₁ k e₁ m₁ sizes) where
+    -- the table after k rounds
+    abbrev now : Automaton
+    now = automatonOf z₁ inner e₁ m₁
+
+    abbrev limit : Size
+    limit = lent (length moves) (length entries)
+
+    pub moves-small : z₁ .moves ≤ 1024
+    unfolding mostMoves
+    moves-small =
+        let a : z₁ .moves ≤ min (length moves / 5) 1024 = h .standing .moves-few in
+        let b : min (length moves / 5) 1024 ≤ 1024 = min-le-right (length moves / 5) 1024 in
+        omega arith
+
+    pub row-left : k ≤ 1024
+    row-left = let a : z₁ .moves ≤ 1024 = moves-small in let b : k ≤ z₁ .moves = h .count in omega arith
+
+    states-small : z .states ≤ 64
+    states-small =
+        let a : z₁ .states + mostEntries (length entries) (z .states) ≤ 64 = h .standing .growing .states-few in
+        let b : z₁ .states ≡ z .states = h .same-states in
+        omega arith
+
+    now-within : within limit now ≡ true
+    now-within =
+        fits-within (length moves) (length entries) (z .states) states-small now (h .same-states)
+        (subst (λ (n : ℕ). n ≤ mostMoves (length moves)) (sym (length-rowsIn moveRow (z₁ .moves) m₁)) (h .standing .moves-few))
+        (subst (λ (n : ℕ). n ≤ mostEntries (length entries) (z .states)) (sym (length-rowsIn entryRow (z₁ .entries) e₁)) (h .standing .growing .entries-few))
+
+    module _ (sizes′ : List ℕ) (room : 2050 ≤ length sizes) (put : sizes′ ≡ putRow sizeRow sizes k (theSize (z₁ .moves) (z₁ .entries))) where
+      sizes-more : rowsIn sizeRow (k + 1) sizes′ ≡ rowsIn sizeRow k sizes ++ (sizeOf now ∷ [])
+      unfolding sizeOf
+      sizes-more =
+          let a : k ≤ 1024 = row-left in
+          ap (rowsIn sizeRow (k + 1)) put
+          ∙ put-more sizeRow k sizes (theSize (z₁ .moves) (z₁ .entries)) (omega arith)
+          ∙ ap₂ (λ (m e : ℕ). rowsIn sizeRow k sizes ++ (theSize m e ∷ [])) (sym (length-rowsIn moveRow (z₁ .moves) m₁)) (sym (length-rowsIn entryRow (z₁ .entries) e₁))
+
+      fuel : 1025 - k ≡ suc (1025 - (k + 1))
+      fuel = let a : k ≤ 1024 = row-left in omega arith
+
+      from-here : saturate rules limit (automatonOf z inner entries moves) ≡ saturateFrom rules limit (suc (1025 - (k + 1))) (rowsIn sizeRow k sizes) now
+      from-here = h .left ∙ ap (λ (n : ℕ). saturateFrom rules limit n (rowsIn sizeRow k sizes) now) fuel
+
+      module _ (fits : Bool) (z₂ : Table) (e₂ m₂ : List ℕ)
+          (r : Rounded rules inner z₁ (mostMoves (length moves)) (mostEntries (length entries) (z .states)) e₁ m₁ fits z₂ e₂ m₂) where
+        abbrev next : Automaton
+        next = round rules now
+
+        same-J : next .J ≡ z .states
+        same-J = round-extends rules now .same-J ∙ h .same-states
+
+        -- ---- a limit is passed
+
+        none-left : (n : ℕ) (l : List Size) → within limit next ≡ false → saturateFrom rules limit n l next ≡ none
+        unfolding saturateFrom
+        none-left zero l o = refl
+        none-left (suc n) l o = saturateFrom-exceeds rules limit n l next o
+
+        over-differs : (mostMoves (length moves) < length (next .moves)) ⊎ (mostEntries (length entries) (z .states) < length (next .entries))
+            → length (next .moves) ≡ length (now .moves) → ⊥
+        over-differs (inl l) e =
+            let a : z₁ .moves ≤ mostMoves (length moves) = h .standing .moves-few in
+            let b : length (now .moves) ≡ z₁ .moves = length-rowsIn moveRow (z₁ .moves) m₁ in
+            omega arith
+        over-differs (inr l) e =
+            let a : z₁ .entries ≤ mostEntries (length entries) (z .states) = h .standing .growing .entries-few in
+            let b : length (now .entries) ≡ z₁ .entries = length-rowsIn entryRow (z₁ .entries) e₁ in
+            let c : length (next .entries) ≡ length (now .entries) = ap (λ (A : Automaton). length (A .entries)) (still-same rules now e) in
+            omega arith
+
+        pub runs-over : fits ≡ false → Ends rules inner z entries moves false z₂ (k + 1) e₂ m₂ sizes′
+        unfolding ended
+        runs-over e =
+            let o : (mostMoves (length moves) < length (next .moves)) ⊎ (mostEntries (length entries) (z .states) < length (next .entries)) = r .over e in
+            let w : within limit next ≡ false = over-without (length moves) (length entries) (z .states) states-small next same-J o in
+            let b : k ≤ 1024 = row-left in
+            record {
+              saturated = from-here
+                  ∙ saturateFrom-goes-on rules limit (1025 - (k + 1)) (rowsIn sizeRow k sizes) now now-within (over-differs o)
+                  ∙ none-left (1025 - (k + 1)) (rowsIn sizeRow k sizes ++ (sizeOf now ∷ [])) w;
+              standing = λ f. absurd (false≢true f);
+              entries-filled = λ f. absurd (false≢true f);
+              moves-filled = λ f. absurd (false≢true f);
+              few = omega arith;
+            }
+
+        -- ---- the round fits
+
+        module _ (y : fits ≡ true) where
+          grown : Grows z₁ e₁ m₁ (newResults rules now) z₂ e₂ m₂
+          grown = r .grows y
+
+          next-is : automatonOf z₂ inner e₂ m₂ ≡ next
+          next-is = grown .table-is inner ∙ sym (round-is rules inner now)
+
+          next-moves : length (next .moves) ≡ z₂ .moves
+          next-moves = sym (ap (λ (A : Automaton). length (A .moves)) next-is) ∙ length-rowsIn moveRow (z₂ .moves) m₂
+
+          now-moves : length (now .moves) ≡ z₁ .moves
+          now-moves = length-rowsIn moveRow (z₁ .moves) m₁
+
+          pub runs-end : z₂ .moves ≡ z₁ .moves → Ends rules inner z entries moves true z₂ (k + 1) e₂ m₂ sizes′
+          unfolding ended
+          runs-end e =
+              let still : length (next .moves) ≡ length (now .moves) = next-moves ∙ e ∙ sym now-moves in
+              let b : k ≤ 1024 = row-left in
+              record {
+                saturated = from-here
+                    ∙ saturateFrom-ends rules limit (1025 - (k + 1)) (rowsIn sizeRow k sizes) now now-within still
+                    ∙ ap₂ (λ (A : Automaton) (l : List Size). some (record { table = A; sizes = l })) (sym (next-is ∙ still-same rules now still)) (sym sizes-more);
+                standing = λ f. r .standing y;
+                entries-filled = λ f g. grown .entries-filled (h .entries-filled g);
+                moves-filled = λ f g. grown .moves-filled (h .moves-filled g);
+                few = omega arith;
+              }
+
+          pub runs-more : (z₂ .moves ≡ z₁ .moves → ⊥) → Runs rules inner z entries moves z₂ (k + 1) e₂ m₂ sizes′
+          runs-more n =
+              let more : z₂ .moves ≡ z₁ .moves + length (newResults rules now) = grown .moves-more in
+              let b : k ≤ z₁ .moves = h .count in
+              record {
+                standing = r .standing y;
+                left = from-here
+                    ∙ saturateFrom-goes-on rules limit (1025 - (k + 1)) (rowsIn sizeRow k sizes) now now-within (λ e. n (sym next-moves ∙ e ∙ now-moves))
+                    ∙ ap₂ (λ (l : List Size) (A : Automaton). saturateFrom rules limit (1025 - (k + 1)) l A) (sym sizes-more) (sym next-is);
+                count = omega arith;
+                same-states = grown .same-states ∙ h .same-states;
+                entries-filled = λ g. grown .entries-filled (h .entries-filled g);
+                moves-filled = λ g. grown .moves-filled (h .moves-filled g);
+                entries-long = grown .entries-long ∙ h .entries-long;
+                moves-long = grown .moves-long ∙ h .moves-long;
+              }
+
+          pub moves-rise : (z₂ .moves ≡ z₁ .moves → ⊥) → z₁ .moves < z₂ .moves
+          moves-rise n =
+              let more : z₂ .moves ≡ z₁ .moves + length (newResults rules now) = grown .moves-more in
+              omega arith
+
+-- ---- limits that the code works out
+
+pub standing-limits : (z : Table) (m e m′ e′ : ℕ) (inner entries moves : List ℕ) → m′ ≡ m → e′ ≡ e → Standing z m e inner entries moves → Standing z m′ e′ inner entries moves
+standing-limits z m e m′ e′ inner entries moves p q s = rw (p, q) s
+
+pub rounded-limits : (rules : List Rule) (inner : List ℕ) (z : Table) (m e m′ e′ : ℕ) (entries moves : List ℕ) (fits : Bool) (z′ : Table) (entries′ moves′ : List ℕ)
+    → m′ ≡ m → e′ ≡ e → Rounded rules inner z m′ e′ entries moves fits z′ entries′ moves′ → Rounded rules inner z m e entries moves fits z′ entries′ moves′
+rounded-limits rules inner z m e m′ e′ entries moves fits z′ entries′ moves′ p q r =
+    subst₂ (λ (x y : ℕ). Rounded rules inner z x y entries moves fits z′ entries′ moves′) p q r
+
+pub pending-room : (m : ℕ) (most : ℕ) (pending : List ℕ) → most ≡ mostMoves m → 6144 ≤ length pending → most * 6 ≤ length pending
+unfolding mostMoves
+pending-room m most pending e h =
+    let a : min (m / 5) 1024 ≤ 1024 = min-le-right (m / 5) 1024 in
+    omega arith

@@ -1,0 +1,227 @@
+// Rounds of saturation on lent tables: the results of a round are collected first, and then added; the numbers of moves and entries after each
+// round are reported.
+ghost use mathlib.Core.Path.{_≡_};
+ghost use mathlib.Core.List.{[], _∷_};
+ghost use Prim.Native.Nat.{_<_, _≤_, _+_, _*_, min, max};
+ghost use lib.ListN.{length};
+ghost use Rattle.tables.specs.Rows.{rowsIn, putRow};
+ghost use Rattle.tables.specs.Records.{asEntry, asResult, resultRow};
+ghost use Rattle.results.specs.Collecting.{RulesStand, rulesIn};
+ghost use Rattle.saturation.specs.Adding.{Entered, Growing, Added};
+ghost use Rattle.saturation.specs.Rounding.{Standing, Rounded};
+ghost use Rattle.saturation.specs.Running.{mostMoves, mostEntries, theSize, sizeRow, Given, Ends};
+
+// A table with results added, or, where `fits` is false, the table before there was no room for an entry.
+pub struct Grown {
+    pub fits: bool,
+    pub table: tables::Table,
+}
+
+// The greater of two numbers.
+fn larger(k: usize, l: usize) -> usize
+    ensures { λ r. ⌜ r ≡ max k l ⌝ }
+{
+    if k < l {
+        return l;
+    }
+    k
+}
+
+// The number of entry e among the first n. Where it is not there, it is appended, unless there are as many as `most`.
+fn enter(entries: &mut [u64], n: usize, most: usize, e: tables::Entry) -> usize
+    requires { ⌜ (n ≤ most) × (most * 2 ≤ length (now entries)) ⌝ }
+    ensures { λ i. ⌜ Entered (now (entries .entry)) n most (asEntry e) i (now (entries .exit)) ⌝ }
+{
+    let i = tables::entry_number(entries, n, e);
+    if i < n {
+        return i;
+    }
+    if most <= i {
+        return i;
+    }
+    tables::put_entry(entries, i, e);
+    i
+}
+
+// Adds one result as the last move, and its entry where it is new. There may be `most` entries.
+fn add_result(
+    z: tables::Table,
+    entries: &mut [u64],
+    moves: &mut [u64],
+    most: usize,
+    x: tables::Outcome,
+) -> Grown
+    requires { ⌜ Growing z most (now entries) × (z .moves * 5 + 5 ≤ length (now moves)) ⌝ }
+    ensures { λ g. ⌜ Added z most (now (entries .entry)) (now (moves .entry)) (asResult x ∷ []) (g .fits) (g .table) (now (entries .exit)) (now (moves .exit)) ⌝ }
+{
+    let e = tables::Entry {
+        control: x.control,
+        s: x.s,
+    };
+    let i = enter(entries, z.entries, most, e);
+    if most <= i {
+        return Grown {
+            fits: false,
+            table: z,
+        };
+    }
+    let m = tables::Move {
+        state: z.states + i as u64,
+        symbol: x.symbol,
+        order: x.order,
+        b: x.b,
+        r: x.r,
+    };
+    tables::put_move(moves, z.moves, m);
+    let table = tables::Table {
+        states: z.states,
+        final1: z.final1,
+        final2: z.final2,
+        edges: z.edges,
+        entries: larger(z.entries, i + 1),
+        moves: z.moves + 1,
+    };
+    Grown {
+        fits: true,
+        table: table,
+    }
+}
+
+// Adds the results in the first n rows of `pending`, one after another. There may be `most` entries.
+pub fn add_results(
+    z: tables::Table,
+    entries: &mut [u64],
+    moves: &mut [u64],
+    most: usize,
+    pending: &[u64],
+    n: usize,
+) -> Grown
+    requires { ⌜ Growing z most (now entries) × ((z .moves + n) * 5 ≤ length (now moves)) × (n * 6 ≤ length (now pending)) ⌝ }
+    ensures { λ g. ⌜ Added z most (now (entries .entry)) (now (moves .entry)) (rowsIn resultRow n (now (pending .entry))) (g .fits) (g .table) (now (entries .exit)) (now (moves .exit)) ⌝ }
+{
+    let mut table = z;
+    let mut i: usize = 0;
+    while i < n {
+        let g = add_result(table, entries, moves, most, tables::result_at(pending, i));
+        if !g.fits {
+            return g;
+        }
+        table = g.table;
+        i += 1;
+    }
+    Grown {
+        fits: true,
+        table: table,
+    }
+}
+
+// The most moves and entries that there may be.
+pub struct Limits {
+    pub moves: usize,
+    pub entries: usize,
+}
+
+// One round: the results of the first `count` rules of a body that are not yet held are added. `fits` is false where that passes a limit.
+pub fn add_round(
+    z: tables::Table,
+    inner: &[u64],
+    entries: &mut [u64],
+    moves: &mut [u64],
+    body: &[u8],
+    count: usize,
+    pending: &mut [u64],
+    most: Limits,
+) -> Grown
+    requires { ⌜ Standing z (most .moves) (most .entries) (now inner) (now entries) (now moves) × RulesStand count (now body) × (most .moves * 6 ≤ length (now pending)) ⌝ }
+    ensures { λ g. ⌜ Rounded (rulesIn count (now (body .entry))) (now (inner .entry)) z (most .moves) (most .entries) (now (entries .entry)) (now (moves .entry)) (g .fits) (g .table) (now (entries .exit)) (now (moves .exit)) ⌝ }
+{
+    let room = most.moves - z.moves;
+    let n = results::collect(z, inner, entries, moves, body, count, pending, room);
+    if room < n {
+        return Grown {
+            fits: false,
+            table: z,
+        };
+    }
+    add_results(z, entries, moves, most.entries, pending, n)
+}
+
+// The smaller of two numbers.
+fn smaller(k: usize, l: usize) -> usize
+    ensures { λ r. ⌜ r ≡ min k l ⌝ }
+{
+    if l < k {
+        return l;
+    }
+    k
+}
+
+// The limits of tables of so many words, where there are so many inner order-1 states: only whole records count, there are at most 1,024 moves
+// and at most 64 order-1 states.
+fn limits_of(moves: usize, entries: usize, states: u64) -> Limits
+    requires { ⌜ states ≤ 64 ⌝ }
+    ensures { λ r. ⌜ (r .moves ≡ mostMoves moves) × (r .entries ≡ mostEntries entries states) ⌝ }
+{
+    Limits {
+        moves: smaller(moves / 5, 1024),
+        entries: smaller(entries / 2, (64 - states) as usize),
+    }
+}
+
+// Writes the numbers of moves and entries after a round into row i.
+fn put_sizes(t: &mut [u64], i: usize, moves: usize, entries: usize)
+    requires { ⌜ i * 2 + 2 ≤ length (now t) ⌝ }
+    ensures { λ _. ⌜ now (t .exit) ≡ putRow sizeRow (now (t .entry)) i (theSize moves entries) ⌝ }
+{
+    let at = i * 2;
+    t[at] = moves as u64;
+    t[at + 1] = entries as u64;
+}
+
+// A saturated table, with the number of sizes reported; or, where `fits` is false, a limit is passed.
+pub struct Saturated {
+    pub fits: bool,
+    pub table: tables::Table,
+    pub sizes: usize,
+}
+
+// Saturates the tables by the first `count` rules of a body: rounds until one adds no move. The numbers of moves and entries after round 0, 1
+// and so on are left in the first rows of `sizes`.
+pub fn saturate_tables(
+    z: tables::Table,
+    inner: &[u64],
+    entries: &mut [u64],
+    moves: &mut [u64],
+    body: &[u8],
+    count: usize,
+    pending: &mut [u64],
+    sizes: &mut [u64],
+) -> Saturated
+    requires { ⌜ Given z (now inner) (now entries) (now moves) × RulesStand count (now body) × (6144 ≤ length (now pending)) × (2050 ≤ length (now sizes)) ⌝ }
+    ensures { λ r. ⌜ Ends (rulesIn count (now (body .entry))) (now (inner .entry)) z (now (entries .entry)) (now (moves .entry)) (r .fits) (r .table) (r .sizes) (now (entries .exit)) (now (moves .exit)) (now (sizes .exit)) ⌝ }
+{
+    let most = limits_of(moves.len(), entries.len(), z.states);
+    let mut table = z;
+    let mut k: usize = 0;
+    loop {
+        put_sizes(sizes, k, table.moves, table.entries);
+        k += 1;
+        let g = add_round(table, inner, entries, moves, body, count, pending, most);
+        let next = g.table;
+        if !g.fits {
+            return Saturated {
+                fits: false,
+                table: next,
+                sizes: k,
+            };
+        }
+        if next.moves == table.moves {
+            return Saturated {
+                fits: true,
+                table: next,
+                sizes: k,
+            };
+        }
+        table = next;
+    }
+}
