@@ -1,0 +1,67 @@
+-- `saturate::saturate_case` meets its contract.
+-- Assumes nothing.
+use mathlib.Core.Path.{refl, sym, _∙_}
+use native.Mathlib.Omega.{arith}
+use borrow.Author.Tests.{not-true, not-false}
+use Rattle.saturate.specs.Case.Laws.{is-placed, long-enough, own-room, given, rules-stand, case-ends, case-over, filled-own, entries-number, moves-number}
+use Rattle.tables.specs.Records.{entryRow, moveRow}
+use borrow.Author.Needs.{needs}
+use Rattle.saturate.proofs.saturate_case.Statement.{statement}
+use Rattle.saturate.proofs.saturate_case.Tie as tie
+
+own-fits-requires : tie.Need-own-fits-requires
+own-fits-requires c κs = (c .before .before .before .before .before .before .pre .0)
+
+nothing-requires : tie.Need-nothing-requires
+nothing-requires c κs = search needs
+
+returns : tie.Need-returns
+returns c = case-over _ (c .before .before .before .before .before .before .before .before .before .pre .0) _ _ (sym (c .before .before .own-fits .ensures) ∙ not-true (c .before .before .own-fits .result) (c .before .if1 .taken)) _ _ _ _ _ _ _ (c .nothing .ensures .0) (omega (arith, (c .nothing .ensures .1)))
+
+load-case-requires : tie.Need-load-case-requires
+load-case-requires c κs = (is-placed _ (c .before .before .before .before .before .before .before .before .before .before .before .pre .0), own-room _ (c .before .before .before .before .before .before .before .before .before .before .before .pre .0) _ _ _ _ _ (c .before .before .before .before .before .before .before .before .before .before .before .pre .1 .inner-room) refl refl (sym (c .before .before .before .before .own-fits .ensures) ∙ not-false (c .before .before .before .before .own-fits .result) (c .before .before .before .if1 .left)))
+
+rule-body-requires : tie.Need-rule-body-requires
+rule-body-requires c κs = is-placed _ (c .before .before .before .before .before .before .before .before .before .before .before .before .before .before .before .before .before .before .pre .0)
+
+count-of-requires : tie.Need-count-of-requires
+count-of-requires c κs = omega (arith, long-enough _ (c .before .before .before .before .before .before .before .before .before .before .before .before .before .before .before .before .before .before .before .pre .0))
+
+saturate-tables-requires : tie.Need-saturate-tables-requires
+saturate-tables-requires c κs = (given _ (c .before .before .before .before .before .before .before .before .before .before .before .before .before .before .before .before .before .before .before .before .before .before .before .before .before .pre .0) _ _ (c .before .before .before .before .before .before .before .before .before .before .before .before .before .load-case .result) _ _ _ (c .before .before .before .before .before .before .before .before .before .before .before .before .before .load-case .ensures .0) (omega (arith, (c .before .before .before .before .before .before .before .before .before .before .before .before .before .before .before .before .before .before .before .before .before .before .before .before .before .pre .1 .inner-room), (c .before .before .before .before .before .before .before .before .before .before .before .before .before .load-case .kept .1 .0))) (c .before .before .before .before .before .before .before .before .before .before .before .before .before .load-case .kept .1 .1 .0) (c .before .before .before .before .before .before .before .before .before .before .before .before .before .load-case .kept .1 .1 .1 .0) (sym (c .before .before .before .before .before .before .before .before .before .before .before .before .before .before .before .before .before .before .own-fits .ensures) ∙ not-false (c .before .before .before .before .before .before .before .before .before .before .before .before .before .before .before .before .before .before .own-fits .result) (c .before .before .before .before .before .before .before .before .before .before .before .before .before .before .before .before .before .if1 .left)), rules-stand _ (c .before .before .before .before .before .before .before .before .before .before .before .before .before .before .before .before .before .before .before .before .before .before .before .before .before .pre .0) _ _ (c .before .before .before .before .before .before .rule-body .ensures) (c .before .before .before .before .before .count-of .ensures .0), (c .before .before .before .before .before .before .before .before .before .before .before .before .before .before .before .before .before .before .before .before .before .before .before .before .before .pre .1 .pending-room), (c .before .before .before .before .before .before .before .before .before .before .before .before .before .before .before .before .before .before .before .before .before .before .before .before .before .pre .1 .sizes-room))
+
+same-length : tie.Need-same-length
+same-length c = search needs
+
+same-length-2 : tie.Need-same-length-2
+same-length-2 c = search needs
+
+same-length-3 : tie.Need-same-length-3
+same-length-3 c = search needs
+
+same-length-4 : tie.Need-same-length-4
+same-length-4 c = search needs
+
+same-length-5 : tie.Need-same-length-5
+same-length-5 c = search needs
+
+returns-2 : tie.Need-returns-2
+returns-2 c = case-ends _ (c .before .before .before .before .before .before .before .before .before .before .before .before .before .before .before .before .before .before .before .before .before .before .before .before .before .before .before .before .before .before .before .before .before .before .pre .0) _ _ (c .before .before .before .before .before .before .before .before .before .before .before .before .before .before .before .before .before .before .before .before .before .before .load-case .result) _ _ _ (c .before .before .before .before .before .before .before .before .before .before .before .before .before .before .before .before .before .before .before .before .before .before .load-case .ensures .0) _ _ (c .before .before .before .before .before .before .before .before .before .before .before .before .before .before .before .rule-body .ensures) (c .before .before .before .before .before .before .before .before .before .before .before .before .before .before .count-of .ensures .0) (c .before .before .before .before .before .before .before .before .before .before .before .before .before .before .before .before .before .before .before .before .before .before .load-case .kept .1 .1 .0) (c .before .before .before .before .before .before .before .before .before .before .before .before .before .before .before .before .before .before .before .before .before .before .load-case .kept .1 .1 .1 .0) (filled-own entryRow _ _ _ _ (c .before .before .before .before .before .before .before .before .before .before .before .before .before .before .before .before .before .before .before .before .before .before .before .before .before .before .before .before .before .before .before .before .before .before .pre .1 .entries-zero) (c .before .before .before .before .before .before .before .before .before .before .before .before .before .before .before .before .before .before .before .before .before .before .load-case .ensures .1 .1 .0) (entries-number _ (c .before .before .before .before .before .before .before .before .before .before .before .before .before .before .before .before .before .before .before .before .before .before .before .before .before .before .before .before .before .before .before .before .before .before .pre .0) 0 0 (c .before .before .before .before .before .before .before .before .before .before .before .before .before .before .before .before .before .before .before .before .before .before .load-case .result) _ _ _ (c .before .before .before .before .before .before .before .before .before .before .before .before .before .before .before .before .before .before .before .before .before .before .load-case .ensures .0))) (filled-own moveRow _ _ _ _ (c .before .before .before .before .before .before .before .before .before .before .before .before .before .before .before .before .before .before .before .before .before .before .before .before .before .before .before .before .before .before .before .before .before .before .pre .1 .moves-zero) (c .before .before .before .before .before .before .before .before .before .before .before .before .before .before .before .before .before .before .before .before .before .before .load-case .ensures .1 .1 .1) (moves-number _ (c .before .before .before .before .before .before .before .before .before .before .before .before .before .before .before .before .before .before .before .before .before .before .before .before .before .before .before .before .before .before .before .before .before .before .pre .0) 0 0 (c .before .before .before .before .before .before .before .before .before .before .before .before .before .before .before .before .before .before .before .before .before .before .load-case .result) _ _ _ (c .before .before .before .before .before .before .before .before .before .before .before .before .before .before .before .before .before .before .before .before .before .before .load-case .ensures .0))) _ _ _ _ _ _ (c .before .before .before .before .before .before .before .before .saturate-tables .ensures)
+
+pub saturate-case-spec : {M : Type 1} → statement M
+saturate-case-spec =
+    tie.close
+    (tie.spec
+    own-fits-requires
+    nothing-requires
+    returns
+    load-case-requires
+    rule-body-requires
+    count-of-requires
+    saturate-tables-requires
+    same-length
+    same-length-2
+    same-length-3
+    same-length-4
+    same-length-5
+    returns-2)

@@ -1,0 +1,34 @@
+-- The saturated table of a sound case.
+-- Assumes nothing.
+pub mod Laws
+use Prim.Native.Nat.{ℕ, _≤_}
+use mathlib.Core.Bool.{Bool, true}
+use mathlib.Core.Path.{_≡_}
+use mathlib.Core.List.{List}
+use lib.ListN.{length}
+use Rattle.automata.specs.Saturation.{saturate}
+use Rattle.files.specs.Case.{ownOf, rulesOf}
+use Rattle.services.specs.Memory.{zeros, lent}
+use Rattle.tables.specs.declared.Table.{Table}
+use Rattle.tables.specs.Rows.{rowsIn}
+use Rattle.tables.specs.Records.{entryRow, moveRow}
+use Rattle.tables.specs.Held.{automatonOf}
+use Rattle.tables.specs.Filled.{Filled}
+use Rattle.saturation.specs.Running.{mostMoves, mostEntries, sizeRow, ended}
+use Rattle.saturation.specs.Rounding.{Standing}
+
+-- What is asked of the memory: the tables are all zero, and there is room for 64 inner edges, 1,024 results and 1,025 sizes.
+pub record Working (inner entries moves pending sizes : List ℕ) : Type 0 where
+  pub entries-zero : entries ≡ zeros (length entries)
+  pub moves-zero : moves ≡ zeros (length moves)
+  pub inner-room : 192 ≤ length inner
+  pub pending-room : 6144 ≤ length pending
+  pub sizes-room : 2050 ≤ length sizes
+
+-- The tables hold the saturated table, with zeros behind it, and its sizes stand in their rows; or there is none.
+pub record CaseSaturated (file : List ℕ) (m e : ℕ) (fits : Bool) (z : Table) (k : ℕ) (inner entries moves sizes : List ℕ) : Type 0 where
+  pub saturated : saturate (rulesOf file) (lent m e) (ownOf file) ≡ ended fits (automatonOf z inner entries moves) (rowsIn sizeRow k sizes)
+  pub standing : fits ≡ true → Standing z (mostMoves m) (mostEntries e (ownOf file .J)) inner entries moves
+  pub entries-filled : fits ≡ true → Filled entryRow (z .entries) entries
+  pub moves-filled : fits ≡ true → Filled moveRow (z .moves) moves
+  pub sizes-few : k ≤ 1025

@@ -1,0 +1,272 @@
+-- What a sound case gives for the rounds on its tables.
+-- Assumes nothing.
+use Prim.Native.Nat.{ℕ, suc, _+_, _*_, _/_, _≤_, _<_, min}
+use mathlib.Core.Bool.{Bool, true, false, not, false≢true}
+use mathlib.Core.Path.{_≡_, refl, ap, ap₂, sym, _∙_, subst, subst₂}
+use mathlib.Core.List.{List, [], _∷_, map, List·Memᴰ·head}
+use native.Mathlib.Nat.{min-le-left, le-min, zero-add, add-zero}
+use native.Mathlib.Numerals.{add-one}
+use native.Mathlib.Omega.{arith}
+use lib.ListN.{length, getD, length-map, List·getD-map}
+use lib.Dec.{leb, ltb}
+use borrow.Author.Tests.{not-false, leb-true, leb-false}
+use Rattle.words.specs.Lists.{only, every}
+use Rattle.words.specs.Lists.Laws.{by-test, getD-in, only-yes, only-no}
+use Rattle.words.specs.Order.{insert, sorted}
+use Rattle.words.specs.Order.Laws.{by-place, insert-before, insert-after, insert-held}
+use Rattle.stacks.specs.System.{Rule}
+use Rattle.automata.specs.Automaton.{Automaton, Edge, noEdge, choiceKey}
+use Rattle.automata.specs.Saturation.{within, saturate}
+use Rattle.rounds.specs.Limits.{KeepsLimits, within-keeps, keeps-within, saturateFrom-exceeds}
+use Rattle.files.specs.Bytes.{placed, countOf, offsetOf, recordsOf}
+use Rattle.files.specs.Bytes.Laws.{numbered, unrefused, records-at, length-recordsOf}
+use Rattle.files.specs.Case.{caseBodies, caseTests, caseRefusal, Head, head, entriesOf, ownOf, rulesOf, ruleOf, ruleBytes, ruleRecords, EdgeBytes, innerEdges, edgeRecords, moveOf, moveRecords}
+use Rattle.files.specs.Case.Laws.{CasePlaces, case-placed, case-head, case-rules, case-inner, case-moves-few, case-states-few, case-edges-few}
+use Rattle.bytes_in.specs.Records.{recordAt, bodyOf, body-fits, records-here}
+use Rattle.services.specs.Memory.{zeros, lent}
+use Rattle.tables.specs.declared.Table.{Table}
+use Rattle.tables.specs.Rows.{Layout, rowAt, rowsIn, putRow}
+use Rattle.tables.specs.Rows.Laws.{firstOf-list, length-rowsIn, getD-rowsIn}
+use Rattle.tables.specs.Records.{edgeRow, entryRow, moveRow}
+use Rattle.tables.specs.Held.{automatonOf}
+use Rattle.tables.specs.Filled.{Filled, filled-zeros, filled-put}
+use Rattle.case_tables.specs.Written.{written}
+use Rattle.case_tables.specs.Own.{Room}
+use Rattle.results.specs.Collecting.{ruleIn, rulesIn, RulesStand}
+use Rattle.saturation.specs.Rounding.{Standing}
+use Rattle.saturation.specs.Running.{mostMoves, mostEntries, sizeRow, Given, ended, Ends}
+use Rattle.saturate.specs.Case.{CaseSaturated}
+
+-- ---- lengths of sorted lists
+
+module _ {A : Type 0} (key : A → List ℕ) where
+  length-insert : (x : A) (l : List A) → length (insert key x l) ≤ suc (length l)
+  unfolding insert
+  length-insert x [] = omega arith
+  length-insert x (y ∷ l) = by-place key x y
+      (λ h. rw (insert-before key x y l h) (omega arith))
+      (λ h. rw (insert-held key x y l h) (omega arith))
+      (λ h. let k : length (insert key x l) ≤ suc (length l) = length-insert x l in rw (insert-after key x y l h) (omega arith))
+
+  length-sorted : (l : List A) → length (sorted key l) ≤ length l
+  unfolding sorted
+  length-sorted [] = omega arith
+  length-sorted (x ∷ l) =
+      let a : length (sorted key l) ≤ length l = length-sorted l in
+      let b : length (insert key x (sorted key l)) ≤ suc (length (sorted key l)) = length-insert x (sorted key l) in
+      omega arith
+
+length-only : {A : Type 0} (test : A → Bool) (l : List A) → length (only test l) ≤ length l
+unfolding only
+length-only test [] = omega arith
+length-only test (x ∷ l) = by-test (test x)
+    (λ e. let a : length (only test l) ≤ length l = length-only test l in rw (only-yes test x l e) (omega arith))
+    (λ e. let a : length (only test l) ≤ length l = length-only test l in rw (only-no test x l e) (omega arith))
+
+-- ---- tables that were written
+
+filled-written : {A : Type 0} (L : Layout A) (t : List ℕ) (k : ℕ) (l : List A) → Filled L k t → Filled L (k + length l) (written L t k l)
+unfolding written
+filled-written L t k [] f = subst (λ (n : ℕ). Filled L n t) (sym (add-zero k)) f
+filled-written L t k (a ∷ l) f =
+    let e : suc k + length l ≡ k + suc (length l) = omega arith in
+    subst (λ (n : ℕ). Filled L n (written L (putRow L t k a) (suc k) l)) e
+    (filled-written L (putRow L t k a) (suc k) l (subst (λ (n : ℕ). Filled L n (putRow L t k a)) (add-one k) (filled-put L k t a f)))
+
+-- records written into zeros
+pub filled-own : {A : Type 0} (L : Layout A) (t₀ t : List ℕ) (l : List A) (n : ℕ) → t₀ ≡ zeros (length t₀) → t ≡ written L t₀ 0 l → n ≡ length l → Filled L n t
+filled-own L t₀ t l n z e q =
+    subst (λ (x : List ℕ). Filled L n x) (sym e)
+    (subst (λ (k : ℕ). Filled L k (written L t₀ 0 l)) (zero-add (length l) ∙ sym q)
+    (filled-written L t₀ 0 l (subst (Filled L 0) (sym z) (filled-zeros L (length t₀)))))
+
+module _ (file : List ℕ) (sound : caseRefusal file ≡ 0) where
+  pub is-placed : placed caseBodies file ≡ true
+  unfolding caseRefusal caseTests numbered every
+  is-placed = not-false (placed caseBodies file) (unrefused file refl sound (List·Memᴰ·head refl))
+
+  pub long-enough : 33 ≤ length file
+  long-enough = let p : CasePlaces file = case-placed file sound in let w = p .whole in omega arith
+
+  -- ---- rules
+
+  module _ (body : List ℕ) (count : ℕ) (eb : body ≡ bodyOf file 1 5) (ec : count ≡ countOf file 1) where
+    noRule : Rule
+    noRule = ruleOf (ruleBytes [])
+
+    rule-at : (i : ℕ) → i < count → ruleIn body i ≡ getD (rulesOf file) i noRule
+    unfolding ruleIn rulesOf ruleRecords recordAt noRule
+    rule-at i h =
+        ap (λ (x : List ℕ). ruleOf (ruleBytes x)) (sym (records-at count 5 body i h) ∙ ap (λ (l : List (List ℕ)). getD l i []) (records-here file 1 5 body count eb ec))
+        ∙ sym (List·getD-map ruleOf (map ruleBytes (recordsOf file 1 5)) i (ruleBytes [])
+        ∙ ap ruleOf (List·getD-map ruleBytes (recordsOf file 1 5) i []))
+
+    rules-number : length (rulesOf file) ≡ count
+    unfolding rulesOf ruleRecords
+    rules-number = length-map (map ruleBytes (recordsOf file 1 5)) ruleOf ∙ length-map (recordsOf file 1 5) ruleBytes ∙ length-recordsOf file 1 5 ∙ sym ec
+
+    pub rules-are : rulesIn count body ≡ rulesOf file
+    unfolding rulesIn
+    rules-are = firstOf-list (rulesOf file) count (ruleIn body) noRule rules-number rule-at
+
+    pub rules-stand : RulesStand count body
+    rules-stand =
+        let p : CasePlaces file = case-placed file sound in
+        let o : offsetOf file 1 ≡ 47 = p .rules-offset in
+        let w : length file ≡ 47 + countOf file 1 * 5 + countOf file 2 * 4 + countOf file 3 * 19 = p .whole in
+        record {
+          rules-lent = body-fits file 1 5 body count (omega arith) eb ec;
+          nexts-small = λ i h.
+              let n : length (rulesOf file) ≡ count = rules-number in
+              let f : getD (rulesOf file) i noRule .next < head file .P = case-rules file sound (getD-in (rulesOf file) i noRule (omega arith)) .next-exists in
+              let b : head file .P ≤ 8 = case-head file sound .controls-few in
+              let q : ruleIn body i .next ≡ getD (rulesOf file) i noRule .next = ap (λ (ρ : Rule). ρ .next) (rule-at i h) in
+              omega arith;
+        }
+
+  -- ---- the case's own table
+
+  module _ (m e : ℕ) where
+    -- too many moves, or too many entries
+    own-moves : length (ownOf file .moves) ≡ countOf file 3
+    unfolding ownOf moveRecords
+    own-moves = length-map (recordsOf file 3 19) moveOf ∙ length-recordsOf file 3 19
+
+    pub moves-over : m / 5 < countOf file 3 → false ≡ within (lent m e) (ownOf file)
+    unfolding lent
+    moves-over h = by-test (within (lent m e) (ownOf file)) (λ w. absurd (no w)) (λ w. sym w)
+      where
+        no : within (lent m e) (ownOf file) ≡ true → ⊥
+        no w =
+            let a : length (ownOf file .moves) ≤ min (m / 5) 1024 = within-keeps (lent m e) (ownOf file) w .moves-fit in
+            let b : min (m / 5) 1024 ≤ m / 5 = min-le-left (m / 5) 1024 in
+            let c : length (ownOf file .moves) ≡ countOf file 3 = own-moves in
+            omega arith
+
+    pub entries-tell : (n : ℕ) → countOf file 3 ≤ m / 5 → n ≡ length (ownOf file .entries) → leb n (e / 2) ≡ within (lent m e) (ownOf file)
+    unfolding lent
+    entries-tell n h q = by-test (leb n (e / 2)) (λ t. t ∙ sym (keeps-within (lent m e) (ownOf file) (keeps (leb-true n (e / 2) t))))
+        (λ t. by-test (within (lent m e) (ownOf file)) (λ w. absurd (no (leb-false n (e / 2) t) w)) (λ w. t ∙ sym w))
+      where
+        keeps : n ≤ e / 2 → KeepsLimits (lent m e) (ownOf file)
+        keeps b =
+            let c : length (ownOf file .moves) ≡ countOf file 3 = own-moves in
+            record {
+              moves-fit = le-min (omega arith) (case-moves-few file sound);
+              entries-fit = omega arith;
+              states-fit = case-states-few file sound;
+            }
+
+        no : e / 2 < n → within (lent m e) (ownOf file) ≡ true → ⊥
+        no b w = let a : length (ownOf file .entries) ≤ e / 2 = within-keeps (lent m e) (ownOf file) w .entries-fit in omega arith
+
+    pub total-is : (h : Head) (n : ℕ) → h ≡ head file → n ≡ length (entriesOf h (edgeRecords file)) → n ≡ length (ownOf file .entries)
+    unfolding ownOf
+    total-is h n q r = r ∙ ap (λ (x : Head). length (entriesOf x (edgeRecords file))) q
+
+    -- there is room for the own tables
+    pub own-room : (inner entries moves : List ℕ) → 192 ≤ length inner → length entries ≡ e → length moves ≡ m → within (lent m e) (ownOf file) ≡ true → Room file inner entries moves
+    unfolding lent
+    own-room inner entries moves ri le lm w =
+        let k : KeepsLimits (lent m e) (ownOf file) = within-keeps (lent m e) (ownOf file) w in
+        let a : length (ownOf file .moves) ≤ min (m / 5) 1024 = k .moves-fit in
+        let b : length (ownOf file .entries) ≤ e / 2 = k .entries-fit in
+        let c : min (m / 5) 1024 ≤ m / 5 = min-le-left (m / 5) 1024 in
+        let d : length (ownOf file .moves) ≡ countOf file 3 = own-moves in
+        let f : countOf file 2 ≤ 64 = case-placed file sound .edges-count in
+        record { inner-room = omega arith; entry-room = omega arith; move-room = omega arith }
+
+    module _ (z : Table) (inner entries moves : List ℕ) (own : automatonOf z inner entries moves ≡ ownOf file) where
+      edges-number : z .edges ≡ length (ownOf file .inner)
+      edges-number = sym (length-rowsIn edgeRow (z .edges) inner) ∙ ap (λ (A : Automaton). length (A .inner)) own
+
+      pub entries-number : z .entries ≡ length (ownOf file .entries)
+      entries-number = sym (length-rowsIn entryRow (z .entries) entries) ∙ ap (λ (A : Automaton). length (A .entries)) own
+
+      pub moves-number : z .moves ≡ length (ownOf file .moves)
+      moves-number = sym (length-rowsIn moveRow (z .moves) moves) ∙ ap (λ (A : Automaton). length (A .moves)) own
+
+      states-number : z .states ≡ ownOf file .J
+      states-number = ap (λ (A : Automaton). A .J) own
+
+      inner-few : length (ownOf file .inner) ≤ 64
+      unfolding ownOf innerEdges
+      inner-few =
+          let xs : List EdgeBytes = edgeRecords file in
+          let inside : EdgeBytes → Bool = λ x. not (ltb (x .state) (head file .P)) in
+          let edge : EdgeBytes → Edge = λ x. record { state = x .state; first = x .second; S = x .S } in
+          let a : length (innerEdges (head file) xs) ≤ length (map edge (only inside xs)) = length-sorted choiceKey (map edge (only inside xs)) in
+          let b : length (map edge (only inside xs)) ≡ length (only inside xs) = length-map (only inside xs) edge in
+          let c : length (only inside xs) ≤ length xs = length-only inside xs in
+          let d : length xs ≤ 64 = case-edges-few file sound in
+          omega arith
+
+      first-below : (i : ℕ) → i < z .edges → rowAt edgeRow inner i .first < 64
+      unfolding ownOf
+      first-below i h =
+          let n : z .edges ≡ length (ownOf file .inner) = edges-number in
+          let f : getD (ownOf file .inner) i noEdge .first < head file .J = case-inner file sound (getD-in (ownOf file .inner) i noEdge (omega arith)) .to-inner in
+          let b : head file .J ≤ 16 = case-head file sound .inner1-few in
+          let q : rowAt edgeRow inner i ≡ getD (ownOf file .inner) i noEdge =
+          sym (getD-rowsIn edgeRow (z .edges) inner i noEdge h) ∙ ap (λ (A : Automaton). getD (A .inner) i noEdge) own in
+          let p : rowAt edgeRow inner i .first ≡ getD (ownOf file .inner) i noEdge .first = ap (λ (x : Edge). x .first) q in
+          omega arith
+
+      pub given : 192 ≤ length inner → length entries ≡ e → length moves ≡ m → within (lent m e) (ownOf file) ≡ true → Given z inner entries moves
+      unfolding lent
+      given ri le lm w =
+          let k : KeepsLimits (lent m e) (ownOf file) = within-keeps (lent m e) (ownOf file) w in
+          let a : length (ownOf file .moves) ≤ min (m / 5) 1024 = k .moves-fit in
+          let b : length (ownOf file .entries) ≤ e / 2 = k .entries-fit in
+          let c : min (m / 5) 1024 ≤ m / 5 = min-le-left (m / 5) 1024 in
+          let ni : z .edges ≡ length (ownOf file .inner) = edges-number in
+          let ne : z .entries ≡ length (ownOf file .entries) = entries-number in
+          let nm : z .moves ≡ length (ownOf file .moves) = moves-number in
+          let ns : z .states ≡ ownOf file .J = states-number in
+          let few : length (ownOf file .inner) ≤ 64 = inner-few in
+          let states : ownOf file .J + length (ownOf file .entries) ≤ 64 = case-states-few file sound in
+          let most : length (ownOf file .moves) ≤ 1024 = case-moves-few file sound in
+          record {
+            edges = record { edges-lent = omega arith; firsts-small = first-below };
+            entries-stand = record { entries-lent = omega arith; states-few = omega arith };
+            moves-stand = record { moves-lent = omega arith };
+            moves-few = omega arith;
+          }
+
+      -- ---- the end
+
+      -- the rounds' end is the case's, where the tables were all zero before
+      pub case-ends : (body : List ℕ) (count : ℕ) → body ≡ bodyOf file 1 5 → count ≡ countOf file 1 → length entries ≡ e → length moves ≡ m
+          → Filled entryRow (z .entries) entries → Filled moveRow (z .moves) moves
+          → (fits : Bool) (z′ : Table) (k : ℕ) (entries′ moves′ sizes : List ℕ) → Ends (rulesIn count body) inner z entries moves fits z′ k entries′ moves′ sizes
+          → CaseSaturated file m e fits z′ k inner entries′ moves′ sizes
+      case-ends body count eb ec le lm fe fm fits z′ k entries′ moves′ sizes h =
+          let same : saturate (rulesIn count body) (lent (length moves) (length entries)) (automatonOf z inner entries moves) ≡ saturate (rulesOf file) (lent m e) (ownOf file) =
+          ap₂ (λ (rules : List Rule) (A : Automaton). saturate rules (lent (length moves) (length entries)) A) (rules-are body count eb ec) own
+          ∙ ap₂ (λ (x y : ℕ). saturate (rulesOf file) (lent x y) (ownOf file)) lm le in
+          record {
+            saturated = sym same ∙ h .saturated;
+            standing = λ f. limits-same z′ entries′ moves′ lm le (h .standing f);
+            entries-filled = λ f. h .entries-filled f fe;
+            moves-filled = λ f. h .moves-filled f fm;
+            sizes-few = h .few;
+          }
+        where
+          limits-same : (z′ : Table) (entries′ moves′ : List ℕ) → length moves ≡ m → length entries ≡ e
+              → Standing z′ (mostMoves (length moves)) (mostEntries (length entries) (z .states)) inner entries′ moves′
+              → Standing z′ (mostMoves m) (mostEntries e (ownOf file .J)) inner entries′ moves′
+          limits-same z′ entries′ moves′ lm le s =
+              subst₂ (λ (x y : ℕ). Standing z′ x y inner entries′ moves′) (ap mostMoves lm) (ap₂ mostEntries le states-number) s
+
+    -- the case's own table passes a limit
+    pub case-over : within (lent m e) (ownOf file) ≡ false → (fits : Bool) (z : Table) (k : ℕ) (inner entries moves sizes : List ℕ) → fits ≡ false → k ≤ 1025
+        → CaseSaturated file m e fits z k inner entries moves sizes
+    unfolding saturate ended
+    case-over w fits z k inner entries moves sizes f b =
+        record {
+          saturated = saturateFrom-exceeds (rulesOf file) (lent m e) 1024 [] (ownOf file) w ∙ sym (ap (λ (x : Bool). ended x (automatonOf z inner entries moves) (rowsIn sizeRow k sizes)) f);
+          standing = λ g. absurd (false≢true (sym f ∙ g));
+          entries-filled = λ g. absurd (false≢true (sym f ∙ g));
+          moves-filled = λ g. absurd (false≢true (sym f ∙ g));
+          sizes-few = b;
+        }

@@ -1,0 +1,128 @@
+-- The service's answer is that of the definition.
+-- Assumes nothing.
+use Prim.Native.Nat.{ℕ, _*_, _≤_}
+use mathlib.Core.Bool.{Bool, true, false}
+use mathlib.Core.Path.{_≡_, ap, ap₂, sym, _∙_}
+use mathlib.Core.Option.{none, some}
+use mathlib.Core.List.{List}
+use lib.ListN.{length}
+use borrow.Author.Tests.{ne-eqb}
+use Rattle.words.specs.Lists.{every}
+use Rattle.automata.specs.Saturation.{Size, Saturated, saturate}
+use Rattle.files.specs.Bytes.{firstHit, testsOn}
+use Rattle.files.specs.Bytes.Laws.{numbered, firstHit-past, firstHit-stays, firstHit-testsOn, numbered-testsOn}
+use Rattle.files.specs.Case.{caseTests, caseRefusal, rulesOf, ownOf}
+use Rattle.replies.specs.declared.Saturation.{Saturation}
+use Rattle.services.specs.Memory.{zeros, padded, moveTable, entryTable, lent}
+use Rattle.services.specs.Saturate.{Lent, saturated, tooLarge, sizeTests, saturateRefusal, saturateRefused, saturateFilled, saturateAnswer, saturateService}
+use Rattle.tables.specs.declared.Table.{Table}
+use Rattle.tables.specs.Rows.{rowsIn}
+use Rattle.tables.specs.Rows.Laws.{length-rowsIn}
+use Rattle.tables.specs.Records.{entryRow, moveRow}
+use Rattle.tables.specs.Held.{automatonOf, EntriesStand, MovesStand}
+use Rattle.tables.specs.Filled.{Filled, filled-whole}
+use Rattle.saturation.specs.Rounding.{Standing, standing-entries, standing-moves}
+use Rattle.saturation.specs.Running.{mostMoves, mostEntries, sizeRow, ended}
+use Rattle.saturate.specs.Case.{CaseSaturated}
+use Rattle.saturate.specs.Service.{theLent, theDone, theRefused}
+
+module _ (x : Lent) where
+  numbered-case : numbered (testsOn (λ (y : Lent). y .case) caseTests) ≡ true
+  unfolding caseTests numbered every
+  numbered-case = numbered-testsOn (λ (y : Lent). y .case) caseTests
+
+  refusal-case : (code : ℕ) → code ≡ caseRefusal (x .case) → (code ≡ 0 → ⊥) → saturateRefusal x ≡ code
+  unfolding saturateRefusal caseRefusal
+  refusal-case code e n =
+      let f : firstHit (testsOn (λ (y : Lent). y .case) caseTests) x ≡ code = firstHit-testsOn (λ (y : Lent). y .case) caseTests x ∙ sym e in
+      firstHit-stays (testsOn (λ (y : Lent). y .case) caseTests) sizeTests x (λ q. n (sym f ∙ q)) ∙ f
+
+  refusal-size : caseRefusal (x .case) ≡ 0 → saturateRefusal x ≡ firstHit sizeTests x
+  unfolding saturateRefusal caseRefusal
+  refusal-size e = firstHit-past (testsOn (λ (y : Lent). y .case) caseTests) sizeTests x numbered-case (firstHit-testsOn (λ (y : Lent). y .case) caseTests x ∙ e)
+
+  -- ---- the three ends
+
+  pub done-refused : (code : ℕ) → code ≡ caseRefusal (x .case) → (code ≡ 0 → ⊥) → saturateRefused x code ≡ saturateService x
+  unfolding saturateService saturateAnswer
+  done-refused code e n = sym (ap (saturateAnswer x) (refusal-case code e n) ∙ rw (saturateAnswer, ne-eqb code 0 n))
+
+  pub done-large : caseRefusal (x .case) ≡ 0 → saturated x ≡ none → saturateRefused x 9 ≡ saturateService x
+  unfolding saturateService saturateAnswer sizeTests tooLarge firstHit
+  done-large e f =
+      let t : tooLarge x ≡ true = rw (tooLarge, f) in
+      let hit : saturateRefusal x ≡ 9 = refusal-size e ∙ (rw (firstHit, t)) in
+      sym (ap (saturateAnswer x) hit)
+
+  pub done-filled : (T : Saturated) → caseRefusal (x .case) ≡ 0 → saturated x ≡ some T → saturateFilled x T ≡ saturateService x
+  unfolding saturateService saturateAnswer sizeTests tooLarge firstHit
+  done-filled T e f =
+      let t : tooLarge x ≡ false = rw (tooLarge, f) in
+      let none-hit : saturateRefusal x ≡ 0 = refusal-size e ∙ (rw (firstHit, t)) in
+      let answer : saturateAnswer x 0 ≡ saturateFilled x T = rw (saturateAnswer, f) in
+      sym (ap (saturateAnswer x) none-hit ∙ answer)
+
+-- ---- the tables at the ends
+
+-- all zero, with 0 moves and 0 entries
+pub zero-done : (case moves entries moves′ entries′ : List ℕ) (code : ℕ) → moves′ ≡ zeros (length moves) → entries′ ≡ zeros (length entries)
+    → theDone (theRefused code) moves′ entries′ ≡ saturateRefused (theLent case moves entries) code
+unfolding saturateRefused
+zero-done case moves entries moves′ entries′ code p q = λ i. theDone (theRefused code) (p i) (q i)
+
+-- the moves and entries of the table, with zeros behind them
+pub filled-done : (case moves entries inner moves′ entries′ : List ℕ) (z : Table) (sizes : List Size)
+    → length moves′ ≡ length moves → length entries′ ≡ length entries → z .moves * 5 ≤ length moves′ → z .entries * 2 ≤ length entries′
+    → Filled moveRow (z .moves) moves′ → Filled entryRow (z .entries) entries′
+    → theDone (record { code = 0; moves = z .moves; entries = z .entries }) moves′ entries′
+    ≡ saturateFilled (theLent case moves entries) (record { table = automatonOf z inner entries′ moves′; sizes = sizes })
+unfolding saturateFilled moveTable entryTable
+filled-done case moves entries inner moves′ entries′ z sizes lm le hm he fm fe =
+    let m : length (rowsIn moveRow (z .moves) moves′) ≡ z .moves = length-rowsIn moveRow (z .moves) moves′ in
+    let e : length (rowsIn entryRow (z .entries) entries′) ≡ z .entries = length-rowsIn entryRow (z .entries) entries′ in
+    let p : moves′ ≡ padded (length moves) (moveTable (automatonOf z inner entries′ moves′)) =
+    filled-whole moveRow (z .moves) moves′ hm fm ∙ ap (λ (n : ℕ). padded n (moveTable (automatonOf z inner entries′ moves′))) lm in
+    let q : entries′ ≡ padded (length entries) (entryTable (automatonOf z inner entries′ moves′)) =
+    filled-whole entryRow (z .entries) entries′ he fe ∙ ap (λ (n : ℕ). padded n (entryTable (automatonOf z inner entries′ moves′))) le in
+    λ i. theDone (record { code = 0; moves = sym m i; entries = sym e i }) (p i) (q i)
+
+-- ---- the code's three ends
+
+module _ (case moves entries : List ℕ) where
+  pub ends-refused : (r : Saturation) (code : ℕ) (moves′ entries′ : List ℕ) → r ≡ theRefused code → code ≡ caseRefusal case → (code ≡ 0 → ⊥)
+      → moves′ ≡ zeros (length moves) → entries′ ≡ zeros (length entries) → theDone r moves′ entries′ ≡ saturateService (theLent case moves entries)
+  ends-refused r code moves′ entries′ er ec n p q =
+      ap (λ (x : Saturation). theDone x moves′ entries′) er
+      ∙ zero-done case moves entries moves′ entries′ code p q
+      ∙ done-refused (theLent case moves entries) code ec n
+
+  -- what was saturated in tables of the same lengths
+  module _ (code : ℕ) (ec : code ≡ caseRefusal case) (sound : code ≡ 0) (m e : ℕ) (lm : m ≡ length moves) (le : e ≡ length entries)
+      (fits : Bool) (z : Table) (k : ℕ) (inner entries₁ moves₁ sizes : List ℕ) (s : CaseSaturated case m e fits z k inner entries₁ moves₁ sizes) where
+    saturated-is : saturated (theLent case moves entries) ≡ ended fits (automatonOf z inner entries₁ moves₁) (rowsIn sizeRow k sizes)
+    unfolding saturated
+    saturated-is = ap₂ (λ (x y : ℕ). saturate (rulesOf case) (lent x y) (ownOf case)) (sym lm) (sym le) ∙ s .saturated
+
+    pub ends-large : (r : Saturation) (moves′ entries′ : List ℕ) → fits ≡ false → r ≡ theRefused 9
+        → moves′ ≡ zeros (length moves₁) → entries′ ≡ zeros (length entries₁) → length moves₁ ≡ length moves → length entries₁ ≡ length entries
+        → theDone r moves′ entries′ ≡ saturateService (theLent case moves entries)
+    unfolding ended
+    ends-large r moves′ entries′ f er p q a b =
+        ap (λ (x : Saturation). theDone x moves′ entries′) er
+        ∙ zero-done case moves entries moves′ entries′ 9 (p ∙ ap zeros a) (q ∙ ap zeros b)
+        ∙ done-large (theLent case moves entries) (sym ec ∙ sound)
+        (saturated-is ∙ ap (λ (x : Bool). ended x (automatonOf z inner entries₁ moves₁) (rowsIn sizeRow k sizes)) f)
+
+    pub ends-filled : fits ≡ true → length moves₁ ≡ length moves → length entries₁ ≡ length entries
+        → theDone (record { code = 0; moves = z .moves; entries = z .entries }) moves₁ entries₁ ≡ saturateService (theLent case moves entries)
+    unfolding ended
+    ends-filled f a b =
+        let st : Standing z (mostMoves m) (mostEntries e (ownOf case .J)) inner entries₁ moves₁ = s .standing f in
+        let es : EntriesStand z entries₁ = standing-entries z (mostMoves m) (mostEntries e (ownOf case .J)) inner entries₁ moves₁ st in
+        let ms : MovesStand z moves₁ = standing-moves z (mostMoves m) (mostEntries e (ownOf case .J)) inner entries₁ moves₁ st in
+        filled-done case moves entries inner moves₁ entries₁ z (rowsIn sizeRow k sizes) a b (ms .moves-lent) (es .entries-lent) (s .moves-filled f) (s .entries-filled f)
+        ∙ done-filled (theLent case moves entries) (record { table = automatonOf z inner entries₁ moves₁; sizes = rowsIn sizeRow k sizes }) (sym ec ∙ sound)
+        (saturated-is ∙ ap (λ (x : Bool). ended x (automatonOf z inner entries₁ moves₁) (rowsIn sizeRow k sizes)) f)
+
+pub zero-self : (t : List ℕ) (n : ℕ) → t ≡ zeros n → length t ≡ n → t ≡ zeros (length t)
+zero-self t n e l = e ∙ ap zeros (sym l)

@@ -1,0 +1,104 @@
+// The service saturate, and the saturated table of a sound case for the services above.
+ghost use mathlib.Core.Path.{_≡_};
+ghost use mathlib.Core.Bool.{false};
+ghost use Prim.Native.Nat.{_≤_};
+ghost use lib.ListN.{length};
+ghost use Rattle.automata.specs.Saturation.{within};
+ghost use Rattle.files.specs.Case.{ownOf, caseRefusal};
+ghost use Rattle.services.specs.Memory.{zeros, lent};
+ghost use Rattle.services.specs.Saturate.{saturateService};
+ghost use Rattle.saturate.specs.Case.{Working, CaseSaturated};
+ghost use Rattle.saturate.specs.Service.{theLent, theDone, theRefused};
+use replies::Saturation;
+use saturation::Saturated;
+
+// Whether the own moves and entries of a sound case fit tables of so many words.
+fn own_fits(case: &[u8], moves: usize, entries: usize) -> bool
+    requires { ⌜ caseRefusal (now case) ≡ 0 ⌝ }
+    ensures { λ r. ⌜ r ≡ within (lent moves entries) (ownOf (now (case .entry))) ⌝ }
+{
+    if moves / 5 < bytes_in::count_of(case, 3) {
+        return false;
+    }
+    let h = case_file::head_of(case);
+    case_file::entry_total(h, case) as usize <= entries / 2
+}
+
+// Saturates the table of a sound case in tables that are all zero, with working memory for its inner edges, for the results of a round and for
+// the sizes after each round.
+pub fn saturate_case(
+    case: &[u8],
+    inner: &mut [u64],
+    entries: &mut [u64],
+    moves: &mut [u64],
+    pending: &mut [u64],
+    sizes: &mut [u64],
+) -> Saturated
+    requires { ⌜ (caseRefusal (now case) ≡ 0) × Working (now inner) (now entries) (now moves) (now pending) (now sizes) ⌝ }
+    ensures { λ r. ⌜ CaseSaturated (now (case .entry)) (length (now (moves .entry))) (length (now (entries .entry))) (r .fits) (r .table) (r .sizes) (now (inner .exit)) (now (entries .exit)) (now (moves .exit)) (now (sizes .exit)) ⌝ }
+{
+    if !own_fits(case, moves.len(), entries.len()) {
+        return nothing();
+    }
+    let z = case_tables::load_case(case, inner, entries, moves);
+    let body = case_file::rule_body(case);
+    let count = bytes_in::count_of(case, 1);
+    saturation::saturate_tables(z, inner, entries, moves, body, count, pending, sizes)
+}
+
+// No table: a limit is passed.
+fn nothing() -> Saturated
+    ensures { λ r. ⌜ (r .fits ≡ false) × (r .sizes ≡ 0) ⌝ }
+{
+    let table = tables::Table {
+        states: 0,
+        final1: 0,
+        final2: 0,
+        edges: 0,
+        entries: 0,
+        moves: 0,
+    };
+    Saturated {
+        fits: false,
+        table: table,
+        sizes: 0,
+    }
+}
+
+// The reply of a refusal.
+fn refused(code: u64) -> Saturation
+    ensures { λ r. ⌜ r ≡ theRefused code ⌝ }
+{
+    Saturation {
+        code: code,
+        moves: 0,
+        entries: 0,
+    }
+}
+
+// Fills the move table and the entry table with the saturated table of a case.
+pub fn saturate(case: &[u8], moves: &mut [u64], entries: &mut [u64]) -> Saturation
+    ensures { λ r. ⌜ theDone r (now (moves .exit)) (now (entries .exit)) ≡ saturateService (theLent (now (case .entry)) (now (moves .entry)) (now (entries .entry))) ⌝ }
+{
+    tables::zero(moves);
+    tables::zero(entries);
+    let code = case_file::check_case(case);
+    if code != 0 {
+        return refused(code);
+    }
+    let mut inner = [0u64; 192];
+    let mut pending = [0u64; 6144];
+    let mut sizes = [0u64; 2050];
+    let r = saturate_case(case, &mut inner, entries, moves, &mut pending, &mut sizes);
+    let table = r.table;
+    if !r.fits {
+        tables::zero(moves);
+        tables::zero(entries);
+        return refused(9);
+    }
+    Saturation {
+        code: 0,
+        moves: table.moves as u64,
+        entries: table.entries as u64,
+    }
+}
