@@ -1,0 +1,76 @@
+-- `judge::judge` meets its contract.
+-- Assumes nothing.
+use mathlib.Core.Path.{sym, _∙_}
+use Rattle.saturate.specs.Service.Laws.{zero-self}
+use Rattle.judge.specs.Cases.{passed}
+use Rattle.judge.specs.Left.{left-refused, service-kept}
+use borrow.Author.Needs.{needs}
+use Rattle.judge.proofs.judge.Statement.{statement}
+use Rattle.judge.proofs.judge.Tie as tie
+
+zero-tables-requires : tie.Need-zero-tables-requires
+zero-tables-requires c κs = search needs
+
+zero-bytes-requires : tie.Need-zero-bytes-requires
+zero-bytes-requires c κs = search needs
+
+refusal-before-requires : tie.Need-refusal-before-requires
+refusal-before-requires c κs = search needs
+
+same-length : tie.Need-same-length
+same-length c = search needs
+
+same-length-2 : tie.Need-same-length-2
+same-length-2 c = search needs
+
+same-length-3 : tie.Need-same-length-3
+same-length-3 c = search needs
+
+returns : tie.Need-returns
+returns c =
+    let b = c .before .before .before .before in
+    let z = b .before .before .before .before .before .before .zero-tables .ensures in
+    left-refused _ (b .zero-bytes .kept .0) (c .before .refusal-before .ensures) (c .if1 .taken) (z .0) (z .1) (b .zero-bytes .ensures)
+
+judge-sound-requires : tie.Need-judge-sound-requires
+judge-sound-requires c κs =
+    let t = c .before .before .before .before .before .before .before .before .before .before .before .before .before .zero-tables in
+    let b = c .before .before .before .before .before .before .before .zero-bytes in (
+      passed _ _ _ (sym (c .before .before .before .before .refusal-before .ensures) ∙ c .before .before .before .if1 .left),
+      zero-self _ _ (t .ensures .0) (t .kept .0),
+      zero-self _ _ (t .ensures .1) (t .kept .1 .0),
+      zero-self _ _ (b .ensures) (b .kept .0),
+    )
+
+same-length-4 : tie.Need-same-length-4
+same-length-4 c = search needs
+
+same-length-5 : tie.Need-same-length-5
+same-length-5 c = search needs
+
+same-length-6 : tie.Need-same-length-6
+same-length-6 c = search needs
+
+returns-2 : tie.Need-returns-2
+returns-2 c =
+    let s = c .before .before .before .before .before .before .before .before .before .before .before .before .before .before in
+    let b = s .zero-bytes in
+    let t = s .before .before .before .before .before .before .zero-tables in
+    service-kept _ _ (c .before .before .before .before .before .before .judge-sound .ensures) (t .kept .0) (t .kept .1 .0) (b .kept .0)
+
+pub judge-spec : {M : Type 1} → statement M
+judge-spec =
+    tie.close
+    (tie.spec
+    zero-tables-requires
+    zero-bytes-requires
+    refusal-before-requires
+    same-length
+    same-length-2
+    same-length-3
+    returns
+    judge-sound-requires
+    same-length-4
+    same-length-5
+    same-length-6
+    returns-2)

@@ -1,0 +1,95 @@
+-- `judge::judge_sound` meets its contract.
+-- Assumes nothing.
+use borrow.Author.Tests.{not-true, not-false}
+use Rattle.start_file.specs.Checks.{filesOf}
+use Rattle.judge.specs.Sound.{start-sound}
+use Rattle.judge.specs.Saturated.{table-there, table-none, table-stands}
+use Rattle.judge.specs.Left.{left-exceeded, left-judged}
+use borrow.Author.Needs.{needs}
+use Rattle.judge.proofs.judge_sound.Statement.{statement}
+use Rattle.judge.proofs.judge_sound.Tie as tie
+
+slice-aggregate-saturate-case : tie.Need-slice-aggregate-saturate-case
+slice-aggregate-saturate-case c = search needs
+
+slice-aggregate-saturate-case-2 : tie.Need-slice-aggregate-saturate-case-2
+slice-aggregate-saturate-case-2 c = search needs
+
+slice-aggregate-saturate-case-3 : tie.Need-slice-aggregate-saturate-case-3
+slice-aggregate-saturate-case-3 c = search needs
+
+saturate-case-requires : tie.Need-saturate-case-requires
+saturate-case-requires c κs = search needs
+
+zero-tables-requires : tie.Need-zero-tables-requires
+zero-tables-requires c κs = search needs
+
+same-length : tie.Need-same-length
+same-length c = search needs
+
+same-length-2 : tie.Need-same-length-2
+same-length-2 c = search needs
+
+returns : tie.Need-returns
+returns c =
+    let t = c .before .before .before .before .before .before .before in
+    let s = t .before .before .before .before .before .before .before .before .before .before in
+    let e = s .before .before .before .before .before .before .before .before .before .before .before in
+    let z = c .before .before .before .before .zero-tables .ensures in
+    left-exceeded _ (e .pre .0) (s .saturate-case .kept .1 .1 .1 .0) (s .saturate-case .kept .1 .1 .0) (z .0) (z .1)
+    (table-none (s .saturate-case .ensures) (not-true (s .saturate-case .result .fits) (t .if1 .taken))) (e .pre .3)
+
+slice-aggregate-mark-starts : tie.Need-slice-aggregate-mark-starts
+slice-aggregate-mark-starts c = search needs
+
+mark-starts-requires : tie.Need-mark-starts-requires
+mark-starts-requires c κs =
+    let s = c .before .before .before .before .before .before .before .before .before .before .before .before .before .before in
+    let e = s .before .before .before .before .before .before .before .before .before .before .before in
+    let p = e .pre .0 in (
+      table-stands (s .saturate-case .ensures) (p .sound-case) (not-false (s .saturate-case .result .fits) (c .before .before .before .before .if1 .left)),
+      start-sound (filesOf _ _) (p .sound-case) (p .sound-start),
+      p .answers-lent,
+    )
+
+zero-tables-requires-2 : tie.Need-zero-tables-requires-2
+zero-tables-requires-2 c κs = search needs
+
+same-length-3 : tie.Need-same-length-3
+same-length-3 c = search needs
+
+same-length-4 : tie.Need-same-length-4
+same-length-4 c = search needs
+
+same-length-5 : tie.Need-same-length-5
+same-length-5 c = search needs
+
+returns-2 : tie.Need-returns-2
+returns-2 c =
+    let t = c .before .before .before .before .before .before .before .before .before .before .before .before .before .before in
+    let s = t .before .before .before .before .before .before .before .before .before .before in
+    let e = s .before .before .before .before .before .before .before .before .before .before .before in
+    let z = c .before .before .before .before .zero-tables2 .ensures in
+    left-judged _ (e .pre .0) (s .saturate-case .kept .1 .1 .1 .0) (s .saturate-case .kept .1 .1 .0) (z .0) (z .1)
+    (table-there (s .saturate-case .ensures) (not-false (s .saturate-case .result .fits) (t .if1 .left))) (e .pre .3)
+    (c .before .before .before .before .before .before .before .before .before .mark-starts .ensures)
+
+pub judge-sound-spec : {M : Type 1} → statement M
+judge-sound-spec =
+    tie.close
+    (tie.spec
+    slice-aggregate-saturate-case
+    slice-aggregate-saturate-case-2
+    slice-aggregate-saturate-case-3
+    saturate-case-requires
+    zero-tables-requires
+    same-length
+    same-length-2
+    returns
+    slice-aggregate-mark-starts
+    mark-starts-requires
+    zero-tables-requires-2
+    same-length-3
+    same-length-4
+    same-length-5
+    returns-2)

@@ -1,0 +1,5 @@
+pub mod Marks
+pub mod Sound
+pub mod Cases
+pub mod Saturated
+pub mod Left

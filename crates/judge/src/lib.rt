@@ -1,0 +1,168 @@
+// The service judge: one byte a start, 1 or 0.
+ghost use mathlib.Core.Path.{_≡_};
+ghost use mathlib.Core.Bool.{true};
+ghost use mathlib.Core.List.{_++_, map};
+ghost use Prim.Native.Nat.{_<_, _≤_};
+ghost use lib.ListN.{length, drop};
+ghost use Rattle.files.specs.Bytes.{placed};
+ghost use Rattle.files.specs.Start.{startBodies, startsOf, cellsOf};
+ghost use Rattle.services.specs.Memory.{zeros};
+ghost use Rattle.services.specs.Judge;
+ghost use Rattle.services.specs.Judge.{judgeService};
+ghost use Rattle.tables.specs.Held.{automatonOf};
+ghost use Rattle.start_records.specs.Values.{theStart};
+ghost use Rattle.acceptance.specs.Named.{Stands};
+ghost use Rattle.acceptance.specs.Cells.{cellWords};
+ghost use Rattle.judge.specs.Marks.{markBy, startsIn, StartsStand};
+ghost use Rattle.judge.specs.Sound.{StartSound};
+ghost use Rattle.judge.specs.Cases.{refusedBefore, Passed, judgeInput, judgeDone};
+use start_records::Start;
+use tables::Table;
+
+// Writes zero into every byte.
+fn zero_bytes(b: &mut [u8])
+    ensures { λ _. ⌜ now (b .exit) ≡ zeros (length (now (b .entry))) ⌝ }
+{
+    let mut i: usize = 0;
+    while i < b.len() {
+        b[i] = 0;
+        i += 1;
+    }
+}
+
+// 1 where the control is a member of the root's word, and 0 otherwise.
+fn mark(words: &[u64], x: Start) -> u8
+    requires { ⌜ (x .root < length (now words)) × (x .control < 64) ⌝ }
+    ensures { λ r. ⌜ r ≡ markBy (now (words .entry)) (theStart x) ⌝ }
+{
+    let root = x.root as usize;
+    if acceptance::accepted(words, root, x.control) {
+        1
+    } else {
+        0
+    }
+}
+
+// Writes the marks of the first n starts in the body.
+fn put_marks(body: &[u8], n: usize, words: &[u64], answers: &mut [u8])
+    requires { ⌜ StartsStand n (now body) (length (now words)) × (n ≤ length (now answers)) ⌝ }
+    ensures { λ _. ⌜ now (answers .exit) ≡ map (markBy (now (words .entry))) (startsIn n (now (body .entry))) ++ drop n (now (answers .entry)) ⌝ }
+{
+    let mut i: usize = 0;
+    while i < n {
+        let x = start_records::start_at(body, i);
+        answers[i] = mark(words, x);
+        i += 1;
+    }
+}
+
+// ---- the words of the cells
+
+// Writes the word of each cell of the start file, for the automaton in these tables.
+pub fn start_words(
+    z: Table,
+    inner: &[u64],
+    entries: &[u64],
+    moves: &[u64],
+    start: &[u8],
+    words: &mut [u64],
+)
+    requires { ⌜ Stands z (now inner) (now entries) (now moves) × (placed startBodies (now start) ≡ true) × (256 ≤ length (now words)) ⌝ }
+    ensures { λ _. ⌜ now (words .exit) ≡ cellWords (automatonOf z (now (inner .entry)) (now (entries .entry)) (now (moves .entry))) (cellsOf (now (start .entry))) ++ drop (length (cellsOf (now (start .entry)))) (now (words .entry)) ⌝ }
+{
+    let cells = start_file::cell_body(start);
+    let n = bytes_in::count_of(start, 1);
+    acceptance::fill_words(z, inner, entries, moves, cells, n, words);
+}
+
+// ---- the service
+
+// Writes the marks of the starts, for the automaton in these tables.
+fn mark_starts(
+    z: Table,
+    inner: &[u64],
+    entries: &[u64],
+    moves: &[u64],
+    start: &[u8],
+    answers: &mut [u8],
+)
+    requires { ⌜ Stands z (now inner) (now entries) (now moves) × StartSound (now start) × (length (startsOf (now start)) ≤ length (now answers)) ⌝ }
+    ensures { λ _. ⌜ now (answers .exit) ≡ map (Judge.mark (automatonOf z (now (inner .entry)) (now (entries .entry)) (now (moves .entry))) (now (start .entry))) (startsOf (now (start .entry))) ++ drop (length (startsOf (now (start .entry)))) (now (answers .entry)) ⌝ }
+{
+    let mut words = [0u64; 256];
+    start_words(z, inner, entries, moves, start, &mut words);
+    let body = start_file::start_body(start);
+    let n = bytes_in::count_of(start, 0);
+    put_marks(body, n, &words, answers);
+}
+
+// The refusal by the two files and the number of answers lent, or 0.
+fn refusal_before(case: &[u8], start: &[u8], answers: usize) -> u64
+    ensures { λ r. ⌜ r ≡ refusedBefore (now (case .entry)) (now (start .entry)) answers ⌝ }
+{
+    let c = case_file::check_case(case);
+    if c != 0 {
+        return c;
+    }
+    let s = start_file::check_start(case, start);
+    if s != 0 {
+        return s;
+    }
+    if answers < bytes_in::count_of(start, 0) {
+        return 8;
+    }
+    0
+}
+
+// Writes zero into both tables.
+fn zero_tables(moves: &mut [u64], entries: &mut [u64])
+    ensures { λ _. ⌜ (now (moves .exit) ≡ zeros (length (now (moves .entry)))) × (now (entries .exit) ≡ zeros (length (now (entries .entry)))) ⌝ }
+{
+    tables::zero(moves);
+    tables::zero(entries);
+}
+
+// Judges sound files. All lent memory is zero before.
+fn judge_sound(
+    case: &[u8],
+    start: &[u8],
+    moves: &mut [u64],
+    entries: &mut [u64],
+    answers: &mut [u8],
+) -> u64
+    requires { ⌜ Passed (now case) (now start) (length (now answers)) × (now moves ≡ zeros (length (now moves))) × (now entries ≡ zeros (length (now entries))) × (now answers ≡ zeros (length (now answers))) ⌝ }
+    ensures { λ r. ⌜ judgeDone r (now (moves .exit)) (now (entries .exit)) (now (answers .exit)) ≡ judgeService (judgeInput (now (case .entry)) (now (start .entry)) (length (now (moves .entry))) (length (now (entries .entry))) (length (now (answers .entry)))) ⌝ }
+{
+    let mut inner = [0u64; 192];
+    let mut pending = [0u64; 6144];
+    let mut sizes = [0u64; 2050];
+    let r = saturate::saturate_case(case, &mut inner, entries, moves, &mut pending, &mut sizes);
+    let table = r.table;
+    if !r.fits {
+        zero_tables(moves, entries);
+        return 9;
+    }
+    mark_starts(table, &inner, entries, moves, start, answers);
+    zero_tables(moves, entries);
+    0
+}
+
+// Marks each start of the start file 1 or 0: whether a run from it by the case's rules ends in the case's target. Answers 0, or the number of
+// a refusal.
+pub fn judge(
+    case: &[u8],
+    start: &[u8],
+    moves: &mut [u64],
+    entries: &mut [u64],
+    answers: &mut [u8],
+) -> u64
+    ensures { λ r. ⌜ judgeDone r (now (moves .exit)) (now (entries .exit)) (now (answers .exit)) ≡ judgeService (judgeInput (now (case .entry)) (now (start .entry)) (length (now (moves .entry))) (length (now (entries .entry))) (length (now (answers .entry)))) ⌝ }
+{
+    zero_tables(moves, entries);
+    zero_bytes(answers);
+    let refusal = refusal_before(case, start, answers.len());
+    if refusal != 0 {
+        return refusal;
+    }
+    judge_sound(case, start, moves, entries, answers)
+}
