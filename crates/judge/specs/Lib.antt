@@ -3,3 +3,4 @@ pub mod Sound
 pub mod Cases
 pub mod Saturated
 pub mod Left
+pub mod Demands

@@ -2,8 +2,8 @@
 ghost use mathlib.Core.Path.{_≡_};
 ghost use mathlib.Core.Bool.{true};
 ghost use mathlib.Core.List.{_++_, map};
-ghost use Prim.Native.Nat.{_<_, _≤_};
-ghost use lib.ListN.{length, drop};
+ghost use Prim.Native.Nat.{ℕ, _<_, _≤_};
+ghost use lib.ListN.{length, getD, drop};
 ghost use Rattle.files.specs.Bytes.{placed};
 ghost use Rattle.files.specs.Start.{startBodies, startsOf, cellsOf};
 ghost use Rattle.services.specs.Memory.{zeros};
@@ -16,6 +16,9 @@ ghost use Rattle.acceptance.specs.Cells.{cellWords};
 ghost use Rattle.judge.specs.Marks.{markBy, startsIn, StartsStand};
 ghost use Rattle.judge.specs.Sound.{StartSound};
 ghost use Rattle.judge.specs.Cases.{refusedBefore, Passed, judgeInput, judgeDone};
+ghost use Rattle.demands.specs.Demand1.{JudgeStates};
+ghost use Rattle.demands.specs.Demand2.{Marks};
+ghost use Rattle.judge.specs.Demands.{SizeRefused};
 use start_records::Start;
 use tables::Table;
 
@@ -157,6 +160,9 @@ pub fn judge(
     answers: &mut [u8],
 ) -> u64
     ensures { λ r. ⌜ judgeDone r (now (moves .exit)) (now (entries .exit)) (now (answers .exit)) ≡ judgeService (judgeInput (now (case .entry)) (now (start .entry)) (length (now (moves .entry))) (length (now (entries .entry))) (length (now (answers .entry)))) ⌝ }
+    ensures demand1 { λ r. ⌜ JudgeStates (judgeInput (now (case .entry)) (now (start .entry)) (length (now (moves .entry))) (length (now (entries .entry))) (length (now (answers .entry)))) (judgeDone r (now (moves .exit)) (now (entries .exit)) (now (answers .exit))) ⌝ }
+    ensures demand2 { λ r. ⌜ (r ≡ 0 → (n : ℕ) → n < length (startsOf (now (start .entry))) → Marks (now (case .entry)) (now (start .entry)) n (getD (now (answers .exit)) n 0)) ⌝ }
+    ensures size { λ r. ⌜ SizeRefused (judgeInput (now (case .entry)) (now (start .entry)) (length (now (moves .entry))) (length (now (entries .entry))) (length (now (answers .entry)))) r ⌝ }
 {
     zero_tables(moves, entries);
     zero_bytes(answers);

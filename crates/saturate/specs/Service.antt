@@ -1,6 +1,7 @@
 -- The service's answer.
 -- Assumes nothing.
 pub mod Laws
+pub mod Demands
 use Prim.Native.Nat.{ℕ}
 use mathlib.Core.List.{List}
 use lib.ListN.{length}

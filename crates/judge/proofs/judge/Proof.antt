@@ -4,6 +4,7 @@ use mathlib.Core.Path.{sym, _∙_}
 use Rattle.saturate.specs.Service.Laws.{zero-self}
 use Rattle.judge.specs.Cases.{passed}
 use Rattle.judge.specs.Left.{left-refused, service-kept}
+use Rattle.judge.specs.Demands.{meets}
 use borrow.Author.Needs.{needs}
 use Rattle.judge.proofs.judge.Statement.{statement}
 use Rattle.judge.proofs.judge.Tie as tie
@@ -30,7 +31,7 @@ returns : tie.Need-returns
 returns c =
     let b = c .before .before .before .before in
     let z = b .before .before .before .before .before .before .zero-tables .ensures in
-    left-refused _ (b .zero-bytes .kept .0) (c .before .refusal-before .ensures) (c .if1 .taken) (z .0) (z .1) (b .zero-bytes .ensures)
+    meets _ _ (left-refused _ (b .zero-bytes .kept .0) (c .before .refusal-before .ensures) (c .if1 .taken) (z .0) (z .1) (b .zero-bytes .ensures))
 
 judge-sound-requires : tie.Need-judge-sound-requires
 judge-sound-requires c κs =
@@ -56,7 +57,7 @@ returns-2 c =
     let s = c .before .before .before .before .before .before .before .before .before .before .before .before .before .before in
     let b = s .zero-bytes in
     let t = s .before .before .before .before .before .before .zero-tables in
-    service-kept _ _ (c .before .before .before .before .before .before .judge-sound .ensures) (t .kept .0) (t .kept .1 .0) (b .kept .0)
+    meets _ _ (service-kept _ _ (c .before .before .before .before .before .before .judge-sound .ensures) (t .kept .0) (t .kept .1 .0) (b .kept .0))
 
 pub judge-spec : {M : Type 1} → statement M
 judge-spec =
