@@ -95,7 +95,7 @@ fn candidate(moves: &[u64], i: usize, q: u64, a: u64, j: Joins, x: Outcome) -> J
 }
 
 // Whether these joins are those of x.
-fn is_wanted(order: u64, b: u64, r: u64, x: Outcome) -> bool
+pub fn is_wanted(order: u64, b: u64, r: u64, x: Outcome) -> bool
     ensures { λ t. ⌜ t ≡ same (joinsKey (joinsOf (record { order = order; b = b; r = r }))) (wanted (asResult x)) ⌝ }
 {
     if order != x.order {

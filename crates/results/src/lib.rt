@@ -36,7 +36,7 @@ pub enum EntryPremise {
 }
 
 // Whether an annotation set of this order is empty or of order k.
-fn order_fits(k: u64, order: u64) -> bool
+pub fn order_fits(k: u64, order: u64) -> bool
     ensures { λ r. ⌜ r ≡ eqb order 0 || eqb order k ⌝ }
 {
     if order == 0 {

@@ -50,6 +50,11 @@ unfolding isSome
 isSome-map g none = refl
 isSome-map g (some y) = refl
 
+pub none-is : {B : Type 0} (o : Option B) → isSome o ≡ false → o ≡ none
+unfolding isSome
+none-is none e = refl
+none-is (some y) e = absurd (false≢true (sym e))
+
 module _ {B C : Type 0} (g : B → C) (w : B → List ℕ → List ℕ) (v : C → List ℕ → List ℕ) where
   -- one number more is written after a success
   pub answer-yes : (more : List ℕ → List ℕ) → ((y : B) (ws : List ℕ) → more (w y ws) ≡ v (g y) ws)
@@ -78,6 +83,16 @@ module _ {B C : Type 0} (g : B → C) (w : B → List ℕ → List ℕ) (v : C �
       go : (p : Option B) → Answer p w t ws₀ ws → Answer (Option·map g p) v t ws₀ ws
       go none b = record { success = b .success; words = b .words }
       go (some y) b = record { success = b .success; words = b .words ∙ h y ws₀ }
+
+-- the same writing
+pub answer-by : {B : Type 0} {w v : B → List ℕ → List ℕ} {o : Option B} {ws₀ ws : List ℕ} {t : Bool} → ((y : B) (ws : List ℕ) → w y ws ≡ v y ws) → Answer o w t ws₀ ws
+    → Answer o v t ws₀ ws
+unfolding writtenBy
+answer-by {B} {w} {v} {o} {ws₀} {ws} {t} h a = record { success = a .success; words = a .words ∙ go o }
+  where
+    go : (p : Option B) → writtenBy w p ws₀ ≡ writtenBy v p ws₀
+    go none = refl
+    go (some y) = h y ws₀
 
 -- ---- slices that are as they were
 

@@ -27,7 +27,7 @@ use Rattle.first_reading.specs.Answer.{writtenAll, Answer, Answers}
 use Rattle.first_reading.specs.Answer.Laws.{answer-eq, answer-yes, answer-no, answer-map, answer-still, isSome-map, answers-eq}
 
 -- readings depend on the moves alone
-reading-moves : (z : Table) (inner entries moves : List ℕ) (a : ℕ) (goal qs : List ℕ) (j : Joins)
+pub reading-moves : (z : Table) (inner entries moves : List ℕ) (a : ℕ) (goal qs : List ℕ) (j : Joins)
     → firstReading (movesIn (z .moves) moves) a goal qs j ≡ firstReading (automatonOf z inner entries moves) a goal qs j
 unfolding firstReading movesOf moveAt
 reading-moves z inner entries moves a goal qs j = refl
