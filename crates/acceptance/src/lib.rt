@@ -124,7 +124,7 @@ pub fn all_accepted(words: &[u64], cell: usize, states: u64) -> bool
 }
 
 // The word of cell i where it is one of the first n, and no state otherwise.
-fn word_before(words: &[u64], n: usize, i: usize) -> u64
+pub fn word_before(words: &[u64], n: usize, i: usize) -> u64
     requires { ⌜ n ≤ length (now words) ⌝ }
     ensures { λ r. ⌜ r ≡ getD (take n (now (words .entry))) i 0 ⌝ }
 {
@@ -187,7 +187,7 @@ fn order_at(body: &[u8], n: usize, i: usize) -> u64
 }
 
 // The order of the annotation of a symbol.
-fn annotation_order(body: &[u8], n: usize, cell: Cell) -> u64
+pub fn annotation_order(body: &[u8], n: usize, cell: Cell) -> u64
     requires { ⌜ n * 6 ≤ length (now body) ⌝ }
     ensures { λ r. ⌜ r ≡ annotationOrder (cellsIn n (now (body .entry))) (cellOf cell) ⌝ }
 {

@@ -19,6 +19,13 @@ cellOf (Symbol a u s) = walks.symbol a u s
 cellOf Empty2 = walks.empty2
 cellOf (Above w t) = walks.above w t
 
+-- the cell by value that stands for a cell of a walk
+unfoldable pub valueOf : walks.Cell → Cell
+valueOf walks.empty1 = Empty1
+valueOf (walks.symbol a u s) = Symbol a u s
+valueOf walks.empty2 = Empty2
+valueOf (walks.above w t) = Above w t
+
 -- The kinds are those of a start file; any other number, as in words that are all zero, is an empty order-1 stack.
 unfoldable pub ofKind : ℕ → ℕ → ℕ → ℕ → Cell
 ofKind kind a u s = elim (eqb kind 2) [

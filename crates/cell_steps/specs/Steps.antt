@@ -8,9 +8,7 @@ use lib.ListN.{getD}
 use Rattle.stacks.specs.Stack.{Operation, rewrite, push1, push2, copy, pop1, pop2, collapse1, collapse2}
 use Rattle.walks.specs.Cell as walks
 use Rattle.walks.specs.Guide.{Guided, chooses}
-use Rattle.cell_memory.specs.declared.Cell.{Cell}
-use Rattle.cell_memory.specs.declared.Cell.the-variants.{Empty1, Symbol, Empty2, Above}
-use Rattle.cell_memory.specs.Memory.{withCell, withChoice, withChoices}
+use Rattle.cell_memory.specs.Memory.{valueOf, withCell, withChoice, withChoices}
 
 -- the words after these are written for the cells from number n on, each one by `put`
 unfoldable pub putFrom : {X : Type 0} → (List ℕ → ℕ → X → List ℕ) → List ℕ → ℕ → List X → List ℕ
@@ -18,13 +16,6 @@ putFrom put ws n [] = ws
 putFrom put ws n (x ∷ xs) = putFrom put (put ws n x) (n + 1) xs
 
 -- ---- cells
-
--- the cell by value that stands for a cell of a walk
-unfoldable pub valueOf : walks.Cell → Cell
-valueOf walks.empty1 = Empty1
-valueOf (walks.symbol a u s) = Symbol a u s
-valueOf walks.empty2 = Empty2
-valueOf (walks.above w t) = Above w t
 
 abbrev pub putCell : List ℕ → ℕ → walks.Cell → List ℕ
 putCell ws n c = withCell ws n (valueOf c)

@@ -13,10 +13,27 @@ use lib.Dec.{eqb, ltb}
 use borrow.Author.Tests.{ne-eqb, eqb-true, eqb-false, ltb-true, ltb-false}
 use borrow.Author.Fill.{fill-more}
 use Rattle.words.specs.Lists.Laws.{by-test}
+use Rattle.walks.specs.Cell as walks
 use Rattle.walks.specs.Guide.{Guided, noGuided}
 use Rattle.cell_memory.specs.declared.Cell.{Cell}
 use Rattle.cell_memory.specs.declared.Cell.the-variants.{Empty1, Symbol, Empty2, Above}
-use Rattle.cell_memory.specs.Memory.{cellOf, ofKind, cellIn, choicesIn, choiceIn, guidedCell, guidedIn, fields, withCell, withChoice, withChoices}
+use Rattle.cell_memory.specs.Memory.{cellOf, valueOf, ofKind, cellIn, choicesIn, choiceIn, guidedCell, guidedIn, fields, withCell, withChoice, withChoices}
+
+-- ---- cells by value
+
+pub valueOf-cellOf : (c : Cell) → valueOf (cellOf c) ≡ c
+unfolding valueOf cellOf
+valueOf-cellOf Empty1 = refl
+valueOf-cellOf (Symbol a u s) = refl
+valueOf-cellOf Empty2 = refl
+valueOf-cellOf (Above w t) = refl
+
+pub cellOf-valueOf : (c : walks.Cell) → cellOf (valueOf c) ≡ c
+unfolding valueOf cellOf
+cellOf-valueOf walks.empty1 = refl
+cellOf-valueOf (walks.symbol a u s) = refl
+cellOf-valueOf walks.empty2 = refl
+cellOf-valueOf (walks.above w t) = refl
 
 -- ---- a run of words that is written
 

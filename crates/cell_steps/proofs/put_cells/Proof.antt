@@ -5,7 +5,8 @@ use Rattle.stacks.specs.Stack.{newCells}
 use Rattle.walks.specs.Cell.{cellsAfter}
 use Rattle.case_records.specs.declared.Operation.{Operation}
 use Rattle.case_records.specs.Values.{theOperation}
-use Rattle.cell_steps.specs.Steps.{putFrom, valueOf, putCell, symbolOf}
+use Rattle.cell_memory.specs.Memory.{valueOf}
+use Rattle.cell_steps.specs.Steps.{putFrom, putCell, symbolOf}
 use Rattle.cell_steps.specs.Steps.Laws.{put-one, cells-by}
 use borrow.Author.Needs.{needs}
 use Rattle.cell_steps.proofs.put_cells.Statement.{statement}

@@ -16,9 +16,9 @@ use Rattle.walks.specs.Cell.Laws.{length-cellsAfter}
 use Rattle.walks.specs.Guide.{Guided, chooses}
 use Rattle.case_records.specs.declared.Operation.{Operation}
 use Rattle.case_records.specs.Values.{theOperation}
-use Rattle.cell_memory.specs.Memory.{cellOf, guidedCell, guidedIn, withCell}
-use Rattle.cell_memory.specs.Memory.Laws.{guidedIn-same, choosing, length-withCell, withCell-other, withCell-guided, length-withChoice, withChoice-other, withChoice-guided, length-withChoices, withChoices-other, withChoices-guided}
-use Rattle.cell_steps.specs.Steps.{putFrom, valueOf, putCell, withCells, symbolOf, Chosen, one, all, choiceOf, withChosen, withAllChosen, stepChosen, stepChoices, plain, guidedBy}
+use Rattle.cell_memory.specs.Memory.{cellOf, valueOf, guidedCell, guidedIn, withCell}
+use Rattle.cell_memory.specs.Memory.Laws.{cellOf-valueOf, guidedIn-same, choosing, length-withCell, withCell-other, withCell-guided, length-withChoice, withChoice-other, withChoice-guided, length-withChoices, withChoices-other, withChoices-guided}
+use Rattle.cell_steps.specs.Steps.{putFrom, putCell, withCells, symbolOf, Chosen, one, all, choiceOf, withChosen, withAllChosen, stepChosen, stepChoices, plain, guidedBy}
 
 -- ---- cells from a number on
 
@@ -83,13 +83,6 @@ module _ {X : Type 0} (put : List ℕ → ℕ → X → List ℕ) where
       putFrom-before Fits other xs (h .1) (put ws n x) (n + 1) i (omega arith) ∙ other ws n x (h .0) i d
 
 -- ---- cells
-
-cellOf-valueOf : (c : walks.Cell) → cellOf (valueOf c) ≡ c
-unfolding cellOf valueOf
-cellOf-valueOf walks.empty1 = refl
-cellOf-valueOf (walks.symbol a u s) = refl
-cellOf-valueOf walks.empty2 = refl
-cellOf-valueOf (walks.above w t) = refl
 
 length-withCells : (cs : List walks.Cell) (ws : List ℕ) (n : ℕ) → length (withCells ws n cs) ≡ length ws
 unfolding putFrom
