@@ -13,7 +13,6 @@ use Rattle.walks.specs.Cell.Formed.{Formed, cellAt}
 use Rattle.walks.specs.Guide.{Guided, leastChoice, startWalk}
 use Rattle.tables.specs.declared.Table.{Table}
 use Rattle.tables.specs.Held.{automatonOf}
-use Rattle.cell_memory.specs.declared.Cell.{Cell}
 use Rattle.cell_memory.specs.Memory.{valueOf, withCell}
 use Rattle.acceptance.specs.Words.{moveMet, edgeMet}
 use Rattle.acceptance.specs.Named.{Stands}
