@@ -3,8 +3,7 @@
 use Prim.Native.Nat.{ℕ, _+_, _-_, _≤_}
 use mathlib.Core.Path.{_≡_, refl, ap, sym, _∙_}
 use mathlib.Core.Option.{none, some}
-use mathlib.Core.List.{List, [], _++_, map}
-use native.Mathlib.Nat.{sub-zero}
+use mathlib.Core.List.{List, _++_, map}
 use native.Mathlib.Omega.{arith}
 use lib.ListN.{length, drop, replicate, length-map, length-replicate, replicate-append-replicate}
 use lib.Seq.{drop-at}
@@ -13,7 +12,8 @@ use Rattle.files.specs.Start.{startsOf}
 use Rattle.services.specs.Memory.{zeros, padded}
 use Rattle.services.specs.Saturate.{saturated}
 use Rattle.services.specs.Judge.{JudgeInput, JudgeDone, judgeLent, judgeLeft, judgeService, mark}
-use Rattle.judge.specs.Saturated.{lentOf}
+use Rattle.demands.specs.Demand1.Proof.{padded-none}
+use Rattle.sound_files.specs.Saturated.{lentOf}
 use Rattle.judge.specs.Cases.{refusedBefore, Passed, judgeInput, judgeDone, refused, exceeded, answered}
 
 drop-zeros : (n a : ℕ) → n ≤ a → drop n (zeros a) ≡ zeros (a - n)
@@ -22,11 +22,6 @@ drop-zeros n a h =
     ap (λ (k : ℕ). drop n (replicate k 0)) (let e : a ≡ n + (a - n) = omega arith in e)
     ∙ ap (drop n) (sym (replicate-append-replicate n (a - n) 0))
     ∙ drop-at (replicate n 0) (replicate (a - n) 0) n (length-replicate n 0)
-
--- no mark, in as many zeros as answers were lent
-padded-none : (a : ℕ) → zeros a ≡ padded a []
-unfolding padded zeros
-padded-none a = ap (λ (k : ℕ). replicate k 0) (sym (sub-zero a))
 
 done-same : {c d : ℕ} {m n e f a b : List ℕ} → c ≡ d → m ≡ n → e ≡ f → a ≡ b → judgeDone c m e a ≡ judgeDone d n f b
 done-same p q r s = λ i. record { code = p i; moves = q i; entries = r i; answers = s i }
@@ -37,14 +32,14 @@ module _ (x : JudgeInput) {m e a : List ℕ} where
   unfolding judgeLeft
   left-refused {c} k is h p q r =
       let same : c ≡ refusedBefore (x .case) (x .start) (x .answers) = is ∙ ap (refusedBefore (x .case) (x .start)) k in
-      done-same same p q (r ∙ padded-none (x .answers)) ∙ sym (refused x (λ z. h (same ∙ z)))
+      done-same same p q (r ∙ sym (padded-none (x .answers))) ∙ sym (refused x (λ z. h (same ∙ z)))
 
   module _ (through : Passed (x .case) (x .start) (x .answers)) {k l : ℕ} (kept : k ≡ x .moves) (kept′ : l ≡ x .entries)
       (p : m ≡ zeros k) (q : e ≡ zeros l) where
     pub left-exceeded : saturated (lentOf (x .case) (x .moves) (x .entries)) ≡ none → a ≡ zeros (x .answers) → judgeDone 9 m e a ≡ judgeService x
     unfolding judgeLeft judgeLent
     left-exceeded h z =
-        done-same refl (p ∙ ap zeros kept) (q ∙ ap zeros kept′) (z ∙ padded-none (x .answers)) ∙ sym (exceeded x through h)
+        done-same refl (p ∙ ap zeros kept) (q ∙ ap zeros kept′) (z ∙ sym (padded-none (x .answers))) ∙ sym (exceeded x through h)
 
     -- a₀ being the answers before they are marked
     pub left-judged : {T : Saturated} {a₀ : List ℕ} → saturated (lentOf (x .case) (x .moves) (x .entries)) ≡ some T → a₀ ≡ zeros (x .answers)

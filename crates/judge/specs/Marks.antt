@@ -1,9 +1,9 @@
 -- The marks of starts, by the words of the cells.
 -- Assumes nothing.
 pub mod Laws
-use Prim.Native.Nat.{ℕ, _+_, _*_, _≤_, _<_}
+use Prim.Native.Nat.{ℕ, _+_, _≤_, _<_}
 use mathlib.Core.Bool.{Bool, true, false}
-use mathlib.Core.Path.{_≡_, ap, sym, _∙_, subst}
+use mathlib.Core.Path.{_≡_, ap, sym, _∙_}
 use mathlib.Core.List.{List, [], _++_, map}
 use native.Mathlib.Omega.{arith}
 use lib.ListN.{length, getD, drop, set, length-map}
@@ -13,6 +13,7 @@ use Rattle.files.specs.Bytes.{records}
 use Rattle.files.specs.Bytes.Laws.{length-records, records-at}
 use Rattle.files.specs.Start.{Start, startOf}
 use Rattle.bytes_in.specs.Records.{recordAt}
+use Rattle.sound_files.specs.Starts.{startsIn}
 use Rattle.acceptance.specs.Written.{Written, written-more, written-all}
 
 -- 1 where the control is a member of the root's word, and 0 otherwise
@@ -26,24 +27,6 @@ mark-yes words x e f = rw (markBy, sym f ∙ e)
 pub mark-no : (words : List ℕ) (x : Start) {b : Bool} → b ≡ false → b ≡ member (getD words (x .root) 0) (x .control) → 0 ≡ markBy words x
 unfolding markBy
 mark-no words x e f = rw (markBy, sym f ∙ e)
-
--- the first n starts of a body
-unfoldable pub startsIn : ℕ → List ℕ → List Start
-startsIn n body = map startOf (records n 3 body)
-
--- The starts are in the body; each names a state below 64 and one of so many cells.
-pub record StartsStand (n : ℕ) (body : List ℕ) (cells : ℕ) : Type 0 where
-  pub starts-lent : n * 3 ≤ length body
-  pub controls-small : (i : ℕ) → i < n → startOf (recordAt 3 i body) .control < 64
-  pub roots-there : (i : ℕ) → i < n → startOf (recordAt 3 i body) .root < cells
-
--- start number i, as it was read, names a cell and a state
-pub start-stands : {n cells : ℕ} {body : List ℕ} {i : ℕ} {x : Start} → StartsStand n body cells → i < n → x ≡ startOf (recordAt 3 i body)
-    → (x .root < cells) × (x .control < 64)
-start-stands {cells = cells} {i = i} h l e = (
-  subst (λ (k : ℕ). k < cells) (ap (λ (y : Start). y .root) (sym e)) (h .roots-there i l),
-  subst (λ (k : ℕ). k < 64) (ap (λ (y : Start). y .control) (sym e)) (h .controls-small i l),
-)
 
 -- ---- one mark more
 

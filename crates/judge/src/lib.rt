@@ -1,24 +1,22 @@
 // The service judge: one byte a start, 1 or 0.
 ghost use mathlib.Core.Path.{_≡_};
-ghost use mathlib.Core.Bool.{true};
 ghost use mathlib.Core.List.{_++_, map};
 ghost use Prim.Native.Nat.{ℕ, _<_, _≤_};
 ghost use lib.ListN.{length, getD, drop};
-ghost use Rattle.files.specs.Bytes.{placed};
-ghost use Rattle.files.specs.Start.{startBodies, startsOf, cellsOf};
+ghost use Rattle.files.specs.Start.{startsOf};
 ghost use Rattle.services.specs.Memory.{zeros};
 ghost use Rattle.services.specs.Judge;
 ghost use Rattle.services.specs.Judge.{judgeService};
 ghost use Rattle.tables.specs.Held.{automatonOf};
 ghost use Rattle.start_records.specs.Values.{theStart};
 ghost use Rattle.acceptance.specs.Named.{Stands};
-ghost use Rattle.acceptance.specs.Cells.{cellWords};
-ghost use Rattle.judge.specs.Marks.{markBy, startsIn, StartsStand};
-ghost use Rattle.judge.specs.Sound.{StartSound};
-ghost use Rattle.judge.specs.Cases.{refusedBefore, Passed, judgeInput, judgeDone};
+ghost use Rattle.sound_files.specs.Starts.{startsIn, StartsStand};
+ghost use Rattle.sound_files.specs.Sound.{StartSound};
+ghost use Rattle.judge.specs.Marks.{markBy};
 ghost use Rattle.demands.specs.Demand1.{JudgeStates};
 ghost use Rattle.demands.specs.Demand2.{Marks};
 ghost use Rattle.judge.specs.Demands.{SizeRefused};
+ghost use Rattle.judge.specs.Cases.{refusedBefore, Passed, judgeInput, judgeDone};
 use start_records::Start;
 use tables::Table;
 
@@ -59,25 +57,6 @@ fn put_marks(body: &[u8], n: usize, words: &[u64], answers: &mut [u8])
     }
 }
 
-// ---- the words of the cells
-
-// Writes the word of each cell of the start file, for the automaton in these tables.
-pub fn start_words(
-    z: Table,
-    inner: &[u64],
-    entries: &[u64],
-    moves: &[u64],
-    start: &[u8],
-    words: &mut [u64],
-)
-    requires { ⌜ Stands z (now inner) (now entries) (now moves) × (placed startBodies (now start) ≡ true) × (256 ≤ length (now words)) ⌝ }
-    ensures { λ _. ⌜ now (words .exit) ≡ cellWords (automatonOf z (now (inner .entry)) (now (entries .entry)) (now (moves .entry))) (cellsOf (now (start .entry))) ++ drop (length (cellsOf (now (start .entry)))) (now (words .entry)) ⌝ }
-{
-    let cells = start_file::cell_body(start);
-    let n = bytes_in::count_of(start, 1);
-    acceptance::fill_words(z, inner, entries, moves, cells, n, words);
-}
-
 // ---- the service
 
 // Writes the marks of the starts, for the automaton in these tables.
@@ -93,7 +72,7 @@ fn mark_starts(
     ensures { λ _. ⌜ now (answers .exit) ≡ map (Judge.mark (automatonOf z (now (inner .entry)) (now (entries .entry)) (now (moves .entry))) (now (start .entry))) (startsOf (now (start .entry))) ++ drop (length (startsOf (now (start .entry)))) (now (answers .entry)) ⌝ }
 {
     let mut words = [0u64; 256];
-    start_words(z, inner, entries, moves, start, &mut words);
+    sound_files::start_words(z, inner, entries, moves, start, &mut words);
     let body = start_file::start_body(start);
     let n = bytes_in::count_of(start, 0);
     put_marks(body, n, &words, answers);
@@ -103,26 +82,14 @@ fn mark_starts(
 fn refusal_before(case: &[u8], start: &[u8], answers: usize) -> u64
     ensures { λ r. ⌜ r ≡ refusedBefore (now (case .entry)) (now (start .entry)) answers ⌝ }
 {
-    let c = case_file::check_case(case);
-    if c != 0 {
-        return c;
-    }
-    let s = start_file::check_start(case, start);
-    if s != 0 {
-        return s;
+    let files = sound_files::files_refusal(case, start);
+    if files != 0 {
+        return files;
     }
     if answers < bytes_in::count_of(start, 0) {
         return 8;
     }
     0
-}
-
-// Writes zero into both tables.
-fn zero_tables(moves: &mut [u64], entries: &mut [u64])
-    ensures { λ _. ⌜ (now (moves .exit) ≡ zeros (length (now (moves .entry)))) × (now (entries .exit) ≡ zeros (length (now (entries .entry)))) ⌝ }
-{
-    tables::zero(moves);
-    tables::zero(entries);
 }
 
 // Judges sound files. All lent memory is zero before.
@@ -142,11 +109,11 @@ fn judge_sound(
     let r = saturate::saturate_case(case, &mut inner, entries, moves, &mut pending, &mut sizes);
     let table = r.table;
     if !r.fits {
-        zero_tables(moves, entries);
+        sound_files::zero_tables(moves, entries);
         return 9;
     }
     mark_starts(table, &inner, entries, moves, start, answers);
-    zero_tables(moves, entries);
+    sound_files::zero_tables(moves, entries);
     0
 }
 
@@ -164,7 +131,7 @@ pub fn judge(
     ensures demand2 { λ r. ⌜ (r ≡ 0 → (n : ℕ) → n < length (startsOf (now (start .entry))) → Marks (now (case .entry)) (now (start .entry)) n (getD (now (answers .exit)) n 0)) ⌝ }
     ensures size { λ r. ⌜ SizeRefused (judgeInput (now (case .entry)) (now (start .entry)) (length (now (moves .entry))) (length (now (entries .entry))) (length (now (answers .entry)))) r ⌝ }
 {
-    zero_tables(moves, entries);
+    sound_files::zero_tables(moves, entries);
     zero_bytes(answers);
     let refusal = refusal_before(case, start, answers.len());
     if refusal != 0 {

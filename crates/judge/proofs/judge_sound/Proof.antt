@@ -1,9 +1,8 @@
 -- `judge::judge_sound` meets its contract.
 -- Assumes nothing.
 use borrow.Author.Tests.{not-true, not-false}
-use Rattle.start_file.specs.Checks.{filesOf}
-use Rattle.judge.specs.Sound.{start-sound}
-use Rattle.judge.specs.Saturated.{table-there, table-none, table-stands}
+use Rattle.sound_files.specs.Sound.{start-sound}
+use Rattle.sound_files.specs.Saturated.{table-there, table-none, table-stands}
 use Rattle.judge.specs.Left.{left-exceeded, left-judged}
 use borrow.Author.Needs.{needs}
 use Rattle.judge.proofs.judge_sound.Statement.{statement}
@@ -47,8 +46,8 @@ mark-starts-requires c κs =
     let s = c .before .before .before .before .before .before .before .before .before .before .before .before .before .before in
     let e = s .before .before .before .before .before .before .before .before .before .before .before in
     let p = e .pre .0 in (
-      table-stands (s .saturate-case .ensures) (p .sound-case) (not-false (s .saturate-case .result .fits) (c .before .before .before .before .if1 .left)),
-      start-sound (filesOf _ _) (p .sound-case) (p .sound-start),
+      table-stands (s .saturate-case .ensures) (p .sound .sound-case) (not-false (s .saturate-case .result .fits) (c .before .before .before .before .if1 .left)),
+      start-sound (p .sound),
       p .answers-lent,
     )
 

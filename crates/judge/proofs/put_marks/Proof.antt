@@ -5,7 +5,8 @@ use mathlib.Core.Path.{refl}
 use mathlib.Core.List.{map}
 use borrow.Author.Needs.{needs}
 use Rattle.acceptance.specs.Written.{Written, written-none}
-use Rattle.judge.specs.Marks.{markBy, startsIn, start-stands, marks-more, marks-all}
+use Rattle.sound_files.specs.Starts.{startsIn, start-stands}
+use Rattle.judge.specs.Marks.{markBy, marks-more, marks-all}
 use Rattle.judge.proofs.put_marks.Statement.{statement}
 use Rattle.judge.proofs.put_marks.Tie as tie
 

@@ -1,17 +1,18 @@
--- `judge::start_words` meets its contract.
+-- `sound_files::start_words` meets its contract.
 -- Assumes nothing.
+use native.Mathlib.Omega.{arith}
 use Rattle.tables.specs.Held.{automatonOf}
-use Rattle.judge.specs.Sound.{start-long, cells-lent}
-use Rattle.judge.specs.Marks.Laws.{words-are}
+use Rattle.sound_files.specs.Sound.{start-long, cells-lent}
+use Rattle.sound_files.specs.Words.{words-are}
 use borrow.Author.Needs.{needs}
-use Rattle.judge.proofs.start_words.Statement.{statement}
-use Rattle.judge.proofs.start_words.Tie as tie
+use Rattle.sound_files.proofs.start_words.Statement.{statement}
+use Rattle.sound_files.proofs.start_words.Tie as tie
 
 cell-body-requires : tie.Need-cell-body-requires
 cell-body-requires c κs = search needs
 
 count-of-requires : tie.Need-count-of-requires
-count-of-requires c κs = start-long _ (c .before .before .before .before .before .before .pre .1)
+count-of-requires c κs = let l = start-long _ (c .before .before .before .before .before .before .pre .1) in omega arith
 
 fill-words-requires : tie.Need-fill-words-requires
 fill-words-requires c κs =

@@ -1,0 +1,21 @@
+-- `sound_files::files_refusal` meets its contract.
+-- Assumes nothing.
+use Rattle.sound_files.specs.Refusal.{by-case, by-start}
+use borrow.Author.Needs.{needs}
+use Rattle.sound_files.proofs.files_refusal.Statement.{statement}
+use Rattle.sound_files.proofs.files_refusal.Tie as tie
+
+check-case-requires : tie.Need-check-case-requires
+check-case-requires c κs = search needs
+
+returns : tie.Need-returns
+returns c = by-case _ _ (c .before .check-case .ensures) (c .if1 .taken)
+
+check-start-requires : tie.Need-check-start-requires
+check-start-requires c κs = search needs
+
+returns-2 : tie.Need-returns-2
+returns-2 c = by-start _ _ (c .before .before .check-case .ensures) (c .before .if1 .left) (c .check-start .ensures)
+
+pub files-refusal-spec : {M : Type 1} → statement M
+files-refusal-spec = tie.close (tie.spec check-case-requires returns check-start-requires returns-2)

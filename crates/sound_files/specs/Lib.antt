@@ -1,0 +1,5 @@
+pub mod Starts
+pub mod Sound
+pub mod Words
+pub mod Refusal
+pub mod Saturated
