@@ -11,9 +11,8 @@ use borrow.Author.Tests.{eq-eqb, ne-eqb}
 use Rattle.words.specs.Sets.{join, single, members}
 use Rattle.words.specs.Sets.Laws.{members-empty}
 use Rattle.words.specs.Lists.{when}
-use Rattle.words.specs.Lists.Laws.{each-same}
-use Rattle.automata.specs.Automaton.{Edge, Entry, noEdge, edges, edgeAt, edgesOf, entryEdges, moveAt, movesOf, entryAt, entryOf, entryControl, entrySet}
-use Rattle.automata.specs.Derivation.{Result, Joins, joinMove, resultOf}
+use Rattle.automata.specs.Automaton.{Automaton, Edge, Entry, noEdge, edges, edgeAt, edgesOf, entryEdges, entryAt, entryOf, entryControl, entrySet}
+use Rattle.automata.specs.Derivation.{Result, Joins, resultOf}
 use Rattle.automata.specs.Saturation.{isResult, held}
 use Rattle.tables.specs.declared.Table.{Table}
 use Rattle.tables.specs.Rows.{rowsIn}
@@ -23,8 +22,7 @@ use Rattle.tables.specs.Held.{automatonOf, tableOf, edgesIn}
 use Rattle.tables.specs.Pending.{pendingIn}
 use Rattle.readings.specs.Offers.{Collects, offerAll}
 use Rattle.readings.specs.Offers.Laws.{Passed, passed-none, passed-more, passed-all, collects-same, collects-none}
-use Rattle.readings.specs.Readings.{fromJoins, readResults, edgeResults}
-use Rattle.readings.specs.Readings.Laws.{joins-same}
+use Rattle.readings.specs.Readings.{readResults, edgeResults}
 
 -- ---- what does not depend on the inner edges
 
@@ -32,15 +30,6 @@ module _ (z : Table) (inner entries moves : List ℕ) where
   held-edges : held (tableOf z entries moves) ≡ held (automatonOf z inner entries moves)
   unfolding held isResult entryOf entryAt resultOf entryControl entrySet
   held-edges = refl
-
-  pub read-edges-same : (p a S : ℕ) (rs : List ℕ) (j : Joins) → readResults (tableOf z entries moves) p a S rs j ≡ readResults (automatonOf z inner entries moves) p a S rs j
-  unfolding readResults movesOf moveAt
-  read-edges-same p a S [] j = refl
-  read-edges-same p a S (r ∷ rs) j = each-same (movesOf (tableOf z entries moves) r a)
-      (λ i. fromJoins (joinMove j (moveAt (tableOf z entries moves) i)) (λ k. readResults (tableOf z entries moves) p a S rs k))
-      (λ i. fromJoins (joinMove j (moveAt (tableOf z entries moves) i)) (λ k. readResults (automatonOf z inner entries moves) p a S rs k))
-      (λ i m. joins-same (joinMove j (moveAt (tableOf z entries moves) i)) (λ k. readResults (tableOf z entries moves) p a S rs k)
-      (λ k. readResults (automatonOf z inner entries moves) p a S rs k) (λ k. read-edges-same p a S rs k))
 
   pub collects-edges : {room n r : ℕ} {t t′ : List ℕ} {xs : List Result} → Collects (tableOf z entries moves) room n t xs r t′ → Collects (automatonOf z inner entries moves) room n t xs r t′
   collects-edges {room} {n} {t = t} {xs = xs} c =
@@ -109,21 +98,21 @@ module _ (z : Table) (inner entries moves : List ℕ) (p a : ℕ) (j : Joins) (q
           rw (et, ek)
           (edges-more k t′ (collects-same (ap (λ (b : Bool). when b (resultsBy e)) (sym (ne-eqb (e .state) q y))) (collects-none k t′ (h .offered .number))) refl)
 
-    pub edges-all : (left i k : ℕ) (t′ : List ℕ) → EdgesUpTo room n t i k t′ → z .edges + z .entries ≤ i → members left ≡ q ∷ qs
-        → Collects (automatonOf z inner entries moves) room n t (edgeResults (automatonOf z inner entries moves) p a j (members left) N S) k t′
+    pub edges-all : (i k : ℕ) (t′ : List ℕ) → EdgesUpTo room n t i k t′ → z .edges + z .entries ≤ i
+        → Collects (automatonOf z inner entries moves) room n t (edgeResults (automatonOf z inner entries moves) p a j (q ∷ qs) N S) k t′
     unfolding edgeResults edgesOf edges edgeStep
-    edges-all left i k t′ h b e =
+    edges-all i k t′ h b =
         let len : length (edgesIn z inner entries) ≡ z .edges + z .entries = length-edgesIn z inner entries in
-        collects-same (ap (λ (l : List ℕ). edgeResults (automatonOf z inner entries moves) p a j l N S) (sym e))
-        (passed-all (automatonOf z inner entries moves) room (edgesTest q) (edgesIn z inner entries) noEdge edgeStep h (omega arith))
+        passed-all (automatonOf z inner entries moves) room (edgesTest q) (edgesIn z inner entries) noEdge edgeStep h (omega arith)
+
+-- the first of the states left, and the others
+pub edges-left : (A : Automaton) (p a : ℕ) (j : Joins) (N S left q : ℕ) (qs : List ℕ) {room n k : ℕ} {t t′ : List ℕ} → members left ≡ q ∷ qs
+    → Collects A room n t (edgeResults A p a j (q ∷ qs) N S) k t′ → Collects A room n t (edgeResults A p a j (members left) N S) k t′
+edges-left A p a j N S left q qs e c = collects-same (ap (λ (l : List ℕ). edgeResults A p a j l N S) (sym e)) c
 
 -- no state is left
-pub edges-end : (z : Table) (inner entries moves : List ℕ) (p a : ℕ) (j : Joins) (N S left room n k : ℕ) (t t′ : List ℕ) → left ≡ 0
-    → Collects (tableOf z entries moves) room n t (readResults (tableOf z entries moves) p a S (members N) j) k t′
-    → Collects (automatonOf z inner entries moves) room n t (edgeResults (automatonOf z inner entries moves) p a j (members left) N S) k t′
+pub edges-end : (A : Automaton) (p a : ℕ) (j : Joins) (N S left room n k : ℕ) (t t′ : List ℕ) → left ≡ 0
+    → Collects A room n t (readResults A p a S (members N) j) k t′ → Collects A room n t (edgeResults A p a j (members left) N S) k t′
 unfolding edgeResults
-edges-end z inner entries moves p a j N S left room n k t t′ e c =
-    collects-same
-    (read-edges-same z inner entries moves p a S (members N) j
-    ∙ ap (λ (l : List ℕ). edgeResults (automatonOf z inner entries moves) p a j l N S) (sym (ap members e ∙ members-empty)))
-    (collects-edges z inner entries moves c)
+edges-end A p a j N S left room n k t t′ e c =
+    collects-same (ap (λ (l : List ℕ). edgeResults A p a j l N S) (sym (ap members e ∙ members-empty))) c

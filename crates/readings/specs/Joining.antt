@@ -1,4 +1,4 @@
--- Joins in the code, as the joins of the definition.
+-- Joins in the code, as the joins of the definition, and results in the code.
 -- Assumes nothing.
 use Prim.Native.Nat.{ℕ, max}
 use mathlib.Core.Bool.{Bool, true, false, _&&_}
@@ -8,11 +8,16 @@ use lib.Dec.{eqb}
 use Rattle.words.specs.Sets.{join}
 use Rattle.automata.specs.Automaton.{Move}
 use Rattle.automata.specs.Derivation.{Joins, clash, joinMove}
+use Rattle.tables.specs.declared.Outcome.{Outcome}
 use Rattle.readings.specs.declared.Joins.{Joins as JoinWords}
 use Rattle.readings.specs.declared.Joined.{Joined}
 
 abbrev pub theJoins : ℕ → ℕ → ℕ → Joins
 theJoins order b r = record { order = order; B = b; R = r }
+
+-- a result in the code
+abbrev pub theOutcome : ℕ → ℕ → ℕ → ℕ → ℕ → ℕ → Outcome
+theOutcome p S a order B R = record { control = p; s = S; symbol = a; order = order; b = B; r = R }
 
 abbrev pub asJoins : JoinWords → Joins
 asJoins j = record { order = j .order; B = j .b; R = j .r }

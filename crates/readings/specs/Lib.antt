@@ -4,3 +4,4 @@ pub mod Joining
 pub mod Holding
 pub mod Turns
 pub mod Edges
+pub mod Remembering

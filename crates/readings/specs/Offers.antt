@@ -1,6 +1,7 @@
 -- The collecting of results: each is offered in turn, and kept unless it is held already or was kept before, as long as there is room.
 -- Assumes nothing.
 pub mod Laws
+pub mod Again
 use Prim.Native.Nat.{ℕ, _+_, _*_, _≤_}
 use mathlib.Core.Bool.{Bool, true, false}
 use mathlib.Core.Path.{_≡_}

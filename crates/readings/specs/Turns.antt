@@ -1,6 +1,6 @@
 -- The turns of the loops over candidates.
 -- Assumes nothing.
-use Prim.Native.Nat.{ℕ, suc, _+_, _≤_, _<_}
+use Prim.Native.Nat.{ℕ, suc, _+_, _*_, _≤_, _<_}
 use mathlib.Core.Bool.{Bool, true, false, _&&_}
 use mathlib.Core.Path.{_≡_, refl, ap, sym, _∙_}
 use mathlib.Core.Option.{Option}
@@ -15,14 +15,16 @@ use Rattle.words.specs.Lists.Laws.{by-test}
 use Rattle.automata.specs.Automaton.{Automaton, Move, noMove, moveAt, movesOf}
 use Rattle.automata.specs.Derivation.{Result, Joins, joinMove}
 use Rattle.tables.specs.declared.Table.{Table}
+use Rattle.tables.specs.declared.Outcome.{Outcome}
 use Rattle.tables.specs.Rows.{rowAt, rowsIn}
 use Rattle.tables.specs.Rows.Laws.{length-rowsIn, getD-rowsIn}
-use Rattle.tables.specs.Records.{moveRow}
-use Rattle.tables.specs.Held.{tableOf}
+use Rattle.tables.specs.Records.{moveRow, asResult}
+use Rattle.tables.specs.Held.{automatonOf, tableOf}
 use Rattle.readings.specs.Offers.{Collects}
 use Rattle.readings.specs.Offers.Laws.{Passed, passed-none, passed-more, passed-all, collects-same, collects-none}
-use Rattle.readings.specs.Readings.{fromJoins, resultTo, readResults}
-use Rattle.readings.specs.Joining.{joinsIf, candidateOf}
+use Rattle.readings.specs.Edges.{collects-edges}
+use Rattle.readings.specs.Readings.{fromJoins, readResults}
+use Rattle.readings.specs.Joining.{theJoins, theOutcome, joinsIf, candidateOf}
 
 -- ---- moves of one state
 
@@ -48,59 +50,66 @@ module _ (A : Automaton) (p a S : ℕ) (j : Joins) (r : ℕ) (rs : List ℕ) whe
   abbrev pub ReadUpTo : ℕ → ℕ → List ℕ → ℕ → ℕ → List ℕ → Type 0
   ReadUpTo room n t i k t′ = Passed A room (movesTest r a) (A .moves) noMove moveResults n t i k t′
 
-module _ (z : Table) (entries moves : List ℕ) (p a S : ℕ) (j : Joins) (r : ℕ) (rs : List ℕ) (room n : ℕ) (t : List ℕ) where
-  pub read-none : n ≤ room + 1 → ReadUpTo (tableOf z entries moves) p a S j r rs room n t 0 n t
-  read-none h = passed-none (tableOf z entries moves) room (movesTest r a) (rowsIn moveRow (z .moves) moves) noMove (moveResults (tableOf z entries moves) p a S j r rs) n t h
+module _ (z : Table) (inner entries moves : List ℕ) (p a S : ℕ) (j : Joins) (r : ℕ) (rs : List ℕ) (room n : ℕ) (t : List ℕ) where
+  pub read-none : n ≤ room + 1 → ReadUpTo (automatonOf z inner entries moves) p a S j r rs room n t 0 n t
+  read-none h = passed-none (automatonOf z inner entries moves) room (movesTest r a) (rowsIn moveRow (z .moves) moves) noMove (moveResults (automatonOf z inner entries moves) p a S j r rs) n t h
 
   module _ (i k : ℕ) (t′ : List ℕ) (m : Move) (fits : Bool) (joins : Joins)
-      (h : ReadUpTo (tableOf z entries moves) p a S j r rs room n t i k t′)
+      (h : ReadUpTo (automatonOf z inner entries moves) p a S j r rs room n t i k t′)
       (b : i < z .moves) (e : m ≡ rowAt moveRow moves i) (f : joinsIf fits joins ≡ candidateOf r a j m) where
-    read-list : when fits (readResults (tableOf z entries moves) p a S rs joins)
-        ≡ when (movesTest r a (getD (rowsIn moveRow (z .moves) moves) i noMove)) (moveResults (tableOf z entries moves) p a S j r rs i)
+    read-list : when fits (readResults (automatonOf z inner entries moves) p a S rs joins)
+        ≡ when (movesTest r a (getD (rowsIn moveRow (z .moves) moves) i noMove)) (moveResults (automatonOf z inner entries moves) p a S j r rs i)
     unfolding moveResults moveAt
     read-list =
         let q : m ≡ getD (rowsIn moveRow (z .moves) moves) i noMove = e ∙ sym (getD-rowsIn moveRow (z .moves) moves i noMove b) in
-        let g : Joins → List Result = readResults (tableOf z entries moves) p a S rs in
+        let g : Joins → List Result = readResults (automatonOf z inner entries moves) p a S rs in
         sym (joinsIf-list fits joins g)
         ∙ ap (λ (o : Option Joins). fromJoins o g) f
         ∙ sym (candidate-list r a j m g)
         ∙ ap (λ (x : Move). when (movesTest r a x) (fromJoins (joinMove j x) g)) q
 
-    pub read-more : (k′ : ℕ) (t″ : List ℕ) → Collects (tableOf z entries moves) room k t′ (when fits (readResults (tableOf z entries moves) p a S rs joins)) k′ t″
-        → length t″ ≡ length t′ → ReadUpTo (tableOf z entries moves) p a S j r rs room n t (i + 1) k′ t″
+    pub read-more : (k′ : ℕ) (t″ : List ℕ) → Collects (automatonOf z inner entries moves) room k t′ (when fits (readResults (automatonOf z inner entries moves) p a S rs joins)) k′ t″
+        → length t″ ≡ length t′ → ReadUpTo (automatonOf z inner entries moves) p a S j r rs room n t (i + 1) k′ t″
     read-more k′ t″ c l =
         let len : length (rowsIn moveRow (z .moves) moves) ≡ z .moves = length-rowsIn moveRow (z .moves) moves in
-        passed-more (tableOf z entries moves) room (movesTest r a) (rowsIn moveRow (z .moves) moves) noMove (moveResults (tableOf z entries moves) p a S j r rs)
+        passed-more (automatonOf z inner entries moves) room (movesTest r a) (rowsIn moveRow (z .moves) moves) noMove (moveResults (automatonOf z inner entries moves) p a S j r rs)
         h (omega arith) (collects-same read-list c) l
 
-    pub read-yes : (k′ k″ : ℕ) (t″ t‴ : List ℕ) → fits ≡ true → Collects (tableOf z entries moves) room k t′ (readResults (tableOf z entries moves) p a S rs joins) k′ t″
-        → length t″ ≡ length t′ → t‴ ≡ t″ → k″ ≡ k′ → ReadUpTo (tableOf z entries moves) p a S j r rs room n t (i + 1) k″ t‴
+    pub read-yes : (k′ k″ : ℕ) (t″ t‴ : List ℕ) → fits ≡ true → Collects (automatonOf z inner entries moves) room k t′ (readResults (automatonOf z inner entries moves) p a S rs joins) k′ t″
+        → length t″ ≡ length t′ → t‴ ≡ t″ → k″ ≡ k′ → ReadUpTo (automatonOf z inner entries moves) p a S j r rs room n t (i + 1) k″ t‴
     unfolding when
     read-yes k′ k″ t″ t‴ y c l et ek =
         rw (et, ek)
-        (read-more k′ t″ (collects-same (ap (λ (b : Bool). when b (readResults (tableOf z entries moves) p a S rs joins)) (sym y)) c) l)
+        (read-more k′ t″ (collects-same (ap (λ (b : Bool). when b (readResults (automatonOf z inner entries moves) p a S rs joins)) (sym y)) c) l)
 
-    pub read-no : (k′ : ℕ) (t″ : List ℕ) → fits ≡ false → t″ ≡ t′ → k′ ≡ k → ReadUpTo (tableOf z entries moves) p a S j r rs room n t (i + 1) k′ t″
+    pub read-no : (k′ : ℕ) (t″ : List ℕ) → fits ≡ false → t″ ≡ t′ → k′ ≡ k → ReadUpTo (automatonOf z inner entries moves) p a S j r rs room n t (i + 1) k′ t″
     unfolding when
     read-no k′ t″ y et ek =
         rw (et, ek)
-        (read-more k t′ (collects-same (ap (λ (b : Bool). when b (readResults (tableOf z entries moves) p a S rs joins)) (sym y)) (collects-none k t′ (h .offered .number))) refl)
+        (read-more k t′ (collects-same (ap (λ (b : Bool). when b (readResults (automatonOf z inner entries moves) p a S rs joins)) (sym y)) (collects-none k t′ (h .offered .number))) refl)
 
-  pub read-all : (left i k : ℕ) (t′ : List ℕ) → ReadUpTo (tableOf z entries moves) p a S j r rs room n t i k t′ → z .moves ≤ i → members left ≡ r ∷ rs
-      → Collects (tableOf z entries moves) room n t (readResults (tableOf z entries moves) p a S (members left) j) k t′
+  pub read-all : (i k : ℕ) (t′ : List ℕ) → ReadUpTo (automatonOf z inner entries moves) p a S j r rs room n t i k t′ → z .moves ≤ i
+      → Collects (automatonOf z inner entries moves) room n t (readResults (automatonOf z inner entries moves) p a S (r ∷ rs) j) k t′
   unfolding readResults movesOf moveResults
-  read-all left i k t′ h b e =
+  read-all i k t′ h b =
       let len : length (rowsIn moveRow (z .moves) moves) ≡ z .moves = length-rowsIn moveRow (z .moves) moves in
-      collects-same (ap (λ (l : List ℕ). readResults (tableOf z entries moves) p a S l j) (sym e))
-      (passed-all (tableOf z entries moves) room (movesTest r a) (rowsIn moveRow (z .moves) moves) noMove (moveResults (tableOf z entries moves) p a S j r rs) h (omega arith))
+      passed-all (automatonOf z inner entries moves) room (movesTest r a) (rowsIn moveRow (z .moves) moves) noMove (moveResults (automatonOf z inner entries moves) p a S j r rs) h (omega arith)
+
+-- the first of the states left, and the others
+pub read-left : (A : Automaton) (p a S : ℕ) (j : Joins) (left r : ℕ) (rs : List ℕ) {room n k : ℕ} {t t′ : List ℕ} → members left ≡ r ∷ rs
+    → Collects A room n t (readResults A p a S (r ∷ rs) j) k t′ → Collects A room n t (readResults A p a S (members left) j) k t′
+read-left A p a S j left r rs e c = collects-same (ap (λ (l : List ℕ). readResults A p a S l j) (sym e)) c
 
 -- no state is left
-pub read-end : (A : Automaton) (p a S : ℕ) (j : Joins) (left room n k : ℕ) (t t′ : List ℕ) → left ≡ 0
-    → Collects A room n t (resultTo p a S j ∷ []) k t′ → Collects A room n t (readResults A p a S (members left) j) k t′
+pub read-end : (z : Table) (inner entries moves : List ℕ) (p a S : ℕ) (order B R : ℕ) (x : Outcome) (left room n k : ℕ) (t t′ : List ℕ) → left ≡ 0 → x ≡ theOutcome p S a order B R
+    → Collects (tableOf z entries moves) room n t (asResult x ∷ []) k t′
+    → Collects (automatonOf z inner entries moves) room n t (readResults (automatonOf z inner entries moves) p a S (members left) (theJoins order B R)) k t′
 unfolding readResults
-read-end A p a S j left room n k t t′ e c =
-    collects-same (ap (λ (l : List ℕ). readResults A p a S l j) (sym (ap members e ∙ members-empty))) c
+read-end z inner entries moves p a S order B R x left room n k t t′ e f c =
+    collects-same
+    (ap (λ (y : Outcome). asResult y ∷ []) f ∙ ap (λ (l : List ℕ). readResults (automatonOf z inner entries moves) p a S l (theJoins order B R)) (sym (ap members e ∙ members-empty)))
+    (collects-edges z inner entries moves c)
 
--- fewer states are left
-pub fewer : (l rs : List ℕ) (r m : ℕ) → l ≡ r ∷ rs → length l ≡ m → length rs < m
-fewer l rs r m e h = let k : length l ≡ suc (length rs) = ap length e in omega arith
+-- fewer states are left, twice their number and one more where one of them is set apart
+pub fewer-left : (l rs : List ℕ) (r m : ℕ) → l ≡ r ∷ rs → length l * 2 ≡ m → length rs * 2 + 1 < m
+fewer-left l rs r m e h = let k : length l ≡ suc (length rs) = ap length e in omega arith

@@ -1,22 +1,17 @@
 // The results of a round: what each rule gives from the table of the earlier rounds, by one choice of a move for each state of a set. Results
 // that are not yet held are collected in a table of their own, sorted, each once; the automaton's tables are only read.
 ghost use mathlib.Core.Path.{_≡_};
-ghost use mathlib.Core.Bool.{_&&_};
 ghost use mathlib.Core.List.{[], _∷_};
-ghost use Prim.Native.Nat.{_<_, _≤_, _+_, _*_, max};
-ghost use lib.ListN.{length};
-ghost use lib.Dec.{eqb};
+ghost use Prim.Native.Nat.{max};
 ghost use Rattle.words.specs.Sets.{members};
-ghost use Rattle.words.specs.Lists.{when};
-ghost use Rattle.automata.specs.Automaton.{entryOf, entrySet};
 ghost use Rattle.automata.specs.Derivation.{clash, joinMove};
 ghost use Rattle.automata.specs.Saturation.{isResult, held};
-ghost use Rattle.tables.specs.Rows.{rowAt};
-ghost use Rattle.tables.specs.Records.{asMove, asResult, moveRow, entryRow};
+ghost use Rattle.tables.specs.Records.{asMove, asResult};
 ghost use Rattle.tables.specs.Held.{automatonOf, tableOf, EdgesStand, EntriesStand, MovesStand};
-ghost use Rattle.readings.specs.Joining.{theJoins, asJoins, asJoined, candidateOf};
+ghost use Rattle.readings.specs.Joining.{theJoins, theOutcome, asJoins, asJoined, candidateOf};
 ghost use Rattle.readings.specs.Offers.{Collects, Room};
 ghost use Rattle.readings.specs.Readings.{readResults, edgeResults};
+ghost use Rattle.readings.specs.Remembering.{Remembers};
 
 // Joined annotation sets, of one order, and joined rest sets.
 pub struct Joins {
@@ -161,10 +156,27 @@ pub fn offer(
     tables::insert_result(out, n, room, x)
 }
 
+// The result (order, b, r) to the goal's symbol of the goal's entry with the set s.
+pub fn outcome(to: Goal, s: u64, order: u64, b: u64, r: u64) -> tables::Outcome
+    ensures { λ x. ⌜ x ≡ theOutcome (to .control) s (to .symbol) order b r ⌝ }
+{
+    tables::Outcome {
+        control: to.control,
+        s: s,
+        symbol: to.symbol,
+        order: order,
+        b: b,
+        r: r,
+    }
+}
+
 // Collects the results of the readings of the goal's symbol from the order-1 states left, joined to (order, b, r), for the set s: one choice
-// of a move for each state.
+// of a move for each state. The rows of `seen` hold states of this recursion that were worked through: all their results are held or
+// collected, so such a state is passed over. Which states stand there at the end is left open. `inner` serves the contract alone: the states
+// are those of the automaton with these edges.
 pub fn read_from(
     z: tables::Table,
+    inner: &[u64],
     entries: &[u64],
     moves: &[u64],
     to: Goal,
@@ -173,52 +185,77 @@ pub fn read_from(
     order: u64,
     b: u64,
     r: u64,
+    seen: &mut [u64],
     out: &mut [u64],
     n: usize,
     room: usize,
 ) -> usize
-    requires { ⌜ EntriesStand z (now entries) × MovesStand z (now moves) × Room room n (now out) ⌝ }
-    ensures { λ k. ⌜ Collects (tableOf z (now (entries .entry)) (now (moves .entry))) room n (now (out .entry)) (readResults (tableOf z (now (entries .entry)) (now (moves .entry))) (to .control) (to .symbol) s (members left) (theJoins order b r)) k (now (out .exit)) ⌝ }
+    requires { ⌜ EntriesStand z (now entries) × MovesStand z (now moves) × Room room n (now out) × Remembers (automatonOf z (now inner) (now entries) (now moves)) room n (now out) (now seen) ⌝ }
+    ensures { λ k. ⌜ Collects (automatonOf z (now (inner .entry)) (now (entries .entry)) (now (moves .entry))) room n (now (out .entry)) (readResults (automatonOf z (now (inner .entry)) (now (entries .entry)) (now (moves .entry))) (to .control) (to .symbol) s (members left) (theJoins order b r)) k (now (out .exit)) ⌝ }
+    ensures { λ k. ⌜ Remembers (automatonOf z (now (inner .entry)) (now (entries .entry)) (now (moves .entry))) room k (now (out .exit)) (now (seen .exit)) ⌝ }
 {
     if room < n {
         return n;
     }
     if left == 0 {
-        let x = tables::Outcome {
-            control: to.control,
-            s: s,
-            symbol: to.symbol,
-            order: order,
-            b: b,
-            r: r,
-        };
+        let x = outcome(to, s, order, b, r);
         return offer(z, entries, moves, x, out, n, room);
     }
+    let x = remembered::read_state(to.control, to.symbol, s, left, order, b, r);
+    let row = remembered::place(seen, x);
+    if remembered::holds(seen, row, x) {
+        return n;
+    }
     let part = sets::least_member(left);
-    let state = part.member;
-    let others = part.others;
     let j = Joins {
         order: order,
         b: b,
         r: r,
     };
+    let k = read_moves(z, inner, entries, moves, to, s, part, j, seen, out, n, room);
+    remembered::put(seen, row, x);
+    k
+}
+
+// Collects the results of the readings of the goal's symbol from a state and the others, joined to j: by each move of the state the readings
+// from the others.
+fn read_moves(
+    z: tables::Table,
+    inner: &[u64],
+    entries: &[u64],
+    moves: &[u64],
+    to: Goal,
+    s: u64,
+    part: sets::Split,
+    j: Joins,
+    seen: &mut [u64],
+    out: &mut [u64],
+    n: usize,
+    room: usize,
+) -> usize
+    requires { ⌜ EntriesStand z (now entries) × MovesStand z (now moves) × Room room n (now out) × Remembers (automatonOf z (now inner) (now entries) (now moves)) room n (now out) (now seen) ⌝ }
+    ensures { λ k. ⌜ Collects (automatonOf z (now (inner .entry)) (now (entries .entry)) (now (moves .entry))) room n (now (out .entry)) (readResults (automatonOf z (now (inner .entry)) (now (entries .entry)) (now (moves .entry))) (to .control) (to .symbol) s (part .member ∷ members (part .others)) (asJoins j)) k (now (out .exit)) ⌝ }
+    ensures { λ k. ⌜ Remembers (automatonOf z (now (inner .entry)) (now (entries .entry)) (now (moves .entry))) room k (now (out .exit)) (now (seen .exit)) ⌝ }
+{
     let count = z.moves;
     let mut k = n;
     let mut i: usize = 0;
     while i < count {
-        let c = candidate(tables::move_at(moves, i), state, to.symbol, j);
+        let c = candidate(tables::move_at(moves, i), part.member, to.symbol, j);
         if c.fits {
             let m = c.joins;
             k = read_from(
                 z,
+                inner,
                 entries,
                 moves,
                 to,
                 s,
-                others,
+                part.others,
                 m.order,
                 m.b,
                 m.r,
+                seen,
                 out,
                 k,
                 room,
@@ -230,7 +267,8 @@ pub fn read_from(
 }
 
 // Collects the results of the readings of the goal's symbol from the order-2 states left, joined to j: one choice of an edge for each state,
-// then the readings from the order-1 states that these edges and `named` name, for the join of the edges' sets and s.
+// then the readings from the order-1 states that these edges and `named` name, for the join of the edges' sets and s. States in `seen` are
+// passed over.
 pub fn read_edges(
     z: tables::Table,
     inner: &[u64],
@@ -241,12 +279,14 @@ pub fn read_edges(
     left: u64,
     named: u64,
     s: u64,
+    seen: &mut [u64],
     out: &mut [u64],
     n: usize,
     room: usize,
 ) -> usize
-    requires { ⌜ EdgesStand z (now inner) × EntriesStand z (now entries) × MovesStand z (now moves) × Room room n (now out) ⌝ }
+    requires { ⌜ EdgesStand z (now inner) × EntriesStand z (now entries) × MovesStand z (now moves) × Room room n (now out) × Remembers (automatonOf z (now inner) (now entries) (now moves)) room n (now out) (now seen) ⌝ }
     ensures { λ r. ⌜ Collects (automatonOf z (now (inner .entry)) (now (entries .entry)) (now (moves .entry))) room n (now (out .entry)) (edgeResults (automatonOf z (now (inner .entry)) (now (entries .entry)) (now (moves .entry))) (to .control) (to .symbol) (asJoins j) (members left) named s) r (now (out .exit)) ⌝ }
+    ensures { λ r. ⌜ Remembers (automatonOf z (now (inner .entry)) (now (entries .entry)) (now (moves .entry))) room r (now (out .exit)) (now (seen .exit)) ⌝ }
 {
     if room < n {
         return n;
@@ -254,6 +294,7 @@ pub fn read_edges(
     if left == 0 {
         return read_from(
             z,
+            inner,
             entries,
             moves,
             to,
@@ -262,20 +303,64 @@ pub fn read_edges(
             j.order,
             j.b,
             j.r,
+            seen,
             out,
             n,
             room,
         );
     }
+    let x = remembered::edges_state(to.control, to.symbol, s, left, named, j.order, j.b, j.r);
+    let row = remembered::place(seen, x);
+    if remembered::holds(seen, row, x) {
+        return n;
+    }
     let part = sets::least_member(left);
-    let state = part.member;
-    let others = part.others;
+    let k = read_choices(
+        z,
+        inner,
+        entries,
+        moves,
+        to,
+        j,
+        part,
+        named,
+        s,
+        seen,
+        out,
+        n,
+        room,
+    );
+    remembered::put(seen, row, x);
+    k
+}
+
+// Collects the results of the readings of the goal's symbol from an order-2 state and the others, joined to j: by each edge of the state the
+// readings from the others.
+fn read_choices(
+    z: tables::Table,
+    inner: &[u64],
+    entries: &[u64],
+    moves: &[u64],
+    to: Goal,
+    j: Joins,
+    part: sets::Split,
+    named: u64,
+    s: u64,
+    seen: &mut [u64],
+    out: &mut [u64],
+    n: usize,
+    room: usize,
+) -> usize
+    requires { ⌜ EdgesStand z (now inner) × EntriesStand z (now entries) × MovesStand z (now moves) × Room room n (now out) × Remembers (automatonOf z (now inner) (now entries) (now moves)) room n (now out) (now seen) ⌝ }
+    ensures { λ r. ⌜ Collects (automatonOf z (now (inner .entry)) (now (entries .entry)) (now (moves .entry))) room n (now (out .entry)) (edgeResults (automatonOf z (now (inner .entry)) (now (entries .entry)) (now (moves .entry))) (to .control) (to .symbol) (asJoins j) (part .member ∷ members (part .others)) named s) r (now (out .exit)) ⌝ }
+    ensures { λ r. ⌜ Remembers (automatonOf z (now (inner .entry)) (now (entries .entry)) (now (moves .entry))) room r (now (out .exit)) (now (seen .exit)) ⌝ }
+{
     let count = z.edges + z.entries;
     let mut k = n;
     let mut i: usize = 0;
     while i < count {
         let e = tables::edge_of(z, inner, entries, i);
-        if e.state == state {
+        if e.state == part.member {
             let more = sets::join(named, sets::one_bit(e.first));
             let all = sets::join(s, e.s);
             k = read_edges(
@@ -285,9 +370,10 @@ pub fn read_edges(
                 moves,
                 to,
                 j,
-                others,
+                part.others,
                 more,
                 all,
+                seen,
                 out,
                 k,
                 room,

@@ -11,15 +11,16 @@ use Rattle.words.specs.Lists.{when}
 use Rattle.automata.specs.Automaton.{Automaton, Move, Entry, noMove, moveAt, entryAt, entryOf, entrySet}
 use Rattle.automata.specs.Derivation.{Result, noJoins, joinsOf, controlMoves}
 use Rattle.tables.specs.declared.Table.{Table}
+use Rattle.tables.specs.declared.Outcome.{Outcome}
 use Rattle.tables.specs.Rows.{rowAt, rowsIn}
 use Rattle.tables.specs.Rows.Laws.{length-rowsIn, getD-rowsIn}
-use Rattle.tables.specs.Records.{moveRow}
+use Rattle.tables.specs.Records.{moveRow, asResult}
 use Rattle.tables.specs.Held.{automatonOf, tableOf}
 use borrow.Author.Tests.{eq-eqb, ne-eqb}
 use Rattle.words.specs.Sets.{join, members}
-use Rattle.readings.specs.Joining.{theJoins}
-use Rattle.readings.specs.Readings.{resultTo, readResults, edgeResults}
-use Rattle.readings.specs.Edges.{collects-edges, read-edges-same}
+use Rattle.readings.specs.Joining.{theJoins, theOutcome}
+use Rattle.readings.specs.Readings.{readResults, edgeResults}
+use Rattle.readings.specs.Edges.{collects-edges}
 use Rattle.readings.specs.Offers.{Collects}
 use Rattle.readings.specs.Offers.Laws.{Passed, passed-none, passed-more, passed-all, collects-same, collects-none}
 use Rattle.results.specs.declared.Premise.{Premise}
@@ -113,32 +114,29 @@ module _ (z : Table) (inner entries moves : List ℕ) (p a : ℕ) (k : Premise) 
         ∙ sym (ap (moveStep (automatonOf z inner entries moves) p a k b q) (sym e) ∙ rw (test, when)))
         c
 
--- ---- what a premise gives does not depend on the inner edges, but for a copy
+-- ---- what a premise gives
 
 module _ (z : Table) (inner entries moves : List ℕ) (p a : ℕ) (k : Premise) (m : Move) (room n r : ℕ) (t t′ : List ℕ) where
-  pub by-rewriting : (S : ℕ) → k ≡ Rewritten → Collects (tableOf z entries moves) room n t (resultTo p a S (joinsOf m) ∷ []) r t′
+  -- a rewriting does not depend on the inner edges
+  pub by-rewriting : (S : ℕ) (x : Outcome) → k ≡ Rewritten → x ≡ theOutcome p S a (m .order) (m .B) (m .R) → Collects (tableOf z entries moves) room n t (asResult x ∷ []) r t′
       → Collects (automatonOf z inner entries moves) room n t (premiseResults (automatonOf z inner entries moves) p a k S m) r t′
   unfolding premiseResults
-  by-rewriting S e c = rw e (collects-edges z inner entries moves c)
+  by-rewriting S x e f c = rw e (collects-same (ap (λ (y : Outcome). asResult y ∷ []) f) (collects-edges z inner entries moves c))
 
   pub by-pushing1 : (S : ℕ) → k ≡ Pushed1
-      → Collects (tableOf z entries moves) room n t (when (orderFits 1 m) (readResults (tableOf z entries moves) p a S (members (m .R)) (theJoins 0 0 (m .B)))) r t′
+      → Collects (automatonOf z inner entries moves) room n t
+      (when (orderFits 1 m) (readResults (automatonOf z inner entries moves) p a S (members (m .R)) (theJoins 0 0 (m .B)))) r t′
       → Collects (automatonOf z inner entries moves) room n t (premiseResults (automatonOf z inner entries moves) p a k S m) r t′
   unfolding premiseResults
-  by-pushing1 S e c =
-      rw e (collects-same (ap (when (orderFits 1 m)) (read-edges-same z inner entries moves p a S (members (m .R)) (theJoins 0 0 (m .B)))) (collects-edges z inner entries moves c))
+  by-pushing1 S e c = rw e c
 
   pub by-pushing2 : (S all : ℕ) → k ≡ Pushed2 → all ≡ join S (m .B)
-      → Collects (tableOf z entries moves) room n t (when (orderFits 2 m) (readResults (tableOf z entries moves) p a all (members (m .R)) (theJoins 0 0 0))) r t′
+      → Collects (automatonOf z inner entries moves) room n t
+      (when (orderFits 2 m) (readResults (automatonOf z inner entries moves) p a all (members (m .R)) (theJoins 0 0 0))) r t′
       → Collects (automatonOf z inner entries moves) room n t (premiseResults (automatonOf z inner entries moves) p a k S m) r t′
   unfolding premiseResults
   by-pushing2 S all f e c =
-      rw f
-      (collects-same
-      (ap (when (orderFits 2 m))
-      (read-edges-same z inner entries moves p a all (members (m .R)) (theJoins 0 0 0)
-      ∙ ap (λ (x : ℕ). readResults (automatonOf z inner entries moves) p a x (members (m .R)) noJoins) e))
-      (collects-edges z inner entries moves c))
+      rw f (collects-same (ap (λ (x : ℕ). when (orderFits 2 m) (readResults (automatonOf z inner entries moves) p a x (members (m .R)) noJoins)) e) c)
 
   pub by-copying : (S : ℕ) → k ≡ Copied
       → Collects (automatonOf z inner entries moves) room n t (edgeResults (automatonOf z inner entries moves) p a (joinsOf m) (members S) 0 0) r t′

@@ -15,6 +15,7 @@ use Rattle.tables.specs.declared.Outcome.{Outcome}
 use Rattle.tables.specs.declared.Table.{Table}
 use Rattle.tables.specs.Held.{automatonOf, tableOf}
 use Rattle.tables.specs.Records.{asResult}
+use Rattle.readings.specs.Joining.{theOutcome}
 use Rattle.readings.specs.Offers.{Collects}
 use Rattle.readings.specs.Offers.Laws.{collects-same}
 use Rattle.readings.specs.Edges.{collects-edges}
@@ -26,9 +27,6 @@ use Rattle.results.specs.declared.Use.{Use}
 use Rattle.results.specs.declared.Use.the-variants.{Moves, Entries, Nothing}
 use Rattle.results.specs.Rules.{movesResults, entriesResults, operationResults, ruleResults}
 
-abbrev pub theOutcome : ℕ → ℕ → ℕ → ℕ → ℕ → Outcome
-theOutcome p S a order B = record { control = p; s = S; symbol = a; order = order; b = B; r = 0 }
-
 -- what an operation uses, in a rule of control p and symbol a that goes to control q
 unfoldable pub useOf : ℕ → ℕ → ℕ → Operation → Use
 useOf p a q (rewrite b) = Moves Rewritten b
@@ -36,9 +34,9 @@ useOf p a q (push1 b) = Moves Pushed1 b
 useOf p a q (push2 b) = Moves Pushed2 b
 useOf p a q copy = Moves Copied a
 useOf p a q pop1 = Entries Popped
-useOf p a q pop2 = Nothing (theOutcome p (single q) a 0 0)
+useOf p a q pop2 = Nothing (theOutcome p (single q) a 0 0 0)
 useOf p a q collapse1 = Entries Collapsed
-useOf p a q collapse2 = Nothing (theOutcome p 0 a 2 (single q))
+useOf p a q collapse2 = Nothing (theOutcome p 0 a 2 (single q) 0)
 
 -- what it gives
 unfoldable pub useResults : Automaton → ℕ → ℕ → ℕ → Use → List Result
@@ -63,13 +61,13 @@ module _ (p a q : ℕ) (x : case.Operation) where
   pub use-is : (y : case.Operation) → x ≡ y → useOf p a q (theOperation y) ≡ useOf p a q (theOperation x)
   use-is y e = ap (λ (o : case.Operation). useOf p a q (theOperation o)) (sym e)
 
-  pub use-pop2 : (o : Outcome) (bit : ℕ) → x ≡ Pop2 → bit ≡ single q → o ≡ theOutcome p bit a 0 0 → Nothing o ≡ useOf p a q (theOperation x)
+  pub use-pop2 : (o : Outcome) (bit : ℕ) → x ≡ Pop2 → bit ≡ single q → o ≡ theOutcome p bit a 0 0 0 → Nothing o ≡ useOf p a q (theOperation x)
   unfolding useOf
-  use-pop2 o bit e f g = ap Nothing (g ∙ ap (λ (n : ℕ). theOutcome p n a 0 0) f) ∙ use-is Pop2 e
+  use-pop2 o bit e f g = ap Nothing (g ∙ ap (λ (n : ℕ). theOutcome p n a 0 0 0) f) ∙ use-is Pop2 e
 
-  pub use-collapse2 : (o : Outcome) (bit : ℕ) → x ≡ Collapse2 → bit ≡ single q → o ≡ theOutcome p 0 a 2 bit → Nothing o ≡ useOf p a q (theOperation x)
+  pub use-collapse2 : (o : Outcome) (bit : ℕ) → x ≡ Collapse2 → bit ≡ single q → o ≡ theOutcome p 0 a 2 bit 0 → Nothing o ≡ useOf p a q (theOperation x)
   unfolding useOf
-  use-collapse2 o bit e f g = ap Nothing (g ∙ ap (λ (n : ℕ). theOutcome p 0 a 2 n) f) ∙ use-is Collapse2 e
+  use-collapse2 o bit e f g = ap Nothing (g ∙ ap (λ (n : ℕ). theOutcome p 0 a 2 n 0) f) ∙ use-is Collapse2 e
 
 module _ (z : Table) (inner entries moves : List ℕ) (p a q : ℕ) (u : Use) (room n r : ℕ) (t t′ : List ℕ) where
   pub uses-moves : (k : Premise) (b : ℕ) → u ≡ Moves k b

@@ -1,13 +1,11 @@
 // The results of all rules from the table of the earlier rounds, collected: those that are not yet held, sorted, each once.
 ghost use mathlib.Core.Path.{_≡_};
 ghost use mathlib.Core.Bool.{_||_};
-ghost use mathlib.Core.List.{[], _∷_};
 ghost use Prim.Native.Nat.{_<_, _≤_, _+_, _*_};
 ghost use lib.ListN.{length};
 ghost use lib.Dec.{eqb};
 ghost use Rattle.words.specs.Sets.{members};
 ghost use Rattle.words.specs.Lists.{when};
-ghost use Rattle.automata.specs.Automaton.{entryOf, entrySet};
 ghost use Rattle.tables.specs.Rows.{rowAt};
 ghost use Rattle.tables.specs.Records.{asMove, asResult, moveRow, entryRow};
 ghost use Rattle.tables.specs.Held.{automatonOf, tableOf, EdgesStand, EntriesStand, MovesStand};
@@ -15,11 +13,12 @@ ghost use Rattle.tables.specs.Pending.{pendingIn, limited};
 ghost use Rattle.readings.specs.Joining.{theJoins};
 ghost use Rattle.readings.specs.Offers.{Collects, Room};
 ghost use Rattle.readings.specs.Readings.{readResults};
+ghost use Rattle.readings.specs.Remembering.{Remembers};
 ghost use Rattle.results.specs.Rules.{orderFits, premiseResults, movesResults, entryResult, entriesResults, ruleResults};
 ghost use Rattle.case_records.specs.Values.{theOperation, theRule};
 ghost use Rattle.results.specs.Collecting.{RulesStand, rulesIn, newResults};
 ghost use Rattle.results.specs.Steps.{moveStep, entryStep};
-ghost use Rattle.results.specs.Uses.{theOutcome, useOf, useResults};
+ghost use Rattle.results.specs.Uses.{useOf, useResults};
 
 // How an operation uses a move of an entry.
 pub enum Premise {
@@ -45,27 +44,51 @@ pub fn order_fits(k: u64, order: u64) -> bool
     order == k
 }
 
-// Collects what a push of order k gives by move m for the set s: the readings from the move's rest set, joined to the rest set `rest`.
+// A push of this order for the set s, whose readings are joined to the rest set `rest`.
+pub struct Push {
+    pub order: u64,
+    pub s: u64,
+    pub rest: u64,
+}
+
+// Collects what a push gives by move m: the readings from the move's rest set. The slice `seen` is that of `readings::read_from`, here and in
+// the functions that follow.
 fn by_push(
     z: tables::Table,
+    inner: &[u64],
     entries: &[u64],
     moves: &[u64],
     to: readings::Goal,
-    s: u64,
+    push: Push,
     m: tables::Move,
-    k: u64,
-    rest: u64,
+    seen: &mut [u64],
     out: &mut [u64],
     n: usize,
     room: usize,
 ) -> usize
-    requires { ⌜ EntriesStand z (now entries) × MovesStand z (now moves) × Room room n (now out) ⌝ }
-    ensures { λ r. ⌜ Collects (tableOf z (now (entries .entry)) (now (moves .entry))) room n (now (out .entry)) (when (orderFits k (asMove m)) (readResults (tableOf z (now (entries .entry)) (now (moves .entry))) (to .control) (to .symbol) s (members (m .r)) (theJoins 0 0 rest))) r (now (out .exit)) ⌝ }
+    requires { ⌜ EntriesStand z (now entries) × MovesStand z (now moves) × Room room n (now out) × Remembers (automatonOf z (now inner) (now entries) (now moves)) room n (now out) (now seen) ⌝ }
+    ensures { λ r. ⌜ Collects (automatonOf z (now (inner .entry)) (now (entries .entry)) (now (moves .entry))) room n (now (out .entry)) (when (orderFits (push .order) (asMove m)) (readResults (automatonOf z (now (inner .entry)) (now (entries .entry)) (now (moves .entry))) (to .control) (to .symbol) (push .s) (members (m .r)) (theJoins 0 0 (push .rest)))) r (now (out .exit)) ⌝ }
+    ensures { λ r. ⌜ Remembers (automatonOf z (now (inner .entry)) (now (entries .entry)) (now (moves .entry))) room r (now (out .exit)) (now (seen .exit)) ⌝ }
 {
-    if !order_fits(k, m.order) {
+    if !order_fits(push.order, m.order) {
         return n;
     }
-    readings::read_from(z, entries, moves, to, s, m.r, 0, 0, rest, out, n, room)
+    readings::read_from(
+        z,
+        inner,
+        entries,
+        moves,
+        to,
+        push.s,
+        m.r,
+        0,
+        0,
+        push.rest,
+        seen,
+        out,
+        n,
+        room,
+    )
 }
 
 // Collects what move m of an entry with the set s gives.
@@ -78,29 +101,35 @@ fn by_premise(
     kind: Premise,
     s: u64,
     m: tables::Move,
+    seen: &mut [u64],
     out: &mut [u64],
     n: usize,
     room: usize,
 ) -> usize
-    requires { ⌜ EdgesStand z (now inner) × EntriesStand z (now entries) × MovesStand z (now moves) × Room room n (now out) ⌝ }
+    requires { ⌜ EdgesStand z (now inner) × EntriesStand z (now entries) × MovesStand z (now moves) × Room room n (now out) × Remembers (automatonOf z (now inner) (now entries) (now moves)) room n (now out) (now seen) ⌝ }
     ensures { λ r. ⌜ Collects (automatonOf z (now (inner .entry)) (now (entries .entry)) (now (moves .entry))) room n (now (out .entry)) (premiseResults (automatonOf z (now (inner .entry)) (now (entries .entry)) (now (moves .entry))) (to .control) (to .symbol) kind s (asMove m)) r (now (out .exit)) ⌝ }
+    ensures { λ r. ⌜ Remembers (automatonOf z (now (inner .entry)) (now (entries .entry)) (now (moves .entry))) room r (now (out .exit)) (now (seen .exit)) ⌝ }
 {
     match kind {
         Premise::Rewritten => {
-            let x = tables::Outcome {
-                control: to.control,
-                s: s,
-                symbol: to.symbol,
-                order: m.order,
-                b: m.b,
-                r: m.r,
-            };
+            let x = readings::outcome(to, s, m.order, m.b, m.r);
             readings::offer(z, entries, moves, x, out, n, room)
         }
-        Premise::Pushed1 => by_push(z, entries, moves, to, s, m, 1, m.b, out, n, room),
+        Premise::Pushed1 => {
+            let push = Push {
+                order: 1,
+                s: s,
+                rest: m.b,
+            };
+            by_push(z, inner, entries, moves, to, push, m, seen, out, n, room)
+        }
         Premise::Pushed2 => {
-            let all = sets::join(s, m.b);
-            by_push(z, entries, moves, to, all, m, 2, 0, out, n, room)
+            let push = Push {
+                order: 2,
+                s: sets::join(s, m.b),
+                rest: 0,
+            };
+            by_push(z, inner, entries, moves, to, push, m, seen, out, n, room)
         }
         Premise::Copied => {
             let j = readings::Joins {
@@ -108,7 +137,7 @@ fn by_premise(
                 b: m.b,
                 r: m.r,
             };
-            readings::read_edges(z, inner, entries, moves, to, j, s, 0, 0, out, n, room)
+            readings::read_edges(z, inner, entries, moves, to, j, s, 0, 0, seen, out, n, room)
         }
     }
 }
@@ -124,12 +153,14 @@ fn by_move(
     b: u64,
     q: u64,
     i: usize,
+    seen: &mut [u64],
     out: &mut [u64],
     n: usize,
     room: usize,
 ) -> usize
-    requires { ⌜ EdgesStand z (now inner) × EntriesStand z (now entries) × MovesStand z (now moves) × Room room n (now out) × (i < z .moves) ⌝ }
+    requires { ⌜ EdgesStand z (now inner) × EntriesStand z (now entries) × MovesStand z (now moves) × Room room n (now out) × Remembers (automatonOf z (now inner) (now entries) (now moves)) room n (now out) (now seen) × (i < z .moves) ⌝ }
     ensures { λ r. ⌜ Collects (automatonOf z (now (inner .entry)) (now (entries .entry)) (now (moves .entry))) room n (now (out .entry)) (moveStep (automatonOf z (now (inner .entry)) (now (entries .entry)) (now (moves .entry))) (to .control) (to .symbol) kind b q (rowAt moveRow (now (moves .entry)) i)) r (now (out .exit)) ⌝ }
+    ensures { λ r. ⌜ Remembers (automatonOf z (now (inner .entry)) (now (entries .entry)) (now (moves .entry))) room r (now (out .exit)) (now (seen .exit)) ⌝ }
 {
     let m = tables::move_at(moves, i);
     if m.symbol != b {
@@ -139,7 +170,7 @@ fn by_move(
         return n;
     }
     let s = tables::entry_set(z, entries, m.state);
-    by_premise(z, inner, entries, moves, to, kind, s, m, out, n, room)
+    by_premise(z, inner, entries, moves, to, kind, s, m, seen, out, n, room)
 }
 
 // Collects what the moves on b of the entries of control q give.
@@ -152,18 +183,34 @@ fn by_moves(
     kind: Premise,
     b: u64,
     q: u64,
+    seen: &mut [u64],
     out: &mut [u64],
     n: usize,
     room: usize,
 ) -> usize
-    requires { ⌜ EdgesStand z (now inner) × EntriesStand z (now entries) × MovesStand z (now moves) × Room room n (now out) ⌝ }
+    requires { ⌜ EdgesStand z (now inner) × EntriesStand z (now entries) × MovesStand z (now moves) × Room room n (now out) × Remembers (automatonOf z (now inner) (now entries) (now moves)) room n (now out) (now seen) ⌝ }
     ensures { λ r. ⌜ Collects (automatonOf z (now (inner .entry)) (now (entries .entry)) (now (moves .entry))) room n (now (out .entry)) (movesResults (automatonOf z (now (inner .entry)) (now (entries .entry)) (now (moves .entry))) (to .control) (to .symbol) kind b q) r (now (out .exit)) ⌝ }
+    ensures { λ r. ⌜ Remembers (automatonOf z (now (inner .entry)) (now (entries .entry)) (now (moves .entry))) room r (now (out .exit)) (now (seen .exit)) ⌝ }
 {
     let count = z.moves;
     let mut k = n;
     let mut i: usize = 0;
     while i < count {
-        k = by_move(z, inner, entries, moves, to, kind, b, q, i, out, k, room);
+        k = by_move(
+            z,
+            inner,
+            entries,
+            moves,
+            to,
+            kind,
+            b,
+            q,
+            i,
+            seen,
+            out,
+            k,
+            room,
+        );
         i += 1;
     }
     k
@@ -176,22 +223,8 @@ fn entry_outcome(to: readings::Goal, kind: EntryPremise, s: u64, r: u64) -> tabl
 {
     let bit = sets::one_bit(r);
     match kind {
-        EntryPremise::Popped => tables::Outcome {
-            control: to.control,
-            s: s,
-            symbol: to.symbol,
-            order: 0,
-            b: 0,
-            r: bit,
-        },
-        EntryPremise::Collapsed => tables::Outcome {
-            control: to.control,
-            s: s,
-            symbol: to.symbol,
-            order: 1,
-            b: bit,
-            r: 0,
-        },
+        EntryPremise::Popped => readings::outcome(to, s, 0, 0, bit),
+        EntryPremise::Collapsed => readings::outcome(to, s, 1, bit, 0),
     }
 }
 
@@ -251,38 +284,26 @@ pub enum Use {
     Nothing(tables::Outcome),
 }
 
-// The result (order, b, empty) to a symbol of entry [control, s].
-fn outcome(control: u64, s: u64, symbol: u64, order: u64, b: u64) -> tables::Outcome
-    ensures { λ x. ⌜ x ≡ theOutcome control s symbol order b ⌝ }
-{
-    tables::Outcome {
-        control: control,
-        s: s,
-        symbol: symbol,
-        order: order,
-        b: b,
-        r: 0,
-    }
-}
-
 // What a rule's operation uses.
 fn use_of(rule: case_records::Rule) -> Use
     requires { ⌜ rule .next < 64 ⌝ }
     ensures { λ r. ⌜ r ≡ useOf (rule .control) (rule .symbol) (rule .next) (theOperation (rule .operation)) ⌝ }
 {
     let bit = sets::one_bit(rule.next);
-    let p = rule.control;
-    let a = rule.symbol;
+    let to = readings::Goal {
+        control: rule.control,
+        symbol: rule.symbol,
+    };
     let operation = rule.operation;
     match operation {
         case_records::Operation::Rewrite(b) => Use::Moves(Premise::Rewritten, b),
         case_records::Operation::Push1(b) => Use::Moves(Premise::Pushed1, b),
         case_records::Operation::Push2(b) => Use::Moves(Premise::Pushed2, b),
-        case_records::Operation::Copy => Use::Moves(Premise::Copied, a),
+        case_records::Operation::Copy => Use::Moves(Premise::Copied, rule.symbol),
         case_records::Operation::Pop1 => Use::Entries(EntryPremise::Popped),
-        case_records::Operation::Pop2 => Use::Nothing(outcome(p, bit, a, 0, 0)),
+        case_records::Operation::Pop2 => Use::Nothing(readings::outcome(to, bit, 0, 0, 0)),
         case_records::Operation::Collapse1 => Use::Entries(EntryPremise::Collapsed),
-        case_records::Operation::Collapse2 => Use::Nothing(outcome(p, 0, a, 2, bit)),
+        case_records::Operation::Collapse2 => Use::Nothing(readings::outcome(to, 0, 2, bit, 0)),
     }
 }
 
@@ -295,15 +316,17 @@ fn by_use(
     to: readings::Goal,
     q: u64,
     used: Use,
+    seen: &mut [u64],
     out: &mut [u64],
     n: usize,
     room: usize,
 ) -> usize
-    requires { ⌜ EdgesStand z (now inner) × EntriesStand z (now entries) × MovesStand z (now moves) × Room room n (now out) ⌝ }
+    requires { ⌜ EdgesStand z (now inner) × EntriesStand z (now entries) × MovesStand z (now moves) × Room room n (now out) × Remembers (automatonOf z (now inner) (now entries) (now moves)) room n (now out) (now seen) ⌝ }
     ensures { λ r. ⌜ Collects (automatonOf z (now (inner .entry)) (now (entries .entry)) (now (moves .entry))) room n (now (out .entry)) (useResults (automatonOf z (now (inner .entry)) (now (entries .entry)) (now (moves .entry))) (to .control) (to .symbol) q used) r (now (out .exit)) ⌝ }
+    ensures { λ r. ⌜ Remembers (automatonOf z (now (inner .entry)) (now (entries .entry)) (now (moves .entry))) room r (now (out .exit)) (now (seen .exit)) ⌝ }
 {
     match used {
-        Use::Moves(k, b) => by_moves(z, inner, entries, moves, to, k, b, q, out, n, room),
+        Use::Moves(k, b) => by_moves(z, inner, entries, moves, to, k, b, q, seen, out, n, room),
         Use::Entries(k) => by_entries(z, entries, moves, to, k, q, out, n, room),
         Use::Nothing(x) => readings::offer(z, entries, moves, x, out, n, room),
     }
@@ -316,12 +339,14 @@ pub fn by_rule(
     entries: &[u64],
     moves: &[u64],
     rule: case_records::Rule,
+    seen: &mut [u64],
     out: &mut [u64],
     n: usize,
     room: usize,
 ) -> usize
-    requires { ⌜ EdgesStand z (now inner) × EntriesStand z (now entries) × MovesStand z (now moves) × Room room n (now out) × (rule .next < 64) ⌝ }
+    requires { ⌜ EdgesStand z (now inner) × EntriesStand z (now entries) × MovesStand z (now moves) × Room room n (now out) × Remembers (automatonOf z (now inner) (now entries) (now moves)) room n (now out) (now seen) × (rule .next < 64) ⌝ }
     ensures { λ r. ⌜ Collects (automatonOf z (now (inner .entry)) (now (entries .entry)) (now (moves .entry))) room n (now (out .entry)) (ruleResults (automatonOf z (now (inner .entry)) (now (entries .entry)) (now (moves .entry))) (theRule rule)) r (now (out .exit)) ⌝ }
+    ensures { λ r. ⌜ Remembers (automatonOf z (now (inner .entry)) (now (entries .entry)) (now (moves .entry))) room r (now (out .exit)) (now (seen .exit)) ⌝ }
 {
     let to = readings::Goal {
         control: rule.control,
@@ -329,11 +354,11 @@ pub fn by_rule(
     };
     let q = rule.next;
     let used = use_of(rule);
-    by_use(z, inner, entries, moves, to, q, used, out, n, room)
+    by_use(z, inner, entries, moves, to, q, used, seen, out, n, room)
 }
 
 // Collects the results of the first `count` rules of a body that are not yet held: sorted, each once, in the first rows of `out`. Answers
-// their number, and a number above `room` where there is no room for them.
+// their number, and a number above `room` where there is no room for them. States that were worked through are remembered in 16,384 rows.
 pub fn collect(
     z: tables::Table,
     inner: &[u64],
@@ -348,11 +373,12 @@ pub fn collect(
     ensures { λ n. ⌜ pendingIn room n (now (out .exit)) ≡ limited room (newResults (rulesIn count (now (body .entry))) (automatonOf z (now (inner .entry)) (now (entries .entry)) (now (moves .entry)))) ⌝ }
     ensures { λ n. ⌜ n ≤ room + 1 ⌝ }
 {
+    let mut seen = [0u64; 147456];
     let mut n: usize = 0;
     let mut i: usize = 0;
     while i < count {
         let rule = case_records::rule_at(body, i);
-        n = by_rule(z, inner, entries, moves, rule, out, n, room);
+        n = by_rule(z, inner, entries, moves, rule, &mut seen, out, n, room);
         i += 1;
     }
     n

@@ -58,7 +58,7 @@ insertAll : List Result → List Result → List Result
 insertAll l [] = l
 insertAll l (x ∷ xs) = insertAll (insert resultKey x l) xs
 
-length-insert : (x : Result) (l : List Result) → length l ≤ length (insert resultKey x l)
+pub length-insert : (x : Result) (l : List Result) → length l ≤ length (insert resultKey x l)
 unfolding insert
 length-insert x [] = omega arith
 length-insert x (y ∷ l) = by-place resultKey x y

@@ -8,28 +8,31 @@ use Rattle.results.proofs.by_move.Statement.{statement}
 use Rattle.results.proofs.by_move.Tie as tie
 
 move-at-requires : tie.Need-move-at-requires
-move-at-requires c κs = omega (arith, (c .before .before .before .before .pre .2 .moves-lent))
+move-at-requires c κs = omega (arith, (c .before .before .before .before .before .pre .2 .moves-lent))
 
 returns : tie.Need-returns
-returns c = step-other (c .before .before .before .before .before .before .before .args .z) _ _ _ _ _ _ _ _ _ _ _ _ _ (c .before .before .move-at .ensures) (c .before .before .before .before .before .before .before .pre .3 .number) (c .if1 .taken)
+returns c = (step-other (c .before .before .before .before .before .before .before .before .args .z) _ _ _ _ _ _ _ _ _ _ _ _ _ (c .before .before .move-at .ensures) (c .before .before .before .before .before .before .before .before .pre .3 .number) (c .if1 .taken), (c .before .before .before .before .before .before .before .before .pre .4))
 
 entry-of-requires : tie.Need-entry-of-requires
-entry-of-requires c κs = (c .before .before .before .before .before .before .before .pre .1)
+entry-of-requires c κs = (c .before .before .before .before .before .before .before .before .pre .1)
 
 returns-2 : tie.Need-returns-2
-returns-2 c = step-control (c .before .before .before .before .before .before .before .before .before .args .z) _ _ _ _ _ _ _ _ _ _ _ _ _ (c .before .before .before .before .move-at .ensures) (c .before .before .before .before .before .before .before .before .before .pre .3 .number) _ (c .before .entry-of .ensures) (not-true (c .before .entry-of .result) (c .if2 .taken))
+returns-2 c = (step-control (c .before .before .before .before .before .before .before .before .before .before .args .z) _ _ _ _ _ _ _ _ _ _ _ _ _ (c .before .before .before .before .move-at .ensures) (c .before .before .before .before .before .before .before .before .before .before .pre .3 .number) _ (c .before .entry-of .ensures) (not-true (c .before .entry-of .result) (c .if2 .taken)), (c .before .before .before .before .before .before .before .before .before .before .pre .4))
 
 entry-set-requires : tie.Need-entry-set-requires
-entry-set-requires c κs = (c .before .before .before .before .before .before .before .before .before .pre .1)
+entry-set-requires c κs = (c .before .before .before .before .before .before .before .before .before .before .pre .1)
 
 by-premise-requires : tie.Need-by-premise-requires
-by-premise-requires c κs = ((c .before .before .before .before .before .before .before .before .before .before .before .pre .0), (c .before .before .before .before .before .before .before .before .before .before .before .pre .1), (c .before .before .before .before .before .before .before .before .before .before .before .pre .2), (c .before .before .before .before .before .before .before .before .before .before .before .pre .3))
+by-premise-requires c κs = ((c .before .before .before .before .before .before .before .before .before .before .before .before .before .pre .0), (c .before .before .before .before .before .before .before .before .before .before .before .before .before .pre .1), (c .before .before .before .before .before .before .before .before .before .before .before .before .before .pre .2), (c .before .before .before .before .before .before .before .before .before .before .before .before .before .pre .3), (c .before .before .before .before .before .before .before .before .before .before .before .before .before .pre .4))
 
 same-length : tie.Need-same-length
 same-length c = search needs
 
+same-length-2 : tie.Need-same-length-2
+same-length-2 c = search needs
+
 returns-3 : tie.Need-returns-3
-returns-3 c = step-premise (c .before .before .before .before .before .before .before .before .before .before .before .before .before .before .args .z) _ _ _ _ _ _ _ _ _ _ _ _ _ (c .before .before .before .before .before .before .before .before .before .move-at .ensures) (c .before .before .before .before .before .before .before .before .before .before .before .before .before .before .pre .3 .number) _ _ _ _ (c .before .before .before .before .before .before .before .if1 .left) (c .before .before .before .before .before .before .entry-of .ensures) (not-false (c .before .before .before .before .before .before .entry-of .result) (c .before .before .before .before .before .if2 .left)) (c .before .before .before .before .entry-set .ensures) (c .before .before .by-premise .ensures)
+returns-3 c = (step-premise (c .before .before .before .before .before .before .before .before .before .before .before .before .before .before .before .before .before .before .args .z) _ _ _ _ _ _ _ _ _ _ _ _ _ (c .before .before .before .before .before .before .before .before .before .before .before .before .move-at .ensures) (c .before .before .before .before .before .before .before .before .before .before .before .before .before .before .before .before .before .before .pre .3 .number) _ _ _ _ (c .before .before .before .before .before .before .before .before .before .before .if1 .left) (c .before .before .before .before .before .before .before .before .before .entry-of .ensures) (not-false (c .before .before .before .before .before .before .before .before .before .entry-of .result) (c .before .before .before .before .before .before .before .before .if2 .left)) (c .before .before .before .before .before .before .before .entry-set .ensures) (c .before .before .before .before .by-premise .ensures .0), (c .before .before .before .before .by-premise .ensures .1))
 
 pub by-move-spec : {M : Type 1} → statement M
 by-move-spec =
@@ -42,4 +45,5 @@ by-move-spec =
     entry-set-requires
     by-premise-requires
     same-length
+    same-length-2
     returns-3)

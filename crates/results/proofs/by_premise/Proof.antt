@@ -1,5 +1,7 @@
 -- `results::by_premise` meets its contract.
 -- Assumes nothing.
+use Rattle.readings.specs.Edges.{collects-edges}
+use Rattle.readings.specs.Remembering.Laws.{remembers-later}
 use Rattle.results.specs.Steps.{by-rewriting, by-pushing1, by-pushing2, by-copying}
 use borrow.Author.Needs.{needs}
 use Rattle.results.proofs.by_premise.Statement.{statement}
@@ -8,14 +10,17 @@ use Rattle.results.proofs.by_premise.Tie as tie
 enum-told : tie.Need-enum-told
 enum-told c = search needs
 
+outcome-requires : tie.Need-outcome-requires
+outcome-requires c κs = search needs
+
 offer-requires : tie.Need-offer-requires
-offer-requires c κs = ((c .before .before .before .before .before .before .before .pre .1), (c .before .before .before .before .before .before .before .pre .2), (c .before .before .before .before .before .before .before .pre .3))
+offer-requires c κs = ((c .before .before .before .before .before .before .before .before .before .pre .1), (c .before .before .before .before .before .before .before .before .before .pre .2), (c .before .before .before .before .before .before .before .before .before .pre .3))
 
 enum-told-2 : tie.Need-enum-told-2
 enum-told-2 c = search needs
 
 by-push-requires : tie.Need-by-push-requires
-by-push-requires c κs = ((c .before .before .before .before .before .before .before .pre .1), (c .before .before .before .before .before .before .before .pre .2), (c .before .before .before .before .before .before .before .pre .3))
+by-push-requires c κs = ((c .before .before .before .before .before .before .before .before .before .pre .1), (c .before .before .before .before .before .before .before .before .before .pre .2), (c .before .before .before .before .before .before .before .before .before .pre .3), (c .before .before .before .before .before .before .before .before .before .pre .4))
 
 enum-told-3 : tie.Need-enum-told-3
 enum-told-3 c = search needs
@@ -24,43 +29,53 @@ join-requires : tie.Need-join-requires
 join-requires c κs = search needs
 
 by-push-requires-2 : tie.Need-by-push-requires-2
-by-push-requires-2 c κs = ((c .before .before .before .before .before .before .before .before .pre .1), (c .before .before .before .before .before .before .before .before .pre .2), (c .before .before .before .before .before .before .before .before .pre .3))
+by-push-requires-2 c κs = ((c .before .before .before .before .before .before .before .before .before .before .pre .1), (c .before .before .before .before .before .before .before .before .before .before .pre .2), (c .before .before .before .before .before .before .before .before .before .before .pre .3), (c .before .before .before .before .before .before .before .before .before .before .pre .4))
 
 enum-told-4 : tie.Need-enum-told-4
 enum-told-4 c = search needs
 
 read-edges-requires : tie.Need-read-edges-requires
-read-edges-requires c κs = (c .before .before .before .before .before .before .before .pre)
+read-edges-requires c κs = (c .before .before .before .before .before .before .before .before .before .pre)
 
 same-length : tie.Need-same-length
 same-length c = search needs
 
 returns : tie.Need-returns
-returns c = by-rewriting (c .before .before .before .before .before .before .before .before .before .before .args .z) _ _ _ _ _ _ _ _ _ _ _ _ _ (c .before .before .before .before .enum-told .given .1) (c .before .before .offer .ensures)
+returns c = (by-rewriting (c .before .before .before .before .before .before .before .before .before .before .before .before .args .z) _ _ _ _ _ _ _ _ _ _ _ _ _ _ (c .before .before .before .before .before .enum-told .given .1) (c .before .before .before .before .outcome .ensures) (c .before .before .offer .ensures), remembers-later (c .before .before .before .before .before .before .before .before .before .before .before .before .pre .4) (collects-edges (c .before .before .before .before .before .before .before .before .before .before .before .before .args .z) _ _ _ (c .before .before .offer .ensures)))
 
 same-length-2 : tie.Need-same-length-2
 same-length-2 c = search needs
 
-returns-2 : tie.Need-returns-2
-returns-2 c = by-pushing1 (c .before .before .before .before .before .before .before .before .before .before .args .z) _ _ _ _ _ _ _ _ _ _ _ _ _ (c .before .before .before .before .enum-told2 .given .1) (c .before .before .by-push .ensures)
-
 same-length-3 : tie.Need-same-length-3
 same-length-3 c = search needs
 
-returns-3 : tie.Need-returns-3
-returns-3 c = by-pushing2 (c .before .before .before .before .before .before .before .before .before .before .before .args .z) _ _ _ _ _ _ _ _ _ _ _ _ _ _ (c .before .before .before .before .before .enum-told3 .given .1) (c .before .before .before .before .join .ensures) (c .before .before .by-push2 .ensures)
+returns-2 : tie.Need-returns-2
+returns-2 c = (by-pushing1 (c .before .before .before .before .before .before .before .before .before .before .before .before .before .before .args .z) _ _ _ _ _ _ _ _ _ _ _ _ _ (c .before .before .before .before .before .before .before .enum-told2 .given .1) (c .before .before .before .before .by-push .ensures .0), (c .before .before .before .before .by-push .ensures .1))
 
 same-length-4 : tie.Need-same-length-4
 same-length-4 c = search needs
 
+same-length-5 : tie.Need-same-length-5
+same-length-5 c = search needs
+
+returns-3 : tie.Need-returns-3
+returns-3 c = (by-pushing2 (c .before .before .before .before .before .before .before .before .before .before .before .before .before .before .before .args .z) _ _ _ _ _ _ _ _ _ _ _ _ _ _ (c .before .before .before .before .before .before .before .before .enum-told3 .given .1) (c .before .before .before .before .before .before .before .join .ensures) (c .before .before .before .before .by-push2 .ensures .0), (c .before .before .before .before .by-push2 .ensures .1))
+
+same-length-6 : tie.Need-same-length-6
+same-length-6 c = search needs
+
+same-length-7 : tie.Need-same-length-7
+same-length-7 c = search needs
+
 returns-4 : tie.Need-returns-4
-returns-4 c = by-copying (c .before .before .before .before .before .before .before .before .before .before .args .z) _ _ _ _ _ _ _ _ _ _ _ _ _ (c .before .before .before .before .enum-told4 .given .1) (c .before .before .read-edges .ensures)
+returns-4 c = (by-copying (c .before .before .before .before .before .before .before .before .before .before .before .before .before .before .args .z) _ _ _ _ _ _ _ _ _ _ _ _ _ (c .before .before .before .before .before .before .before .enum-told4 .given .1) (c .before .before .before .before .read-edges .ensures .0), (c .before .before .before .before .read-edges .ensures .1))
 
 pub by-premise-spec : {M : Type 1} → statement M
 by-premise-spec =
     tie.close
     (tie.spec
     enum-told
+    outcome-requires
     offer-requires
     enum-told-2
     by-push-requires
@@ -72,8 +87,11 @@ by-premise-spec =
     same-length
     returns
     same-length-2
-    returns-2
     same-length-3
-    returns-3
+    returns-2
     same-length-4
+    same-length-5
+    returns-3
+    same-length-6
+    same-length-7
     returns-4)

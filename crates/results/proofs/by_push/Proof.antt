@@ -10,17 +10,21 @@ order-fits-requires : tie.Need-order-fits-requires
 order-fits-requires c κs = search needs
 
 returns : tie.Need-returns
-returns c = push-no _ _ _ _ _ _ _ (c .before .order-fits .ensures) (not-true (c .before .order-fits .result) (c .if1 .taken)) (c .before .before .before .before .before .pre .2 .number)
+returns c = (push-no _ _ _ _ _ _ _ (c .before .order-fits .ensures) (not-true (c .before .order-fits .result) (c .if1 .taken)) (c .before .before .before .before .before .before .before .pre .2 .number), (c .before .before .before .before .before .before .before .pre .3))
 
 read-from-requires : tie.Need-read-from-requires
-read-from-requires c κs = (c .before .before .before .before .before .before .pre)
+read-from-requires c κs = (c .before .before .before .before .before .before .before .before .before .pre)
 
 same-length : tie.Need-same-length
 same-length c = search needs
 
+same-length-2 : tie.Need-same-length-2
+same-length-2 c = search needs
+
 returns-2 : tie.Need-returns-2
-returns-2 c = push-yes _ _ _ _ _ _ _ _ _ (c .before .before .before .before .before .order-fits .ensures) (not-false (c .before .before .before .before .before .order-fits .result) (c .before .before .before .before .if1 .left)) (c .before .before .read-from .ensures)
+returns-2 c = (push-yes _ _ _ _ _ _ _ _ _ (c .before .before .before .before .before .before .before .before .order-fits .ensures) (not-false (c .before .before .before .before .before .before .before .before .order-fits .result) (c .before .before .before .before .before .before .before .if1 .left)) (c .before .before .before .before .read-from .ensures .0), (c .before .before .before .before .read-from .ensures .1))
 
 pub by-push-spec : {M : Type 1} → statement M
 by-push-spec =
-    tie.close (tie.spec order-fits-requires returns read-from-requires same-length returns-2)
+    tie.close
+    (tie.spec order-fits-requires returns read-from-requires same-length same-length-2 returns-2)

@@ -1,22 +1,26 @@
 -- `results::by_rule` meets its contract.
 -- Assumes nothing.
-use Rattle.results.specs.Uses.{rule-used}
 use Rattle.case_records.specs.Values.{theRule}
+use Rattle.results.specs.Uses.{rule-used}
 use borrow.Author.Needs.{needs}
 use Rattle.results.proofs.by_rule.Statement.{statement}
 use Rattle.results.proofs.by_rule.Tie as tie
 
 use-of-requires : tie.Need-use-of-requires
-use-of-requires c κs = (c .before .before .before .before .pre .4)
+use-of-requires c κs = (c .before .before .before .before .before .pre .5)
 
 by-use-requires : tie.Need-by-use-requires
-by-use-requires c κs = ((c .before .before .before .before .before .before .pre .0), (c .before .before .before .before .before .before .pre .1), (c .before .before .before .before .before .before .pre .2), (c .before .before .before .before .before .before .pre .3))
+by-use-requires c κs = ((c .before .before .before .before .before .before .before .before .pre .0), (c .before .before .before .before .before .before .before .before .pre .1), (c .before .before .before .before .before .before .before .before .pre .2), (c .before .before .before .before .before .before .before .before .pre .3), (c .before .before .before .before .before .before .before .before .pre .4))
 
 same-length : tie.Need-same-length
 same-length c = search needs
 
+same-length-2 : tie.Need-same-length-2
+same-length-2 c = search needs
+
 returns : tie.Need-returns
-returns c = rule-used _ (theRule (c .before .before .before .before .before .before .before .before .before .args .rule)) _ _ _ _ _ _ (c .before .before .before .before .use-of .ensures) (c .before .before .by-use .ensures)
+returns c = (rule-used _ (theRule (c .before .before .before .before .before .before .before .before .before .before .before .before .before .args .rule)) _ _ _ _ _ _ (c .before .before .before .before .before .before .before .use-of .ensures) (c .before .before .before .before .by-use .ensures .0), (c .before .before .before .before .by-use .ensures .1))
 
 pub by-rule-spec : {M : Type 1} → statement M
-by-rule-spec = tie.close (tie.spec use-of-requires by-use-requires same-length returns)
+by-rule-spec =
+    tie.close (tie.spec use-of-requires by-use-requires same-length same-length-2 returns)

@@ -1,5 +1,7 @@
 -- `results::by_use` meets its contract.
 -- Assumes nothing.
+use Rattle.readings.specs.Edges.{collects-edges}
+use Rattle.readings.specs.Remembering.Laws.{remembers-later}
 use Rattle.results.specs.Uses.{uses-moves, uses-entries, uses-nothing}
 use borrow.Author.Needs.{needs}
 use Rattle.results.proofs.by_use.Statement.{statement}
@@ -9,37 +11,40 @@ enum-known-used : tie.Need-enum-known-used
 enum-known-used c = search needs
 
 by-moves-requires : tie.Need-by-moves-requires
-by-moves-requires c κs = (c .before .before .before .before .before .before .before .before .pre)
+by-moves-requires c κs = (c .before .before .before .before .before .before .before .before .before .before .pre)
 
 enum-known-used-2 : tie.Need-enum-known-used-2
 enum-known-used-2 c = search needs
 
 by-entries-requires : tie.Need-by-entries-requires
-by-entries-requires c κs = ((c .before .before .before .before .before .before .before .before .pre .1), (c .before .before .before .before .before .before .before .before .pre .2), (c .before .before .before .before .before .before .before .before .pre .3))
+by-entries-requires c κs = ((c .before .before .before .before .before .before .before .before .before .pre .1), (c .before .before .before .before .before .before .before .before .before .pre .2), (c .before .before .before .before .before .before .before .before .before .pre .3))
 
 enum-known-used-3 : tie.Need-enum-known-used-3
 enum-known-used-3 c = search needs
 
 offer-requires : tie.Need-offer-requires
-offer-requires c κs = ((c .before .before .before .before .before .before .before .before .pre .1), (c .before .before .before .before .before .before .before .before .pre .2), (c .before .before .before .before .before .before .before .before .pre .3))
+offer-requires c κs = ((c .before .before .before .before .before .before .before .before .before .pre .1), (c .before .before .before .before .before .before .before .before .before .pre .2), (c .before .before .before .before .before .before .before .before .before .pre .3))
 
 same-length : tie.Need-same-length
 same-length c = search needs
 
-returns : tie.Need-returns
-returns c = uses-moves (c .before .before .before .before .before .before .before .before .before .before .before .args .z) _ _ _ _ _ _ _ _ _ _ _ _ _ _ (c .before .before .before .before .before .used .given .1) (c .before .before .by-moves .ensures)
-
 same-length-2 : tie.Need-same-length-2
 same-length-2 c = search needs
 
-returns-2 : tie.Need-returns-2
-returns-2 c = uses-entries (c .before .before .before .before .before .before .before .before .before .before .before .args .z) _ _ _ _ _ _ _ _ _ _ _ _ _ (c .before .before .before .before .before .used2 .given .1) (c .before .before .by-entries .ensures)
+returns : tie.Need-returns
+returns c = (uses-moves (c .before .before .before .before .before .before .before .before .before .before .before .before .before .before .before .args .z) _ _ _ _ _ _ _ _ _ _ _ _ _ _ (c .before .before .before .before .before .before .before .before .used .given .1) (c .before .before .before .before .by-moves .ensures .0), (c .before .before .before .before .by-moves .ensures .1))
 
 same-length-3 : tie.Need-same-length-3
 same-length-3 c = search needs
 
+returns-2 : tie.Need-returns-2
+returns-2 c = (uses-entries (c .before .before .before .before .before .before .before .before .before .before .before .before .args .z) _ _ _ _ _ _ _ _ _ _ _ _ _ (c .before .before .before .before .before .used2 .given .1) (c .before .before .by-entries .ensures), remembers-later (c .before .before .before .before .before .before .before .before .before .before .before .before .pre .4) (collects-edges (c .before .before .before .before .before .before .before .before .before .before .before .before .args .z) _ _ _ (c .before .before .by-entries .ensures)))
+
+same-length-4 : tie.Need-same-length-4
+same-length-4 c = search needs
+
 returns-3 : tie.Need-returns-3
-returns-3 c = uses-nothing (c .before .before .before .before .before .before .before .before .before .before .before .args .z) _ _ _ _ _ _ _ _ _ _ _ _ _ (c .before .before .before .before .before .used3 .given .1) (c .before .before .offer .ensures)
+returns-3 c = (uses-nothing (c .before .before .before .before .before .before .before .before .before .before .before .before .args .z) _ _ _ _ _ _ _ _ _ _ _ _ _ (c .before .before .before .before .before .used3 .given .1) (c .before .before .offer .ensures), remembers-later (c .before .before .before .before .before .before .before .before .before .before .before .before .pre .4) (collects-edges (c .before .before .before .before .before .before .before .before .before .before .before .before .args .z) _ _ _ (c .before .before .offer .ensures)))
 
 pub by-use-spec : {M : Type 1} → statement M
 by-use-spec =
@@ -52,8 +57,9 @@ by-use-spec =
     enum-known-used-3
     offer-requires
     same-length
-    returns
     same-length-2
-    returns-2
+    returns
     same-length-3
+    returns-2
+    same-length-4
     returns-3)

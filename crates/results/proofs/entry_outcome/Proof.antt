@@ -1,5 +1,7 @@
 -- `results::entry_outcome` meets its contract.
 -- Assumes nothing.
+use mathlib.Core.Path.{ap, _∙_}
+use Rattle.tables.specs.Records.{asResult}
 use Rattle.results.specs.Entries.{is-popped, is-collapsed}
 use borrow.Author.Needs.{needs}
 use Rattle.results.proofs.entry_outcome.Statement.{statement}
@@ -11,14 +13,29 @@ one-bit-requires c κs = search needs
 enum-told : tie.Need-enum-told
 enum-told c = search needs
 
+outcome-requires : tie.Need-outcome-requires
+outcome-requires c κs = search needs
+
 enum-told-2 : tie.Need-enum-told-2
 enum-told-2 c = search needs
 
+outcome-requires-2 : tie.Need-outcome-requires-2
+outcome-requires-2 c κs = search needs
+
 returns : tie.Need-returns
-returns c = is-popped _ _ _ _ _ _ (c .enum-told .given .1) (c .before .before .one-bit .ensures)
+returns c = ap asResult (c .outcome .ensures) ∙ is-popped _ _ _ _ _ _ (c .before .enum-told .given .1) (c .before .before .before .one-bit .ensures)
 
 returns-2 : tie.Need-returns-2
-returns-2 c = is-collapsed _ _ _ _ _ _ (c .enum-told2 .given .1) (c .before .before .one-bit .ensures)
+returns-2 c = ap asResult (c .outcome2 .ensures) ∙ is-collapsed _ _ _ _ _ _ (c .before .enum-told2 .given .1) (c .before .before .before .one-bit .ensures)
 
 pub entry-outcome-spec : {M : Type 1} → statement M
-entry-outcome-spec = tie.close (tie.spec one-bit-requires enum-told enum-told-2 returns returns-2)
+entry-outcome-spec =
+    tie.close
+    (tie.spec
+    one-bit-requires
+    enum-told
+    outcome-requires
+    enum-told-2
+    outcome-requires-2
+    returns
+    returns-2)
