@@ -1,27 +1,19 @@
 -- What judge leaves in lent memory, in each case.
 -- Assumes nothing.
-use Prim.Native.Nat.{ℕ, _+_, _-_, _≤_}
+use Prim.Native.Nat.{ℕ, _-_}
 use mathlib.Core.Path.{_≡_, refl, ap, sym, _∙_}
 use mathlib.Core.Option.{none, some}
 use mathlib.Core.List.{List, _++_, map}
-use native.Mathlib.Omega.{arith}
-use lib.ListN.{length, drop, replicate, length-map, length-replicate, replicate-append-replicate}
-use lib.Seq.{drop-at}
+use lib.ListN.{length, drop, length-map}
 use Rattle.automata.specs.Saturation.{Saturated}
 use Rattle.files.specs.Start.{startsOf}
 use Rattle.services.specs.Memory.{zeros, padded}
 use Rattle.services.specs.Saturate.{saturated}
 use Rattle.services.specs.Judge.{JudgeInput, JudgeDone, judgeLent, judgeLeft, judgeService, mark}
+use Rattle.tables.specs.Filled.{drop-zeros}
 use Rattle.demands.specs.Demand1.Proof.{padded-none}
 use Rattle.sound_files.specs.Saturated.{lentOf}
 use Rattle.judge.specs.Cases.{refusedBefore, Passed, judgeInput, judgeDone, refused, exceeded, answered}
-
-drop-zeros : (n a : ℕ) → n ≤ a → drop n (zeros a) ≡ zeros (a - n)
-unfolding zeros
-drop-zeros n a h =
-    ap (λ (k : ℕ). drop n (replicate k 0)) (let e : a ≡ n + (a - n) = omega arith in e)
-    ∙ ap (drop n) (sym (replicate-append-replicate n (a - n) 0))
-    ∙ drop-at (replicate n 0) (replicate (a - n) 0) n (length-replicate n 0)
 
 done-same : {c d : ℕ} {m n e f a b : List ℕ} → c ≡ d → m ≡ n → e ≡ f → a ≡ b → judgeDone c m e a ≡ judgeDone d n f b
 done-same p q r s = λ i. record { code = p i; moves = q i; entries = r i; answers = s i }
@@ -50,10 +42,9 @@ module _ (x : JudgeInput) {m e a : List ℕ} where
         let n : ℕ = length (startsOf (x .start)) in
         let l : List ℕ = map (mark (T .table) (x .start)) (startsOf (x .start)) in
         let len : length l ≡ n = length-map (startsOf (x .start)) (mark (T .table) (x .start)) in
-        let room : n ≤ x .answers = through .answers-lent in
         done-same refl (p ∙ ap zeros kept) (q ∙ ap zeros kept′)
         (marks
-        ∙ ap (λ (y : List ℕ). l ++ y) (ap (drop n) z ∙ drop-zeros n (x .answers) room ∙ ap (λ (i : ℕ). zeros (x .answers - i)) (sym len)))
+        ∙ ap (λ (y : List ℕ). l ++ y) (ap (drop n) z ∙ drop-zeros n (x .answers) ∙ ap (λ (i : ℕ). zeros (x .answers - i)) (sym len)))
         ∙ sym (answered x through h)
 
 -- the same slices are lent where a call before has kept their lengths

@@ -15,7 +15,7 @@ use Rattle.tables.specs.Rows.{Layout, rowsIn, putRow}
 use Rattle.tables.specs.Rows.Laws.{length-rowsIn, length-putRow, drop-putRow, words-rowsIn, rowsIn-whole, length-each-words}
 use Rattle.tables.specs.Records.{moveRow, entryRow}
 
-drop-zeros : (k n : ℕ) → drop k (zeros n) ≡ zeros (n - k)
+pub drop-zeros : (k n : ℕ) → drop k (zeros n) ≡ zeros (n - k)
 unfolding zeros
 drop-zeros zero n = ap (λ (m : ℕ). replicate m 0) (sym (sub-zero n))
 drop-zeros (suc k) zero = drop-nil (suc k) ∙ ap (λ (m : ℕ). replicate m 0) (let z : 0 ≡ 0 - suc k = omega arith in z)

@@ -1,0 +1,98 @@
+-- `listing_text::sound_listing` meets its contract.
+-- Assumes nothing.
+use mathlib.Core.Path.{refl}
+use native.Mathlib.Omega.{arith}
+use borrow.Author.Tests.{not-true, not-false}
+use borrow.Author.Needs.{needs}
+use Rattle.services.specs.Memory.{zeros}
+use Rattle.text.specs.Written.{written-same}
+use Rattle.sound_files.specs.Saturated.{table-none}
+use Rattle.listing_text.specs.Prepared.{prepared}
+use Rattle.listing_text.specs.Texts.{listing-exceeded}
+use Rattle.listing_text.proofs.sound_listing.Statement.{statement}
+use Rattle.listing_text.proofs.sound_listing.Tie as tie
+
+slice-aggregate-saturate-case : tie.Need-slice-aggregate-saturate-case
+slice-aggregate-saturate-case c = search needs
+
+slice-aggregate-saturate-case-2 : tie.Need-slice-aggregate-saturate-case-2
+slice-aggregate-saturate-case-2 c = search needs
+
+slice-aggregate-saturate-case-3 : tie.Need-slice-aggregate-saturate-case-3
+slice-aggregate-saturate-case-3 c = search needs
+
+slice-aggregate-saturate-case-4 : tie.Need-slice-aggregate-saturate-case-4
+slice-aggregate-saturate-case-4 c = search needs
+
+slice-aggregate-saturate-case-5 : tie.Need-slice-aggregate-saturate-case-5
+slice-aggregate-saturate-case-5 c = search needs
+
+saturate-case-requires : tie.Need-saturate-case-requires
+unfolding zeros
+saturate-case-requires c κs = (
+  c .before .before .before .before .before .before .before .before .pre .0 .sound-case,
+  record { entries-zero = refl; moves-zero = refl; inner-room = omega arith; pending-room = omega arith; sizes-room = omega arith },
+)
+
+put-refused-requires : tie.Need-put-refused-requires
+put-refused-requires c κs = search needs
+
+same-length : tie.Need-same-length
+same-length c = search needs
+
+returns : tie.Need-returns
+returns c =
+    let t = c .before .before .before .before in
+    let s = t .before .before .before .before .before .before .before in
+    let e = s .before .before .before .before .before .before .before .before .before in
+    let w = c .before .before .put-refused .ensures in
+    let large = table-none (s .saturate-case .ensures) (not-true (s .saturate-case .result .fits) (t .if1 .taken)) in
+    (written-same (listing-exceeded _ _ (e .pre .0) large) (w .0), omega arith)
+
+slice-aggregate-table-lines : tie.Need-slice-aggregate-table-lines
+slice-aggregate-table-lines c = search needs
+
+slice-aggregate-table-lines-2 : tie.Need-slice-aggregate-table-lines-2
+slice-aggregate-table-lines-2 c = search needs
+
+slice-aggregate-table-lines-3 : tie.Need-slice-aggregate-table-lines-3
+slice-aggregate-table-lines-3 c = search needs
+
+slice-aggregate-table-lines-4 : tie.Need-slice-aggregate-table-lines-4
+slice-aggregate-table-lines-4 c = search needs
+
+table-lines-requires : tie.Need-table-lines-requires
+table-lines-requires c κs =
+    let t = c .before .before .before .before .before .before in
+    let s = t .before .before .before .before .before .before .before in
+    let e = s .before .before .before .before .before .before .before .before .before in
+    let k = s .saturate-case .kept in
+    let fits = not-false (s .saturate-case .result .fits) (t .if1 .left) in
+    (prepared (e .pre .0) (s .saturate-case .ensures) fits (k .1 .0) (k .1 .1 .1 .1 .1 .0), search needs)
+
+same-length-2 : tie.Need-same-length-2
+same-length-2 c = search needs
+
+returns-2 : tie.Need-returns-2
+returns-2 c = search needs
+
+pub sound-listing-spec : {M : Type 1} → statement M
+sound-listing-spec =
+    tie.close
+    (tie.spec
+    slice-aggregate-saturate-case
+    slice-aggregate-saturate-case-2
+    slice-aggregate-saturate-case-3
+    slice-aggregate-saturate-case-4
+    slice-aggregate-saturate-case-5
+    saturate-case-requires
+    put-refused-requires
+    same-length
+    returns
+    slice-aggregate-table-lines
+    slice-aggregate-table-lines-2
+    slice-aggregate-table-lines-3
+    slice-aggregate-table-lines-4
+    table-lines-requires
+    same-length-2
+    returns-2)

@@ -1,0 +1,4 @@
+pub mod Prepared
+pub mod Texts
+pub mod Starts
+pub mod Printed

@@ -1,0 +1,100 @@
+-- The text of the listing, as the code comes to it: refused by the files, refused for size, or the size line and the lines of the starts.
+-- Assumes nothing.
+use Prim.Native.Nat.{ℕ, _*_, _≤_, _<_}
+use mathlib.Core.Bool.{true, false}
+use mathlib.Core.Path.{_≡_, ap, sym, _∙_}
+use mathlib.Core.Option.{none}
+use mathlib.Core.List.{List, _++_}
+use native.Mathlib.Omega.{arith}
+use lib.ListN.{length}
+use lib.Dec.{eqb}
+use borrow.Author.Tests.{eq-eqb, ne-eqb}
+use Rattle.automata.specs.Saturation.{Saturated}
+use Rattle.replies.specs.declared.Saturation.{Saturation}
+use Rattle.replies.specs.declared.Reply.{Reply}
+use Rattle.files.specs.Start.{Files, startsOf}
+use Rattle.files.specs.Start.Laws.{start-places}
+use Rattle.services.specs.Saturate.{saturated, saturateFilled, saturateService}
+use Rattle.services.specs.Judge.{judgeLent, judgeLeft, judgeService}
+use Rattle.services.specs.Guide.{guideLent, guideRun, guideLeft, cellWords}
+use Rattle.services.specs.Listing.{listingJudge, listingGuide, sizeLine, startLine, startLines, refusedText, judgedText, listingText}
+use Rattle.tables.specs.declared.Table.{Table}
+use Rattle.tables.specs.Rows.Laws.{length-rowsIn}
+use Rattle.tables.specs.Records.{entryRow, moveRow}
+use Rattle.start_file.specs.Checks.{filesOf}
+use Rattle.saturate.specs.Service.Laws.{done-filled}
+use Rattle.text.specs.Lines.{replyLine, startLine-is}
+use Rattle.sound_files.specs.Sound.{start-sound, starts-count}
+use Rattle.sound_files.specs.Refusal.{FilesSound, filesRefusal, filesThen, by-files}
+use Rattle.sound_files.specs.Saturated.{lentOf}
+use Rattle.judge.specs.Cases as judge
+use Rattle.guided_step.specs.Step.{saturatedIn}
+use Rattle.guide.specs.Run.{guideInput, run-tables}
+use Rattle.guide.specs.Cases as guide
+use Rattle.listing_text.specs.Prepared.{Prepared}
+
+-- ---- by the number with which judge refuses
+
+text-refused : (f : Files) (n : ℕ) → judgeService (listingJudge f) .code ≡ n → (n ≡ 0 → ⊥) → listingText f ≡ refusedText n
+unfolding listingText
+text-refused f n e h =
+    ap (λ (m : ℕ). elim (eqb m 0) [ true ↦ judgedText f | false ↦ refusedText m ]) e ∙ rw (ne-eqb n 0 h)
+
+text-judged : (f : Files) → judgeService (listingJudge f) .code ≡ 0 → listingText f ≡ judgedText f
+unfolding listingText
+text-judged f e = rw (listingText, eq-eqb (judgeService (listingJudge f) .code) 0 e)
+
+-- a sound start file has at most 64 starts
+pub starts-few : {case start : List ℕ} → FilesSound case start → length (startsOf start) ≤ 64
+starts-few {start = start} s =
+    let k = start-places start (start-sound s .in-place) .starts-few in
+    let c = starts-count start in
+    omega arith
+
+module _ (case start : List ℕ) where
+  abbrev files : Files
+  files = filesOf case start
+
+  -- judge has room for the marks
+  passes : FilesSound case start → judge.Passed case start 64
+  passes s = record { sound = s; answers-lent = starts-few s }
+
+  pub listing-refused : {n : ℕ} → n ≡ filesRefusal case start → (n ≡ 0 → ⊥) → refusedText n ≡ listingText files
+  unfolding listingJudge judgeLeft
+  listing-refused {n} is h =
+      let e : n ≡ filesThen case start (judge.answersRefusal start 64) = by-files case start (judge.answersRefusal start 64) is h in
+      sym (text-refused files n (ap (λ d. d .code) (judge.refused (listingJudge files) (λ z. h (e ∙ z))) ∙ sym e) h)
+
+  pub listing-exceeded : FilesSound case start → saturated (lentOf case (1024 * 5) (64 * 2)) ≡ none → refusedText 9 ≡ listingText files
+  unfolding listingJudge judgeLeft judgeLent
+  listing-exceeded s h =
+      sym (text-refused files 9 (ap (λ d. d .code) (judge.exceeded (listingJudge files) (passes s) h)) (omega arith))
+
+  module _ {z : Table} {inner entries moves : List ℕ} {k : ℕ} {sizes : List ℕ} (prepared : Prepared case start z inner entries moves k sizes) where
+    abbrev T : Saturated
+    T = saturatedIn z inner entries moves k sizes
+
+    -- the reply of saturate, whose code the line does not show
+    sizes-are : saturateService (lentOf case (1024 * 5) (64 * 2)) .reply ≡ record { code = 0; moves = z .moves; entries = z .entries }
+    unfolding saturateFilled
+    sizes-are =
+        ap (λ d. d .reply) (sym (done-filled (lentOf case (1024 * 5) (64 * 2)) T (prepared .sound .sound-case) (prepared .table-is)))
+        ∙ (λ i. record { code = 0; moves = length-rowsIn moveRow (z .moves) moves i; entries = length-rowsIn entryRow (z .entries) entries i })
+
+    pub listing-judged : sizeLine (record { code = 0; moves = z .moves; entries = z .entries }) ++ startLines files 0 (length (startsOf start))
+        ≡ listingText files
+    unfolding listingJudge judgeLeft judgeLent judgedText
+    listing-judged =
+        ap (λ (r : Saturation). sizeLine r ++ startLines files 0 (length (startsOf start))) (sym sizes-are)
+        ∙ sym (text-judged files (ap (λ d. d .code) (judge.answered (listingJudge files) (passes (prepared .sound)) (prepared .table-is))))
+
+    -- the line of a start is that of the reply of its run, whatever the lengths m and e of the tables
+    pub line-guided : (n m e : ℕ) {reply : Reply} → n < length (startsOf start)
+        → reply ≡ guideRun (guideInput case start n m e (512 * 68) 1024) T .reply → replyLine n reply ≡ startLine files n
+    unfolding listingGuide guideLent guideLeft cellWords
+    line-guided n m e h is =
+        ap (replyLine n)
+        (is
+        ∙ ap (λ o. o .reply) (run-tables case start n m (1024 * 5) e (64 * 2) (512 * 68) 1024 T)
+        ∙ sym (ap (λ d. d .reply) (guide.answers-guided (listingGuide files n) (record { sound = prepared .sound; start-there = h }) (prepared .table-is))))
+        ∙ sym (startLine-is files n)

@@ -1,0 +1,167 @@
+// The text that the printing program prints for a case file and a start file. The case is saturated once, and every start is guided on that table.
+ghost use mathlib.Core.Path.{_≡_};
+ghost use Prim.Native.Nat.{_+_, _*_, _≤_, _<_};
+ghost use lib.ListN.{length};
+ghost use Rattle.files.specs.Start.{startsOf};
+ghost use Rattle.services.specs.Memory.{padded};
+ghost use Rattle.services.specs.Listing.{startLine, startLines, listingText};
+ghost use Rattle.start_file.specs.Checks.{filesOf};
+ghost use Rattle.text.specs.Written.{Written};
+ghost use Rattle.sound_files.specs.Refusal.{FilesSound};
+ghost use Rattle.listing_text.specs.Prepared.{Prepared};
+use replies::Saturation;
+use tables::Table;
+
+// What the program lends.
+pub struct Limits {}
+
+impl Limits {
+    pub const MOVES: usize = 1024;
+
+    pub const ENTRIES: usize = 64;
+
+    pub const CELLS: usize = 512;
+
+    pub const TRACE: usize = 1024;
+}
+
+// Writes the line of start n from `at` on and answers the place after it.
+fn start_line(
+    case: &[u8],
+    start: &[u8],
+    n: usize,
+    z: Table,
+    inner: &[u64],
+    entries: &[u64],
+    moves: &[u64],
+    sizes: &[u64],
+    k: usize,
+    text: &mut [u8],
+    at: usize,
+) -> usize
+    requires { ⌜ Prepared (now case) (now start) z (now inner) (now entries) (now moves) k (now sizes) × (n < length (startsOf (now start))) × (at + 61 ≤ length (now text)) ⌝ }
+    ensures { λ r. ⌜ Written (now (text .entry)) at (startLine (filesOf (now (case .entry)) (now (start .entry))) n) (now (text .exit)) r ⌝ }
+    ensures within { λ r. ⌜ r ≤ at + 61 ⌝ }
+{
+    let mut cells = [0u16; Limits::CELLS * 68];
+    let mut trace = [0u16; Limits::TRACE];
+    let reply = guide::guide_start(
+        case,
+        start,
+        n,
+        z,
+        inner,
+        entries,
+        moves,
+        sizes,
+        k,
+        &mut cells,
+        &mut trace,
+    );
+    text::put_reply_line(text, at, n as u64, reply)
+}
+
+// Writes the lines of all starts from `at` on and answers the place after them.
+fn start_lines(
+    case: &[u8],
+    start: &[u8],
+    z: Table,
+    inner: &[u64],
+    entries: &[u64],
+    moves: &[u64],
+    sizes: &[u64],
+    k: usize,
+    text: &mut [u8],
+    at: usize,
+) -> usize
+    requires { ⌜ Prepared (now case) (now start) z (now inner) (now entries) (now moves) k (now sizes) × (at + 64 * 61 ≤ length (now text)) ⌝ }
+    ensures { λ r. ⌜ Written (now (text .entry)) at (startLines (filesOf (now (case .entry)) (now (start .entry))) 0 (length (startsOf (now (start .entry))))) (now (text .exit)) r ⌝ }
+    ensures within { λ r. ⌜ r ≤ at + 64 * 61 ⌝ }
+{
+    let count = bytes_in::count_of(start, 0);
+    let mut n: usize = 0;
+    let mut end = at;
+    while n < count {
+        end = start_line(
+            case,
+            start,
+            n,
+            z,
+            inner,
+            entries,
+            moves,
+            sizes,
+            k,
+            text,
+            end,
+        );
+        n += 1;
+    }
+    end
+}
+
+// Writes the listing of a table that fits and answers its length.
+fn table_lines(
+    case: &[u8],
+    start: &[u8],
+    z: Table,
+    inner: &[u64],
+    entries: &[u64],
+    moves: &[u64],
+    sizes: &[u64],
+    k: usize,
+    text: &mut [u8],
+) -> usize
+    requires { ⌜ Prepared (now case) (now start) z (now inner) (now entries) (now moves) k (now sizes) × (4096 ≤ length (now text)) ⌝ }
+    ensures { λ r. ⌜ Written (now (text .entry)) 0 (listingText (filesOf (now (case .entry)) (now (start .entry)))) (now (text .exit)) r ⌝ }
+    ensures within { λ r. ⌜ r ≤ 4096 ⌝ }
+{
+    let reply = Saturation {
+        code: 0,
+        moves: z.moves as u64,
+        entries: z.entries as u64,
+    };
+    let end = text::put_size_line(text, 0, reply);
+    start_lines(case, start, z, inner, entries, moves, sizes, k, text, end)
+}
+
+// Writes the listing of sound files and answers its length.
+fn sound_listing(case: &[u8], start: &[u8], text: &mut [u8]) -> usize
+    requires { ⌜ FilesSound (now case) (now start) × (4096 ≤ length (now text)) ⌝ }
+    ensures { λ r. ⌜ Written (now (text .entry)) 0 (listingText (filesOf (now (case .entry)) (now (start .entry)))) (now (text .exit)) r ⌝ }
+    ensures within { λ r. ⌜ r ≤ 4096 ⌝ }
+{
+    let mut moves = [0u64; Limits::MOVES * 5];
+    let mut entries = [0u64; Limits::ENTRIES * 2];
+    let mut inner = [0u64; 192];
+    let mut pending = [0u64; 6144];
+    let mut sizes = [0u64; 2050];
+    let r = saturate::saturate_case(
+        case,
+        &mut inner,
+        &mut entries,
+        &mut moves,
+        &mut pending,
+        &mut sizes,
+    );
+    if !r.fits {
+        return text::put_refused(text, 0, 9);
+    }
+    let z = r.table;
+    let k = r.sizes;
+    table_lines(case, start, z, &inner, &entries, &moves, &sizes, k, text)
+}
+
+// Writes the listing of a case file and a start file, zeros behind it, and answers its length.
+pub fn listing(case: &[u8], start: &[u8], text: &mut [u8; 4096]) -> usize
+    ensures { λ _. ⌜ now (text .exit) ≡ padded 4096 (listingText (filesOf (now (case .entry)) (now (start .entry)))) ⌝ }
+    ensures long { λ r. ⌜ r ≡ length (listingText (filesOf (now (case .entry)) (now (start .entry)))) ⌝ }
+    ensures within { λ r. ⌜ r ≤ 4096 ⌝ }
+{
+    *text = [0u8; 4096];
+    let refusal = sound_files::files_refusal(case, start);
+    if refusal != 0 {
+        return text::put_refused(text, 0, refusal);
+    }
+    sound_listing(case, start, text)
+}

@@ -1,0 +1,28 @@
+// Reads a case file and a start file, and writes their listing to standard output.
+ghost use Rattle.io.specs.Counts.{Counts};
+use libc::STDOUT_FILENO;
+
+// Reads a file into the buffer as far as it holds it, and answers how many bytes it read: none where the file can not be opened.
+fn read_file(path: &[u8], buffer: &mut [u8]) -> usize
+    ensures { λ r. ⌜ Counts r (now (buffer .exit)) ⌝ }
+{
+    let file = os::open_read(path);
+    if file < 0 {
+        return 0;
+    }
+    let n = io::read_full(file, buffer);
+    libc::close(file);
+    n
+}
+
+// Prints the listing of the files with these names. Each buffer holds a byte more than the longest sound file, so a longer file is refused for
+// its length.
+pub fn print_listing(case_path: &[u8], start_path: &[u8]) {
+    let mut case = [0u8; 21040];
+    let mut start = [0u8; 1746];
+    let mut text = [0u8; 4096];
+    let c = read_file(case_path, &mut case);
+    let s = read_file(start_path, &mut start);
+    let n = listing_text::listing(&case[..c], &start[..s], &mut text);
+    io::write_all(STDOUT_FILENO, &text[..n]);
+}
