@@ -124,6 +124,25 @@ pub const SHAPES: [Shape; 7] = [
     },
 ];
 
+/// Files near the limits of document 01, with runs to a planted target. It is no
+/// part of `SHAPES`: a pair takes longer.
+pub const WIDE: Shape = Shape {
+    name: "wide",
+    controls: 8,
+    inner_two: 8,
+    inner_one: 16,
+    symbols: 24,
+    rules: 60,
+    codes: &[1, 2, 2, 3, 3, 4, 5, 6, 7, 7, 8, 8],
+    onward: 20,
+    planted: true,
+    edges: 2,
+    moves: 8,
+    members: 10,
+    starts: 64,
+    cells: 256,
+};
+
 /// A sound case and a sound start file for it, with their bytes.
 #[derive(Clone, Debug)]
 pub struct Pair {

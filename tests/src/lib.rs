@@ -8,15 +8,21 @@
 #![allow(rustdoc::broken_intra_doc_links)]
 
 pub mod automaton;
+pub mod compare;
 pub mod damage;
+pub mod data;
 pub mod derivation;
+pub mod effort;
 pub mod encode;
 pub mod file;
 pub mod generate;
 pub mod guide;
 pub mod lent;
 pub mod lines;
+pub mod models;
+pub mod pairs;
 pub mod plant;
+pub mod proved;
 pub mod random;
 pub mod saturation;
 pub mod search;

@@ -1,121 +1,15 @@
-//! The worked models of document 01 and its sentence "At the edges", from bytes
-//! written by hand.
+//! The worked models of document 01 and its sentence "At the edges".
 
 use second::file::decode_case;
 use second::lent::Lent;
+use second::models::{
+    CASE_A, CASE_B, CASE_C, START_A, START_B, START_C_ONE, START_C_TWO, case_a_with_rules,
+    start_a_with_starts,
+};
 use second::saturation::saturate;
 use second::services::GuideReply::{Arrived, NoRun, Refused};
 use second::services::{LISTING_ENTRIES, LISTING_MOVES, listing};
 use second::table::Size;
-
-/// "P 2, I 0, J 0, A 2; rules 0: (0,0,3,1,0), 1: (0,1,8,0,1); edge
-/// (1,255,empty); move (0,1,0,empty,empty). 80 bytes."
-#[rustfmt::skip]
-const CASE_A: [u8; 80] = [
-    4,
-    1, 0, 1, 0, 33, 0, 0, 0,
-    2, 0, 2, 0, 47, 0, 0, 0,
-    3, 0, 1, 0, 57, 0, 0, 0,
-    4, 0, 1, 0, 61, 0, 0, 0,
-    2, 0, 0, 2, 0, 0, 0, 0, 0, 0, 0, 0, 0, 0,
-    0, 0, 3, 1, 0,
-    0, 1, 8, 0, 1,
-    1, 255, 0, 0,
-    0, 1, 0, 0, 0, 0, 0, 0, 0, 0, 0, 0, 0, 0, 0, 0, 0, 0, 0,
-];
-
-/// "0 empty order-1; 1 symbol 1 on 0 annotated 0; 2 empty order-2; 3 is 1 on 2;
-/// 4 symbol 0 on 0 annotated 0; 5 is 4 on 3. Starts (0,5), (1,3), (0,3)."
-#[rustfmt::skip]
-const START_A: [u8; 62] = [
-    2,
-    1, 0, 3, 0, 17, 0, 0, 0,
-    2, 0, 6, 0, 26, 0, 0, 0,
-    0, 5, 0,
-    1, 3, 0,
-    0, 3, 0,
-    1, 0, 0, 0, 0, 0,
-    2, 1, 0, 0, 0, 0,
-    3, 0, 0, 0, 0, 0,
-    4, 0, 1, 0, 2, 0,
-    2, 0, 0, 0, 0, 0,
-    4, 0, 4, 0, 3, 0,
-];
-
-/// "Target as A, rule (0,0,5,0,1)."
-#[rustfmt::skip]
-const CASE_B: [u8; 75] = [
-    4,
-    1, 0, 1, 0, 33, 0, 0, 0,
-    2, 0, 1, 0, 47, 0, 0, 0,
-    3, 0, 1, 0, 52, 0, 0, 0,
-    4, 0, 1, 0, 56, 0, 0, 0,
-    2, 0, 0, 2, 0, 0, 0, 0, 0, 0, 0, 0, 0, 0,
-    0, 0, 5, 0, 1,
-    1, 255, 0, 0,
-    0, 1, 0, 0, 0, 0, 0, 0, 0, 0, 0, 0, 0, 0, 0, 0, 0, 0, 0,
-];
-
-/// Starts with control 0: "symbol 0 above 1" and "symbol 0 alone", each on the
-/// empty order-2 stack and annotated by the empty order-1 stack.
-#[rustfmt::skip]
-const START_B: [u8; 65] = [
-    2,
-    1, 0, 2, 0, 17, 0, 0, 0,
-    2, 0, 7, 0, 23, 0, 0, 0,
-    0, 4, 0,
-    0, 6, 0,
-    1, 0, 0, 0, 0, 0,
-    2, 1, 0, 0, 0, 0,
-    3, 0, 0, 0, 0, 0,
-    2, 0, 0, 0, 1, 0,
-    4, 0, 3, 0, 2, 0,
-    2, 0, 0, 0, 0, 0,
-    4, 0, 5, 0, 2, 0,
-];
-
-/// "P 2, I 0, J 0, A 1, target [1,empty] on symbol 0; rules 0: (0,0,4,0,0),
-/// 1: (0,0,6,0,1)."
-#[rustfmt::skip]
-const CASE_C: [u8; 80] = [
-    4,
-    1, 0, 1, 0, 33, 0, 0, 0,
-    2, 0, 2, 0, 47, 0, 0, 0,
-    3, 0, 1, 0, 57, 0, 0, 0,
-    4, 0, 1, 0, 61, 0, 0, 0,
-    2, 0, 0, 1, 0, 0, 0, 0, 0, 0, 0, 0, 0, 0,
-    0, 0, 4, 0, 0,
-    0, 0, 6, 0, 1,
-    1, 255, 0, 0,
-    0, 0, 0, 0, 0, 0, 0, 0, 0, 0, 0, 0, 0, 0, 0, 0, 0, 0, 0,
-];
-
-/// "[[0]], a file of four cells".
-#[rustfmt::skip]
-const START_C_ONE: [u8; 44] = [
-    2,
-    1, 0, 1, 0, 17, 0, 0, 0,
-    2, 0, 4, 0, 20, 0, 0, 0,
-    0, 3, 0,
-    1, 0, 0, 0, 0, 0,
-    2, 0, 0, 0, 0, 0,
-    3, 0, 0, 0, 0, 0,
-    4, 0, 1, 0, 2, 0,
-];
-
-/// "[[0],[0]]".
-#[rustfmt::skip]
-const START_C_TWO: [u8; 50] = [
-    2,
-    1, 0, 1, 0, 17, 0, 0, 0,
-    2, 0, 5, 0, 20, 0, 0, 0,
-    0, 4, 0,
-    1, 0, 0, 0, 0, 0,
-    2, 0, 0, 0, 0, 0,
-    3, 0, 0, 0, 0, 0,
-    4, 0, 1, 0, 2, 0,
-    4, 0, 1, 0, 3, 0,
-];
 
 /// Judges the starts; the answers after them and the tables must be zero.
 fn marks(case: &[u8], start: &[u8], starts: usize) -> Vec<u8> {
@@ -229,34 +123,6 @@ fn model_c_with_one_stack() {
 fn model_c_with_two_stacks() {
     assert_eq!(marks(&CASE_C, &START_C_TWO, 1), [1]);
     assert_eq!(arrived_trace(&CASE_C, &START_C_TWO, 0, 1, 5), [1]);
-}
-
-/// Model A's case with `count` rules: its two, then repeats of rule 1.
-fn case_a_with_rules(count: usize) -> Vec<u8> {
-    let mut file = CASE_A[..57].to_vec();
-    for _ in 2..count {
-        file.extend([0, 1, 8, 0, 1]);
-    }
-    file.extend(&CASE_A[57..]);
-    file[11..13].copy_from_slice(&(count as u16).to_le_bytes());
-    let edges = 47 + 5 * count as u32;
-    file[21..25].copy_from_slice(&edges.to_le_bytes());
-    file[29..33].copy_from_slice(&(edges + 4).to_le_bytes());
-    file
-}
-
-/// Model A's start file with `count` starts: its three, then repeats of the
-/// first.
-fn start_a_with_starts(count: usize) -> Vec<u8> {
-    let mut file = START_A[..26].to_vec();
-    for _ in 3..count {
-        file.extend([0, 5, 0]);
-    }
-    file.extend(&START_A[26..]);
-    file[3..5].copy_from_slice(&(count as u16).to_le_bytes());
-    let cells = 17 + 3 * count as u32;
-    file[13..17].copy_from_slice(&cells.to_le_bytes());
-    file
 }
 
 /// "64 starts pass, 65 give 5; 256 rules pass, 257 give 1; a cell naming itself

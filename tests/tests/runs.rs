@@ -4,24 +4,14 @@
 
 use second::automaton::{accepting, accepts};
 use second::file::{decode_case, decode_start};
-use second::generate::{Pair, SHAPES, Shape, pair};
+use second::generate::Pair;
 use second::lent::Lent;
-use second::random::seeds;
+use second::pairs::pairs;
 use second::search::{Bounds, Outcome, search};
-use second::services::GuideReply::{self, Arrived, CellsShort, NoRun, Refused, TraceFull};
+use second::services::GuideReply::{Arrived, CellsShort, NoRun, Refused};
 use second::services::{LISTING_ENTRIES, LISTING_MOVES, MOST_CELLS};
 use second::sets::has;
-use second::stack::{Configuration, configuration, new_cells, replay};
 use second::table::Table;
-
-/// The generated pairs of all shapes, with what names them in a failure.
-fn pairs(count: u64) -> impl Iterator<Item = (String, Pair)> {
-    let seeds = seeds(count);
-    SHAPES.iter().flat_map(move |shape: &Shape| {
-        let seeds = seeds.clone();
-        seeds.map(move |seed| (format!("{} {seed}", shape.name), pair(seed, shape)))
-    })
-}
 
 /// Memory with all cells that count and a long trace.
 fn ample() -> Lent {
@@ -38,22 +28,6 @@ fn marks(lent: &mut Lent, pair: &Pair, name: &str) -> Option<Vec<bool>> {
         9 => None,
         other => panic!("{name}: judge refuses a sound pair with {other}"),
     }
-}
-
-fn start_configuration(pair: &Pair, number: usize) -> Configuration {
-    configuration(&pair.start, &pair.start.starts[number])
-}
-
-/// The end of the run that the trace is from the start, each rule applying.
-fn end_of_run(pair: &Pair, number: usize, trace: &[u16], name: &str) -> Configuration {
-    replay(&pair.case.rules, start_configuration(pair, number), trace)
-        .unwrap_or_else(|| panic!("{name} start {number}: a rule does not apply"))
-}
-
-/// The cells used after the rules of the trace.
-fn cells_after(pair: &Pair, trace: &[u16]) -> usize {
-    let new = |&rule: &u16| new_cells(pair.case.rules[usize::from(rule)].code);
-    pair.start.cells.len() + trace.iter().map(new).sum::<usize>()
 }
 
 #[test]
@@ -77,7 +51,7 @@ fn cells_and_stacks_are_accepted_alike() {
         let by_cell = accepting(&own, &pair.start.cells);
         for (number, start) in pair.start.starts.iter().enumerate() {
             let states = by_cell[usize::from(start.root)].states;
-            let accepted = accepts(&own, &start_configuration(&pair, number));
+            let accepted = accepts(&own, &pair.configuration(number));
             assert_eq!(accepted, has(states, start.control), "{name}");
         }
     }
@@ -96,41 +70,18 @@ fn traces_are_runs_to_the_target() {
         for (number, &mark) in marks.iter().enumerate() {
             let reply = lent.guide(&pair.case_file, &pair.start_file, number as u64);
             assert_eq!(reply != NoRun, mark, "{name} start {number}");
-            if let Arrived { steps, cells } = reply {
-                let trace = &lent.trace[..steps as usize];
-                check_arrived(&pair, number, trace, cells, &name);
-                for &rule in trace {
+            if mark {
+                pair.check_run(number, reply, &lent.trace, &name);
+            }
+            if let Arrived { steps, .. } = reply {
+                for &rule in &lent.trace[..steps as usize] {
                     taken[usize::from(pair.case.rules[usize::from(rule)].code)] += 1;
                 }
-            } else if mark {
-                check_unfinished(&pair, number, reply, &lent, &name);
             }
         }
     }
     println!("steps by code 1 to 8: {:?}", &taken[1..]);
     assert!(taken[1..].iter().all(|&steps| steps >= 20), "{taken:?}");
-}
-
-fn check_arrived(pair: &Pair, number: usize, trace: &[u16], cells: u64, name: &str) {
-    let end = end_of_run(pair, number, trace, name);
-    let own = Table::new(&pair.case);
-    assert!(
-        accepts(&own, &end),
-        "{name} start {number} is not in the target"
-    );
-    let used = cells_after(pair, trace) as u64;
-    assert_eq!(cells, used, "{name} start {number}");
-}
-
-/// A walk that halted before its arrival still wrote a run.
-fn check_unfinished(pair: &Pair, number: usize, reply: GuideReply, lent: &Lent, name: &str) {
-    let (TraceFull { cells, .. } | CellsShort { cells, .. }) = reply else {
-        panic!("{name} start {number}: {reply:?}");
-    };
-    let trace = &lent.trace[..reply.steps()];
-    end_of_run(pair, number, trace, name);
-    let used = cells_after(pair, trace) as u64;
-    assert_eq!(cells, used, "{name} start {number}");
 }
 
 /// No start marked no reaches the target within the bounds, and no start marked
@@ -149,7 +100,7 @@ fn marks_agree_with_the_search() {
             continue;
         };
         for (number, &mark) in marks.iter().enumerate() {
-            match search(&pair.case, start_configuration(&pair, number), bounds) {
+            match search(&pair.case, pair.configuration(number), bounds) {
                 Outcome::Reached(_) => {
                     assert!(mark, "{name} start {number} reaches the target");
                     reached += 1;
@@ -183,7 +134,7 @@ fn short_runs_are_found_by_the_search() {
                 size: 500,
                 configurations: 5000,
             };
-            match search(&pair.case, start_configuration(&pair, number), bounds) {
+            match search(&pair.case, pair.configuration(number), bounds) {
                 Outcome::Reached(least) => {
                     assert!(least <= steps as usize, "{name} start {number}");
                     found += usize::from(steps > 0);
@@ -197,40 +148,16 @@ fn short_runs_are_found_by_the_search() {
     assert!(found >= 300 && 10 * left_out < found);
 }
 
-/// What the guide must answer with `c` cells and `t` trace words: "m being the
-/// least number where the run has arrived, m = t, or step m + 1 would bring the
-/// cells used above c, and it answers the first of these that holds, in that
-/// order".
-fn expected_reply(pair: &Pair, run: &[u16], c: usize, t: usize) -> GuideReply {
-    if c < pair.start.cells.len() {
-        return CellsShort { steps: 0, cells: 0 };
-    }
-    for m in 0.. {
-        let steps = m as u64;
-        let cells = cells_after(pair, &run[..m]) as u64;
-        if m == run.len() {
-            return Arrived { steps, cells };
-        }
-        if m == t {
-            return TraceFull { steps, cells };
-        }
-        if cells_after(pair, &run[..m + 1]) > c {
-            return CellsShort { steps, cells };
-        }
-    }
-    unreachable!("the run is finite")
-}
-
 /// The guide with every small `c` and `t`: reply, trace and zeroed memory.
 fn check_halts(pair: &Pair, number: usize, run: &[u16], name: &str) {
-    for c in 0..=cells_after(pair, run) + 1 {
+    for c in 0..=pair.cells_after(run) + 1 {
         for t in 0..=run.len() + 1 {
             let mut lent = Lent::new(LISTING_MOVES, LISTING_ENTRIES, c, t);
             // Words that do not make up a whole cell do not count.
             lent.cells.extend([0; 67]);
             let reply = lent.guide(&pair.case_file, &pair.start_file, number as u64);
             let named = format!("{name} start {number} cells {c} trace {t}");
-            assert_eq!(reply, expected_reply(pair, run, c, t), "{named}");
+            assert_eq!(reply, pair.expected_reply(run, c, t), "{named}");
             let steps = reply.steps();
             assert_eq!(lent.trace[..steps], run[..steps], "{named}");
             assert!(lent.trace_is_zero_from(steps), "{named}");

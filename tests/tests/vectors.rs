@@ -1,9 +1,7 @@
 //! The vectors and the larger files that came with document 01.
 
-use std::fs;
-use std::path::{Path, PathBuf};
-
 use second::automaton::accepts;
+use second::data::{Vector, bytes, vectors};
 use second::file::{decode_case, decode_start};
 use second::lent::Lent;
 use second::saturation::saturate;
@@ -11,44 +9,6 @@ use second::services::GuideReply::{Arrived, CellsShort};
 use second::services::{LISTING_ENTRIES, LISTING_MOVES, MOST_CELLS, listing, listing_answer};
 use second::stack::{configuration, replay};
 use second::table::{Size, Table};
-
-fn data(name: &str) -> PathBuf {
-    Path::new(env!("CARGO_MANIFEST_DIR"))
-        .join("tests/data")
-        .join(name)
-}
-
-/// The bytes that a field of vectors.txt stands for; "an empty file is `-`".
-fn bytes_of(field: &str) -> Vec<u8> {
-    if field == "-" {
-        return Vec::new();
-    }
-    (0..field.len() / 2)
-        .map(|at| u8::from_str_radix(&field[2 * at..2 * at + 2], 16).expect("two hex digits"))
-        .collect()
-}
-
-/// A line of vectors.txt.
-struct Vector {
-    name: String,
-    case: Vec<u8>,
-    start: Vec<u8>,
-    printed: String,
-}
-
-fn vectors() -> Vec<Vector> {
-    let text = fs::read_to_string(data("vectors.txt")).expect("vectors.txt");
-    let vector = |line: &str| {
-        let fields: Vec<&str> = line.splitn(4, ' ').collect();
-        Vector {
-            name: fields[0].to_string(),
-            case: bytes_of(fields[1]),
-            start: bytes_of(fields[2]),
-            printed: fields[3].replace('|', "\n") + "\n",
-        }
-    };
-    text.lines().map(vector).collect()
-}
 
 #[test]
 fn every_vector() {
@@ -125,11 +85,9 @@ fn every_larger_file_with_an_expected_listing() {
         "mid-1021568",
     ];
     for name in names {
-        let file = |part: &str| data("bench").join(name).join(part);
-        let case = fs::read(file("case.bin")).expect("case.bin");
-        let start = fs::read(file("start.bin")).expect("start.bin");
-        let expected = fs::read_to_string(file("expected.txt")).expect("expected.txt");
-        assert_eq!(listing(&case, &start), expected, "{name}");
+        let file = |part: &str| bytes(&format!("bench/{name}/{part}"));
+        let printed = listing(&file("case.bin"), &file("start.bin"));
+        assert_eq!(printed.as_bytes(), file("expected.txt"), "{name}");
     }
 }
 
@@ -154,8 +112,8 @@ fn every_larger_table() {
         entries: LISTING_ENTRIES,
     };
     for (name, moves, entries, rounds) in sizes {
-        let path = data("bench").join(name).join("case.bin");
-        let case = decode_case(&fs::read(path).expect("case.bin")).expect("a sound case");
+        let file = bytes(&format!("bench/{name}/case.bin"));
+        let case = decode_case(&file).expect("a sound case");
         let table = saturate(&case, lent).expect("a table that fits");
         let size = (table.moves().len(), table.entries().len());
         assert_eq!(size, (moves, entries), "{name}");

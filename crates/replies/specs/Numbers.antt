@@ -1,5 +1,6 @@
 -- Document 01's number and values for each case of an answer.
 -- Assumes nothing.
+pub mod Laws
 use Prim.Native.Nat.{ℕ}
 use Rattle.replies.specs.declared.Counts.{Counts}
 use Rattle.replies.specs.declared.Halt.{Halt}
@@ -18,3 +19,20 @@ unfoldable pub refusalOf : Reply → ℕ
 refusalOf (Refused n) = n
 refusalOf NoRun = 0
 refusalOf (Walked h) = 0
+
+-- The number of an answer for a caller that has no enums. A refusal has document 01's number, a walk that arrived 0, and each of the other
+-- answers a number above 255.
+abbrev pub numberOf : Reply → ℕ
+numberOf (Refused n) = n
+numberOf NoRun = 258
+numberOf (Walked (Arrived c)) = 0
+numberOf (Walked (TraceFull c)) = 256
+numberOf (Walked (CellsShort c)) = 257
+
+-- the steps and cells of an answer, 0 and 0 where it has none
+abbrev pub replyCounts : Reply → Counts
+replyCounts (Refused n) = record { steps = 0; cells = 0 }
+replyCounts NoRun = record { steps = 0; cells = 0 }
+replyCounts (Walked (Arrived c)) = c
+replyCounts (Walked (TraceFull c)) = c
+replyCounts (Walked (CellsShort c)) = c

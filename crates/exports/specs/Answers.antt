@@ -1,0 +1,32 @@
+-- What an export leaves, beside what the service leaves that it calls.
+-- Assumes nothing.
+pub mod Laws
+use Prim.Native.Nat.{ℕ}
+use mathlib.Core.List.{List}
+use Rattle.replies.specs.declared.Saturation.{Saturation}
+use Rattle.replies.specs.declared.Counts.{Counts}
+use Rattle.replies.specs.Numbers.{numberOf, replyCounts}
+use Rattle.services.specs.Guide.{GuideDone}
+
+-- saturate's reply: the number returned and the two words written
+abbrev pub theReply : ℕ → ℕ → ℕ → Saturation
+theReply code moves entries = record { code = code; moves = moves; entries = entries }
+
+-- guide's answer as a number and two counts, and all four lent slices afterwards
+pub record GuideAnswer : Type 0 where
+  pub number : ℕ
+  pub counts : Counts
+  pub moves : List ℕ
+  pub entries : List ℕ
+  pub cells : List ℕ
+  pub trace : List ℕ
+
+abbrev pub theCounts : ℕ → ℕ → Counts
+theCounts steps cells = record { steps = steps; cells = cells }
+
+abbrev pub theAnswer : ℕ → Counts → List ℕ → List ℕ → List ℕ → List ℕ → GuideAnswer
+theAnswer number counts moves entries cells trace =
+    record { number = number; counts = counts; moves = moves; entries = entries; cells = cells; trace = trace }
+
+unfoldable pub answerOf : GuideDone → GuideAnswer
+answerOf d = theAnswer (numberOf (d .reply)) (replyCounts (d .reply)) (d .moves) (d .entries) (d .cells) (d .trace)

@@ -1,0 +1,17 @@
+-- The answer's number and counts, beside what guide leaves, are those of the service.
+-- Assumes nothing.
+use Prim.Native.Nat.{ℕ}
+use mathlib.Core.List.{List}
+use mathlib.Core.Path.{_≡_, ap, ap₂, _∙_}
+use Rattle.replies.specs.declared.Counts.{Counts}
+use Rattle.replies.specs.declared.Reply.{Reply}
+use Rattle.replies.specs.Numbers.{numberOf, replyCounts}
+use Rattle.services.specs.Guide.{GuideDone}
+use Rattle.guide.specs.Left.{guideDone}
+use Rattle.exports.specs.Answers.{GuideAnswer, theAnswer, answerOf}
+
+pub answered : (reply : Reply) (moves entries cells trace : List ℕ) (d : GuideDone) → guideDone reply moves entries cells trace ≡ d
+    → (n : ℕ) → n ≡ numberOf reply → (c : Counts) → c ≡ replyCounts reply → theAnswer n c moves entries cells trace ≡ answerOf d
+unfolding answerOf
+answered reply moves entries cells trace d done n number c counts =
+    ap₂ (λ (m : ℕ) (k : Counts). theAnswer m k moves entries cells trace) number counts ∙ ap answerOf done

@@ -1,0 +1,98 @@
+// The services for the bench host in C: a slice is a pointer and a length to it. Nothing is asked of the caller but valid memory that does not
+// overlap. host/analyser.h says the same in C.
+ghost use mathlib.Core.Path.{_≡_};
+ghost use lib.ListN.{length};
+ghost use Rattle.services.specs.Saturate.{saturateService};
+ghost use Rattle.services.specs.Judge.{judgeService};
+ghost use Rattle.services.specs.Guide.{guideService};
+ghost use Rattle.saturate.specs.Service.{theLent, theDone};
+ghost use Rattle.judge.specs.Cases.{judgeInput, judgeDone};
+ghost use Rattle.guide.specs.Run.{guideInput};
+ghost use Rattle.replies.specs.Numbers.{numberOf, replyCounts};
+ghost use Rattle.exports.specs.Answers.{theReply, theCounts, theAnswer, answerOf};
+use replies::Counts;
+use replies::Halt;
+use replies::Reply;
+
+// The service saturate: 0 with the numbers of moves and entries, or the number of a refusal with 0 and 0.
+#[no_mangle]
+pub extern "C" fn analyser_saturate(
+    case: &[u8],
+    moves: &mut [u64],
+    entries: &mut [u64],
+    moves_used: &mut u64,
+    entries_used: &mut u64,
+) -> u64
+    ensures { λ r. ⌜ theDone (theReply r (now («moves_used» .exit)) (now («entries_used» .exit))) (now (moves .exit)) (now (entries .exit)) ≡ saturateService (theLent (now (case .entry)) (now (moves .entry)) (now (entries .entry))) ⌝ }
+{
+    let r = saturate::saturate(case, moves, entries);
+    *moves_used = r.moves;
+    *entries_used = r.entries;
+    r.code
+}
+
+// The service judge: 0, or the number of a refusal.
+#[no_mangle]
+pub extern "C" fn analyser_judge(
+    case: &[u8],
+    start: &[u8],
+    moves: &mut [u64],
+    entries: &mut [u64],
+    answers: &mut [u8],
+) -> u64
+    ensures { λ r. ⌜ judgeDone r (now (moves .exit)) (now (entries .exit)) (now (answers .exit)) ≡ judgeService (judgeInput (now (case .entry)) (now (start .entry)) (length (now (moves .entry))) (length (now (entries .entry))) (length (now (answers .entry)))) ⌝ }
+{
+    judge::judge(case, start, moves, entries, answers)
+}
+
+// The number of an answer.
+fn number_of(reply: Reply) -> u64
+    ensures { λ r. ⌜ r ≡ numberOf reply ⌝ }
+{
+    match reply {
+        Reply::Refused(n) => n,
+        Reply::NoRun => 258,
+        Reply::Walked(h) => match h {
+            Halt::Arrived(_) => 0,
+            Halt::TraceFull(_) => 256,
+            Halt::CellsShort(_) => 257,
+        },
+    }
+}
+
+// The steps and cells of an answer.
+fn counts_of(reply: Reply) -> Counts
+    ensures { λ r. ⌜ r ≡ replyCounts reply ⌝ }
+{
+    match reply {
+        Reply::Refused(_) => Counts { steps: 0, cells: 0 },
+        Reply::NoRun => Counts { steps: 0, cells: 0 },
+        Reply::Walked(h) => match h {
+            Halt::Arrived(c) => c,
+            Halt::TraceFull(c) => c,
+            Halt::CellsShort(c) => c,
+        },
+    }
+}
+
+// The service guide from start `number`: the number of its answer, with the steps taken and the cells used, 0 and 0 where it counts none.
+#[no_mangle]
+pub extern "C" fn analyser_guide(
+    case: &[u8],
+    start: &[u8],
+    number: u64,
+    moves: &mut [u64],
+    entries: &mut [u64],
+    cells: &mut [u16],
+    trace: &mut [u16],
+    steps: &mut u64,
+    cells_used: &mut u64,
+) -> u64
+    ensures { λ r. ⌜ theAnswer r (theCounts (now (steps .exit)) (now («cells_used» .exit))) (now (moves .exit)) (now (entries .exit)) (now (cells .exit)) (now (trace .exit)) ≡ answerOf (guideService (guideInput (now (case .entry)) (now (start .entry)) number (length (now (moves .entry))) (length (now (entries .entry))) (length (now (cells .entry))) (length (now (trace .entry))))) ⌝ }
+{
+    let reply = guide::guide(case, start, number as usize, moves, entries, cells, trace);
+    let counts = counts_of(reply);
+    *steps = counts.steps;
+    *cells_used = counts.cells;
+    number_of(reply)
+}

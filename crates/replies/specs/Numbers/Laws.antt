@@ -1,0 +1,22 @@
+-- An answer's number tells whether it is a refusal.
+-- Assumes nothing.
+use Prim.Native.Nat.{ℕ, _≤_}
+use native.Mathlib.Omega.{arith}
+use Rattle.replies.specs.declared.Halt.the-variants.{Arrived, TraceFull, CellsShort}
+use Rattle.replies.specs.declared.Reply.{Reply}
+use Rattle.replies.specs.declared.Reply.the-variants.{Refused, NoRun, Walked}
+use Rattle.replies.specs.Numbers.{numberOf}
+
+unfoldable pub IsRefusal : Reply → Type 0
+IsRefusal (Refused n) = Unit {0}
+IsRefusal NoRun = ⊥
+IsRefusal (Walked h) = ⊥
+
+-- no answer but a refusal has a number from 1 to 255
+pub refusal-number : (r : Reply) → 1 ≤ numberOf r → numberOf r ≤ 255 → IsRefusal r
+unfolding IsRefusal
+refusal-number (Refused n) l m = tt
+refusal-number NoRun l m = omega arith
+refusal-number (Walked (Arrived c)) l m = omega arith
+refusal-number (Walked (TraceFull c)) l m = omega arith
+refusal-number (Walked (CellsShort c)) l m = omega arith

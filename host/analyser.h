@@ -1,0 +1,133 @@
+/*
+ * The script analyser for the bench host: target/staticlib/libexports.a, which
+ * `rt staticlib exports` writes. Document 01 says what the three services do;
+ * this page says the same for a caller in C. Every sentence on a result or on
+ * lent memory is proved (crates/exports).
+ *
+ * What is asked of the caller: each pointer points to as many elements as the
+ * length beside it says, aligned for their type, and is not null even if that
+ * length is 0; what a call writes overlaps nothing else that it is lent.
+ * Nothing else is asked: files may hold any bytes, lengths may be any, and lent
+ * memory may hold anything before a call. No call keeps a pointer, allocates or
+ * fails to return.
+ *
+ * What is lent. Lengths count elements, not bytes. Only whole records count; the
+ * words after the last whole record are written too, with zero.
+ *
+ *   moves    5 words a move: order-1 state, symbol, annotation order, annotation
+ *            set, rest set. A saturated table has at most 1,024 moves, so 5,120
+ *            words are always enough.
+ *   entries  2 words an entry: control, set of order-2 states. At most 64
+ *            entries, so 128 words are always enough.
+ *   answers  a byte a start. At most 64 starts.
+ *   cells    68 words of 16 bits a cell, of which at most 4,096 cells count.
+ *   trace    a word of 16 bits a step.
+ *
+ * A set is a word with bit n for state n. A missing file is one of length 0.
+ *
+ * Refusals, by number. After a refusal every lent word is zero, and so is every
+ * count. The lowest number that applies is returned.
+ *
+ *   1  the case's first byte, contents table, a count or the length is wrong
+ *   2  a field of case body 1 is out of range
+ *   3  a rule, edge or move breaks a bound of its body, or entries are too many
+ *   4  edges or moves are not strictly increasing
+ *   5  the start file's first byte, contents table, a count or the length is
+ *      wrong
+ *   6  a start or cell is out of range, refers to a cell of the wrong order, or
+ *      fills an unused field
+ *   7  guide: the start named is not in the file
+ *   8  judge: fewer answer bytes than starts
+ *   9  the saturated table has more moves than lent or than 1,024, more entries
+ *      than lent, or more than 64 order-1 states
+ *
+ * Every refusal is from 1 to 255; no other answer is.
+ */
+#ifndef ANALYSER_H
+#define ANALYSER_H
+
+#include <stddef.h>
+#include <stdint.h>
+
+#ifdef __cplusplus
+extern "C" {
+#endif
+
+/* Words of a move and of an entry, 16-bit words of a cell. */
+#define ANALYSER_MOVE_WORDS 5
+#define ANALYSER_ENTRY_WORDS 2
+#define ANALYSER_CELL_WORDS 68
+
+/* Answers of the guide that are no refusals. */
+#define ANALYSER_ARRIVED 0
+#define ANALYSER_TRACE_FULL 256
+#define ANALYSER_CELLS_SHORT 257
+#define ANALYSER_NO_RUN 258
+
+/*
+ * Saturate: computes the saturated table of a case.
+ *
+ * Returns 0, or the refusal 1, 2, 3, 4 or 9. After 0, moves begins with the
+ * *moves_used moves of the table and entries with its *entries_used entries, in
+ * the order in which the rounds add them, and all words after them are zero.
+ * After a refusal both tables are zero, and *moves_used and *entries_used are 0.
+ */
+uint64_t analyser_saturate(
+    const uint8_t *case_file, size_t case_length,
+    uint64_t *moves, size_t moves_length,
+    uint64_t *entries, size_t entries_length,
+    uint64_t *moves_used, uint64_t *entries_used);
+
+/*
+ * Judge: marks each start of the start file.
+ *
+ * Returns 0, or the refusal 1 to 6, 8 or 9. After 0, answers begins with a byte
+ * for each start, in file order: 1 if a finite run of the case's rules leads
+ * from the start into the target, 0 if none does; the bytes after them are zero.
+ * After a refusal answers is zero. moves and entries are working memory, zero
+ * after every call.
+ */
+uint64_t analyser_judge(
+    const uint8_t *case_file, size_t case_length,
+    const uint8_t *start_file, size_t start_length,
+    uint64_t *moves, size_t moves_length,
+    uint64_t *entries, size_t entries_length,
+    uint8_t *answers, size_t answers_length);
+
+/*
+ * Guide: writes the rules of a run from one start into the target. Starts are
+ * numbered from 0 in file order, rules likewise.
+ *
+ * Returns the refusal 1 to 7 or 9, or one of these:
+ *
+ *   ANALYSER_ARRIVED      the run is whole: its end is in the target
+ *   ANALYSER_TRACE_FULL   the next step needs one more trace word than lent
+ *   ANALYSER_CELLS_SHORT  the start file's cells, or those used and the next
+ *                         step's together, are more than lent
+ *   ANALYSER_NO_RUN       judge marks the start 0
+ *
+ * After the first three, trace begins with the numbers of the *steps rules that
+ * the run applies first, one a step, and *cells_used is the number of the start
+ * file's cells and of the new cells of those steps; if not even the start file's
+ * cells are lent, both counts are 0. After ANALYSER_NO_RUN and after a refusal
+ * both counts are 0. All trace words from *steps on are zero. moves, entries and
+ * cells are working memory, zero after every call.
+ *
+ * The run of a start is always the same one: with more cells or a longer trace,
+ * the guide writes more of its steps, and it arrives as soon as they suffice.
+ */
+uint64_t analyser_guide(
+    const uint8_t *case_file, size_t case_length,
+    const uint8_t *start_file, size_t start_length,
+    uint64_t number,
+    uint64_t *moves, size_t moves_length,
+    uint64_t *entries, size_t entries_length,
+    uint16_t *cells, size_t cells_length,
+    uint16_t *trace, size_t trace_length,
+    uint64_t *steps, uint64_t *cells_used);
+
+#ifdef __cplusplus
+}
+#endif
+
+#endif

@@ -1,0 +1,185 @@
+//! The proved library beside the second implementation: both get the same files
+//! and as much memory, filled with rubbish. They must answer alike and leave the
+//! same words, and the proved library nothing else.
+
+use std::fmt::Debug;
+use std::iter::repeat_with;
+
+use crate::data::hex;
+use crate::effort::effort;
+use crate::file::Case;
+use crate::lent::Lent;
+use crate::proved;
+use crate::random::Random;
+use crate::services::{GuideReply, LISTING_ENTRIES, LISTING_MOVES};
+use crate::table::Size;
+
+/// Whether a round has at most so many choices, written out one by one: the
+/// proved library takes about half a second for a million.
+pub fn is_quick(case: &Case, most: f64) -> bool {
+    let lent = Size {
+        moves: LISTING_MOVES,
+        entries: LISTING_ENTRIES,
+    };
+    effort(case, lent) <= most
+}
+
+/// Words on both sides of a lent slice that must stay as they are.
+const MARGIN: usize = 4;
+
+/// A slice of rubbish to lend, with its margins.
+struct Rubbish<T> {
+    before: Vec<T>,
+    words: Vec<T>,
+}
+
+impl<T: Copy + PartialEq> Rubbish<T> {
+    fn new(length: usize, word: impl FnMut() -> T) -> Rubbish<T> {
+        let words: Vec<T> = repeat_with(word).take(length + 2 * MARGIN).collect();
+        Rubbish {
+            before: words.clone(),
+            words,
+        }
+    }
+
+    fn lent(&mut self) -> &mut [T] {
+        let end = self.words.len() - MARGIN;
+        &mut self.words[MARGIN..end]
+    }
+
+    /// Whether the margins are as before, and the slice is as given.
+    fn holds(&self, slice: &[T]) -> bool {
+        let end = self.words.len() - MARGIN;
+        self.words[..MARGIN] == self.before[..MARGIN]
+            && self.words[end..] == self.before[end..]
+            && self.words[MARGIN..end] == *slice
+    }
+}
+
+/// Both implementations, with memory of the same lengths.
+pub struct Both {
+    /// The memory as the second implementation left it, and, where a call
+    /// returned, as the proved library left its own.
+    pub lent: Lent,
+    random: Random,
+}
+
+impl Both {
+    pub fn new(lent: Lent) -> Both {
+        let random = Random::new(1);
+        Both { lent, random }
+    }
+
+    fn words(&mut self, length: usize) -> Rubbish<u64> {
+        Rubbish::new(length, || self.random.word())
+    }
+
+    fn halves(&mut self, length: usize) -> Rubbish<u16> {
+        Rubbish::new(length, || self.random.word() as u16)
+    }
+
+    fn bytes(&mut self, length: usize) -> Rubbish<u8> {
+        Rubbish::new(length, || self.random.word() as u8)
+    }
+
+    pub fn saturate(&mut self, case: &[u8]) -> (u64, u64, u64) {
+        let second = self.lent.saturate(case);
+        let mut moves = self.words(self.lent.moves.len());
+        let mut entries = self.words(self.lent.entries.len());
+        let proved = proved::saturate(case, moves.lent(), entries.lent());
+        let tables = self.tables_agree(&moves, &entries);
+        self.answer(
+            "saturate",
+            second,
+            proved,
+            &[("tables", tables)],
+            (case, &[]),
+        )
+    }
+
+    pub fn judge(&mut self, case: &[u8], start: &[u8]) -> u64 {
+        let second = self.lent.judge(case, start);
+        let mut moves = self.words(self.lent.moves.len());
+        let mut entries = self.words(self.lent.entries.len());
+        let mut answers = self.bytes(self.lent.answers.len());
+        let proved = proved::judge(case, start, moves.lent(), entries.lent(), answers.lent());
+        let agree = [
+            ("tables", self.tables_agree(&moves, &entries)),
+            ("answers", answers.holds(&self.lent.answers)),
+        ];
+        self.answer("judge", second, proved, &agree, (case, start))
+    }
+
+    pub fn guide(&mut self, case: &[u8], start: &[u8], number: u64) -> GuideReply {
+        let second = self.lent.guide(case, start, number);
+        let mut moves = self.words(self.lent.moves.len());
+        let mut entries = self.words(self.lent.entries.len());
+        let mut cells = self.halves(self.lent.cells.len());
+        let mut trace = self.halves(self.lent.trace.len());
+        let proved = proved::guide(
+            case,
+            start,
+            number,
+            moves.lent(),
+            entries.lent(),
+            cells.lent(),
+            trace.lent(),
+        );
+        let agree = [
+            ("tables", self.tables_agree(&moves, &entries)),
+            ("cells", cells.holds(&self.lent.cells)),
+            ("trace", trace.holds(&self.lent.trace)),
+        ];
+        self.answer(
+            &format!("guide {number}"),
+            second,
+            proved,
+            &agree,
+            (case, start),
+        )
+    }
+
+    fn tables_agree(&self, moves: &Rubbish<u64>, entries: &Rubbish<u64>) -> bool {
+        moves.holds(&self.lent.moves) && entries.holds(&self.lent.entries)
+    }
+
+    /// The answer, if both gave it and all memory agrees.
+    fn answer<T: PartialEq + Debug>(
+        &self,
+        service: &str,
+        second: T,
+        proved: T,
+        agree: &[(&str, bool)],
+        (case, start): (&[u8], &[u8]),
+    ) -> T {
+        let others: Vec<&str> = agree
+            .iter()
+            .filter(|part| !part.1)
+            .map(|part| part.0)
+            .collect();
+        if second != proved || !others.is_empty() {
+            let Lent {
+                moves,
+                entries,
+                answers,
+                cells,
+                trace,
+            } = &self.lent;
+            let lengths = [
+                moves.len(),
+                entries.len(),
+                answers.len(),
+                cells.len(),
+                trace.len(),
+            ];
+            panic!(
+                "{service}: second {second:?}, proved {proved:?}, memory that differs {others:?}\n\
+                 words of moves, entries, answers, cells, trace: {lengths:?}\n\
+                 case {}\nstart {}",
+                hex(case),
+                hex(start),
+            );
+        }
+        second
+    }
+}

@@ -1,0 +1,58 @@
+//! The files that came with document 01, in `tests/data`.
+
+use std::fs;
+use std::path::{Path, PathBuf};
+
+/// The path of a file or folder of `tests/data`.
+pub fn data(name: &str) -> PathBuf {
+    Path::new(env!("CARGO_MANIFEST_DIR"))
+        .join("tests/data")
+        .join(name)
+}
+
+/// The bytes of a file of `tests/data`.
+pub fn bytes(name: &str) -> Vec<u8> {
+    let path = data(name);
+    fs::read(&path).unwrap_or_else(|error| panic!("{}: {error}", path.display()))
+}
+
+/// A line of vectors.txt.
+pub struct Vector {
+    pub name: String,
+    pub case: Vec<u8>,
+    pub start: Vec<u8>,
+    pub printed: String,
+}
+
+/// The lines of vectors.txt.
+pub fn vectors() -> Vec<Vector> {
+    let text = String::from_utf8(bytes("vectors.txt")).expect("text");
+    let vector = |line: &str| {
+        let fields: Vec<&str> = line.splitn(4, ' ').collect();
+        Vector {
+            name: fields[0].to_string(),
+            case: bytes_of(fields[1]),
+            start: bytes_of(fields[2]),
+            printed: fields[3].replace('|', "\n") + "\n",
+        }
+    };
+    text.lines().map(vector).collect()
+}
+
+/// The bytes that a field of vectors.txt stands for; "an empty file is `-`".
+fn bytes_of(field: &str) -> Vec<u8> {
+    if field == "-" {
+        return Vec::new();
+    }
+    (0..field.len() / 2)
+        .map(|at| u8::from_str_radix(&field[2 * at..2 * at + 2], 16).expect("two hex digits"))
+        .collect()
+}
+
+/// Bytes in hex, as vectors.txt writes them.
+pub fn hex(bytes: &[u8]) -> String {
+    if bytes.is_empty() {
+        return "-".to_string();
+    }
+    bytes.iter().map(|byte| format!("{byte:02x}")).collect()
+}

@@ -1,0 +1,78 @@
+//! Generated pairs of files with what tests ask of them: runs replayed on
+//! nested stacks, cells counted, the guide's answer by document 01's sentence.
+
+use crate::automaton::accepts;
+use crate::generate::{Pair, SHAPES, Shape, pair};
+use crate::random::seeds;
+use crate::services::GuideReply::{self, Arrived, CellsShort, TraceFull};
+use crate::stack::{Configuration, configuration, new_cells, replay};
+use crate::table::Table;
+
+/// The generated pairs of all shapes, with what names them in a failure.
+pub fn pairs(count: u64) -> impl Iterator<Item = (String, Pair)> {
+    let seeds = seeds(count);
+    SHAPES.iter().flat_map(move |shape: &Shape| {
+        let seeds = seeds.clone();
+        seeds.map(move |seed| (format!("{} {seed}", shape.name), pair(seed, shape)))
+    })
+}
+
+impl Pair {
+    /// The configuration of a start.
+    pub fn configuration(&self, number: usize) -> Configuration {
+        configuration(&self.start, &self.start.starts[number])
+    }
+
+    /// The cells used after the rules of the trace.
+    pub fn cells_after(&self, trace: &[u16]) -> usize {
+        let new = |&rule: &u16| new_cells(self.case.rules[usize::from(rule)].code);
+        self.start.cells.len() + trace.iter().map(new).sum::<usize>()
+    }
+
+    /// The end of the run that the trace is from the start, each rule applying.
+    pub fn end_of_run(&self, number: usize, trace: &[u16], name: &str) -> Configuration {
+        replay(&self.case.rules, self.configuration(number), trace)
+            .unwrap_or_else(|| panic!("{name} start {number}: a rule does not apply"))
+    }
+
+    /// A walk's reply that is no refusal: the trace is a run on nested stacks, it
+    /// ends in the target if it arrived, and the cells are those of its rules.
+    pub fn check_run(&self, number: usize, reply: GuideReply, trace: &[u16], name: &str) {
+        let (Arrived { cells, .. } | TraceFull { cells, .. } | CellsShort { cells, .. }) = reply
+        else {
+            panic!("{name} start {number}: {reply:?}");
+        };
+        let trace = &trace[..reply.steps()];
+        let end = self.end_of_run(number, trace, name);
+        if let Arrived { .. } = reply {
+            let own = Table::new(&self.case);
+            assert!(accepts(&own, &end), "{name} start {number} is no target");
+        }
+        let used = self.cells_after(trace) as u64;
+        assert_eq!(cells, used, "{name} start {number}");
+    }
+
+    /// What the guide must answer with `c` cells and `t` trace words for a start
+    /// with this full run: "m being the least number where the run has arrived,
+    /// m = t, or step m + 1 would bring the cells used above c, and it answers
+    /// the first of these that holds, in that order".
+    pub fn expected_reply(&self, run: &[u16], c: usize, t: usize) -> GuideReply {
+        if c < self.start.cells.len() {
+            return CellsShort { steps: 0, cells: 0 };
+        }
+        for m in 0.. {
+            let steps = m as u64;
+            let cells = self.cells_after(&run[..m]) as u64;
+            if m == run.len() {
+                return Arrived { steps, cells };
+            }
+            if m == t {
+                return TraceFull { steps, cells };
+            }
+            if self.cells_after(&run[..m + 1]) > c {
+                return CellsShort { steps, cells };
+            }
+        }
+        unreachable!("the run is finite")
+    }
+}

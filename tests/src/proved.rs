@@ -1,0 +1,147 @@
+//! The proved library, `target/staticlib/libexports.a`, behind the same
+//! signatures as the second implementation. `host/analyser.h` says what its
+//! functions promise.
+
+use crate::services::GuideReply;
+
+// A slice of the proved library is a pointer and a length here, as in C.
+unsafe extern "C" {
+    fn analyser_saturate(
+        case: *const u8,
+        case_length: usize,
+        moves: *mut u64,
+        moves_length: usize,
+        entries: *mut u64,
+        entries_length: usize,
+        moves_used: *mut u64,
+        entries_used: *mut u64,
+    ) -> u64;
+
+    fn analyser_judge(
+        case: *const u8,
+        case_length: usize,
+        start: *const u8,
+        start_length: usize,
+        moves: *mut u64,
+        moves_length: usize,
+        entries: *mut u64,
+        entries_length: usize,
+        answers: *mut u8,
+        answers_length: usize,
+    ) -> u64;
+
+    fn analyser_guide(
+        case: *const u8,
+        case_length: usize,
+        start: *const u8,
+        start_length: usize,
+        number: u64,
+        moves: *mut u64,
+        moves_length: usize,
+        entries: *mut u64,
+        entries_length: usize,
+        cells: *mut u16,
+        cells_length: usize,
+        trace: *mut u16,
+        trace_length: usize,
+        steps: *mut u64,
+        cells_used: *mut u64,
+    ) -> u64;
+}
+
+/// As `services::saturate`.
+pub fn saturate(case: &[u8], moves: &mut [u64], entries: &mut [u64]) -> (u64, u64, u64) {
+    // Not zero, so that a word that is not written is noticed.
+    let (mut moves_used, mut entries_used) = (u64::MAX, u64::MAX);
+    // Safety: the slices are valid for their lengths, and those that are
+    // written overlap nothing, since they are borrowed as mutable.
+    let code = unsafe {
+        analyser_saturate(
+            case.as_ptr(),
+            case.len(),
+            moves.as_mut_ptr(),
+            moves.len(),
+            entries.as_mut_ptr(),
+            entries.len(),
+            &mut moves_used,
+            &mut entries_used,
+        )
+    };
+    (code, moves_used, entries_used)
+}
+
+/// As `services::judge`.
+pub fn judge(
+    case: &[u8],
+    start: &[u8],
+    moves: &mut [u64],
+    entries: &mut [u64],
+    answers: &mut [u8],
+) -> u64 {
+    // Safety: as above.
+    unsafe {
+        analyser_judge(
+            case.as_ptr(),
+            case.len(),
+            start.as_ptr(),
+            start.len(),
+            moves.as_mut_ptr(),
+            moves.len(),
+            entries.as_mut_ptr(),
+            entries.len(),
+            answers.as_mut_ptr(),
+            answers.len(),
+        )
+    }
+}
+
+/// As `services::guide`.
+pub fn guide(
+    case: &[u8],
+    start: &[u8],
+    number: u64,
+    moves: &mut [u64],
+    entries: &mut [u64],
+    cells: &mut [u16],
+    trace: &mut [u16],
+) -> GuideReply {
+    let (mut steps, mut cells_used) = (u64::MAX, u64::MAX);
+    // Safety: as above.
+    let number = unsafe {
+        analyser_guide(
+            case.as_ptr(),
+            case.len(),
+            start.as_ptr(),
+            start.len(),
+            number,
+            moves.as_mut_ptr(),
+            moves.len(),
+            entries.as_mut_ptr(),
+            entries.len(),
+            cells.as_mut_ptr(),
+            cells.len(),
+            trace.as_mut_ptr(),
+            trace.len(),
+            &mut steps,
+            &mut cells_used,
+        )
+    };
+    reply(number, steps, cells_used)
+}
+
+/// The answer of a number and two counts.
+fn reply(number: u64, steps: u64, cells: u64) -> GuideReply {
+    match number {
+        0 => GuideReply::Arrived { steps, cells },
+        256 => GuideReply::TraceFull { steps, cells },
+        257 => GuideReply::CellsShort { steps, cells },
+        _ => {
+            assert_eq!((steps, cells), (0, 0), "counts of answer {number}");
+            match number {
+                258 => GuideReply::NoRun,
+                1..=255 => GuideReply::Refused(number),
+                _ => panic!("guide answers {number}"),
+            }
+        }
+    }
+}

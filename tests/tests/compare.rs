@@ -1,0 +1,245 @@
+//! The proved library against the second implementation on generated files:
+//! answers and every lent word; traces replayed on nested stacks; marks against
+//! a bounded search; memory of every small length.
+
+use second::compare::{Both, is_quick};
+use second::generate::{Pair, WIDE, pair};
+use second::lent::Lent;
+use second::random::{Random, seeds};
+use second::search::{Bounds, Outcome, search};
+use second::services::GuideReply::{self, Arrived, CellsShort, NoRun, Refused, TraceFull};
+use second::services::{CELL_WORDS, ENTRY_WORDS, LISTING_ENTRIES, LISTING_MOVES, MOVE_WORDS};
+
+/// Files with more choices in a round are left out.
+const MOST_CHOICES: f64 = 500_000.0;
+
+/// The pairs that the proved library finishes soon; the others are printed.
+fn pairs(count: u64) -> impl Iterator<Item = (String, Pair)> {
+    second::pairs::pairs(count).filter(|(name, pair)| !is_left_out(name, pair))
+}
+
+fn is_left_out(name: &str, pair: &Pair) -> bool {
+    let left_out = !is_quick(&pair.case, MOST_CHOICES);
+    if left_out {
+        println!("left out: {name}");
+    }
+    left_out
+}
+
+/// Memory in which nearly every walk of a generated pair arrives.
+fn ample() -> Both {
+    Both::new(Lent::new(LISTING_MOVES, LISTING_ENTRIES, 1024, 2048))
+}
+
+fn marks(both: &mut Both, pair: &Pair) -> Option<Vec<bool>> {
+    let code = both.judge(&pair.case_file, &pair.start_file);
+    let answers = &both.lent.answers[..pair.start.starts.len()];
+    (code == 0).then(|| answers.iter().map(|&answer| answer == 1).collect())
+}
+
+/// Every service on every pair. What the guide answers is checked on nested
+/// stacks. Each operation and each kind of answer occurs.
+#[test]
+fn generated_files() {
+    let mut both = ample();
+    let (mut taken, mut too_large, mut no_run) = ([0; 9], 0, 0);
+    for (name, pair) in pairs(250) {
+        both.saturate(&pair.case_file);
+        let Some(marks) = marks(&mut both, &pair) else {
+            assert_eq!(both.guide(&pair.case_file, &pair.start_file, 0), Refused(9));
+            too_large += 1;
+            continue;
+        };
+        for (number, &mark) in marks.iter().enumerate() {
+            let reply = both.guide(&pair.case_file, &pair.start_file, number as u64);
+            assert_eq!(reply != NoRun, mark, "{name} start {number}");
+            if !mark {
+                no_run += 1;
+                continue;
+            }
+            pair.check_run(number, reply, &both.lent.trace, &name);
+            for &rule in &both.lent.trace[..reply.steps()] {
+                taken[usize::from(pair.case.rules[usize::from(rule)].code)] += 1;
+            }
+        }
+        let after = marks.len() as u64;
+        let reply = both.guide(&pair.case_file, &pair.start_file, after);
+        assert_eq!(reply, Refused(7), "{name}");
+    }
+    println!("steps by code 1 to 8: {:?}", &taken[1..]);
+    println!("{too_large} tables too large, {no_run} starts marked no");
+    assert!(taken[1..].iter().all(|&steps| steps >= 20), "{taken:?}");
+    assert!(too_large >= 5 && no_run >= 500);
+}
+
+/// Files near the limits, from a few of their starts.
+#[test]
+fn wide_files() {
+    let mut both = ample();
+    let mut walks = 0;
+    for seed in seeds(80) {
+        let pair = pair(seed, &WIDE);
+        let name = format!("wide {seed}");
+        if is_left_out(&name, &pair) {
+            continue;
+        }
+        both.saturate(&pair.case_file);
+        let marks = marks(&mut both, &pair).unwrap_or_default();
+        for (number, &mark) in marks.iter().enumerate().take(8) {
+            let reply = both.guide(&pair.case_file, &pair.start_file, number as u64);
+            if mark {
+                pair.check_run(number, reply, &both.lent.trace, &name);
+                walks += 1;
+            }
+        }
+    }
+    println!("{walks} walks");
+    assert!(walks >= 50);
+}
+
+/// Memory of lengths that have nothing to do with what the files need.
+#[test]
+fn any_lengths() {
+    let mut random = Random::new(7);
+    for (_, pair) in pairs(60) {
+        for _ in 0..4 {
+            let mut lent = Lent::new(0, 0, 0, 0);
+            let most_moves = random.pick(&[20, 200, 6000]);
+            lent.moves.resize(random.between(0, most_moves), 0);
+            lent.entries.resize(random.between(0, 40), 0);
+            lent.answers.resize(random.between(0, 6), 0);
+            lent.cells.resize(random.between(0, 80 * CELL_WORDS), 0);
+            lent.trace.resize(random.between(0, 8), 0);
+            every_service(&lent, &pair);
+        }
+    }
+}
+
+/// No start marked no reaches the target within the bounds, and no start marked
+/// yes is one whose reachable configurations are all outside the target.
+#[test]
+fn marks_agree_with_the_search() {
+    let bounds = Bounds {
+        depth: 12,
+        size: 60,
+        configurations: 300,
+    };
+    let mut both = ample();
+    let (mut reached, mut exhausted, mut bounded) = (0, 0, 0);
+    for (name, pair) in pairs(120) {
+        let Some(marks) = marks(&mut both, &pair) else {
+            continue;
+        };
+        for (number, &mark) in marks.iter().enumerate() {
+            match search(&pair.case, pair.configuration(number), bounds) {
+                Outcome::Reached(_) => {
+                    assert!(mark, "{name} start {number} reaches the target");
+                    reached += 1;
+                }
+                Outcome::Exhausted => {
+                    assert!(!mark, "{name} start {number} cannot reach the target");
+                    exhausted += 1;
+                }
+                Outcome::Bounded => bounded += 1,
+            }
+        }
+    }
+    println!("reached {reached}, exhausted {exhausted}, bounded {bounded}");
+    assert!(reached >= 200 && exhausted >= 200);
+}
+
+/// Tables of every length up to a few words more than the saturated table
+/// needs, also lengths that are no multiple of a record.
+#[test]
+fn every_length_of_lent_tables() {
+    let mut checked = 0;
+    for (_, pair) in pairs(6) {
+        let mut whole = ample();
+        let (code, moves, entries) = whole.saturate(&pair.case_file);
+        if code == 9 || moves > 30 {
+            continue;
+        }
+        let mut lent = Lent::new(LISTING_MOVES, LISTING_ENTRIES, 40, 20);
+        for words in 0..=MOVE_WORDS * (moves as usize + 1) + 1 {
+            lent.moves.resize(words, 0);
+            every_service(&lent, &pair);
+        }
+        lent.moves.resize(MOVE_WORDS * LISTING_MOVES, 0);
+        for words in 0..=ENTRY_WORDS * (entries as usize + 1) + 1 {
+            lent.entries.resize(words, 0);
+            every_service(&lent, &pair);
+        }
+        checked += 1;
+    }
+    println!("{checked} pairs with tables of every length");
+    assert!(checked >= 20);
+}
+
+/// All services with memory of the given lengths, guide from the first start.
+fn every_service(lent: &Lent, pair: &Pair) {
+    let mut both = Both::new(lent.clone());
+    both.saturate(&pair.case_file);
+    both.judge(&pair.case_file, &pair.start_file);
+    both.guide(&pair.case_file, &pair.start_file, 0);
+}
+
+/// Answers of every length: 8 with fewer than starts.
+#[test]
+fn every_number_of_answers() {
+    let mut both = ample();
+    for (name, pair) in pairs(10) {
+        let starts = pair.start.starts.len();
+        for answers in 0..=starts + 2 {
+            both.lent.answers.resize(answers, 0);
+            let code = both.judge(&pair.case_file, &pair.start_file);
+            assert_eq!(code == 8, answers < starts, "{name} answers {answers}");
+        }
+    }
+}
+
+/// The guide with every small number of cells and trace words, and words of
+/// cells that make up no whole cell.
+#[test]
+fn every_small_number_of_cells_and_trace_words() {
+    let mut both = ample();
+    let (mut full, mut short, mut arrived) = (0, 0, 0);
+    for (name, pair) in pairs(12) {
+        for number in 0..pair.start.starts.len() {
+            let reply = both.guide(&pair.case_file, &pair.start_file, number as u64);
+            let Arrived { steps: 1..=10, .. } = reply else {
+                continue;
+            };
+            let run = both.lent.trace[..reply.steps()].to_vec();
+            for c in 0..=pair.cells_after(&run) + 1 {
+                for t in 0..=run.len() + 1 {
+                    match small_guide(&pair, number, &run, (c, t), &name) {
+                        TraceFull { .. } => full += 1,
+                        CellsShort { .. } => short += 1,
+                        _ => arrived += 1,
+                    }
+                }
+            }
+        }
+    }
+    println!("arrived {arrived}, trace full {full}, cells short {short}");
+    assert!(arrived >= 50 && full >= 100 && short >= 100);
+}
+
+fn small_guide(
+    pair: &Pair,
+    number: usize,
+    run: &[u16],
+    (c, t): (usize, usize),
+    name: &str,
+) -> GuideReply {
+    let mut lent = Lent::new(LISTING_MOVES, LISTING_ENTRIES, c, t);
+    let partial = (c + t) % CELL_WORDS;
+    lent.cells.resize(c * CELL_WORDS + partial, 0);
+    let mut both = Both::new(lent);
+    let reply = both.guide(&pair.case_file, &pair.start_file, number as u64);
+    let named = format!("{name} start {number} cells {c} trace {t}");
+    assert_eq!(reply, pair.expected_reply(run, c, t), "{named}");
+    let steps = reply.steps();
+    assert_eq!(both.lent.trace[..steps], run[..steps], "{named}");
+    reply
+}

@@ -1,0 +1,308 @@
+//! The proved library against the second implementation on files that came with
+//! document 01 and on files at its limits.
+
+use second::compare::{Both, is_quick};
+use second::damage::changed;
+use second::data::{Vector, bytes, vectors};
+use second::encode::{encode_case, encode_start};
+use second::file::{Case, Cell, Entry, Move, Rule, Start, StartFile, decode_case};
+use second::lent::Lent;
+use second::models::{
+    CASE_A, CASE_B, CASE_C, START_A, START_B, START_C_ONE, START_C_TWO, case_a_with_rules,
+    start_a_with_starts,
+};
+use second::services::{LISTING_ENTRIES, LISTING_MOVES, MOST_CELLS, listing_answer};
+
+/// Files with more choices in a round are left out.
+const MOST_CHOICES: f64 = 2_000_000.0;
+
+// ---- the files that came with document 01
+
+/// The listing, from what the services answer.
+fn listing(both: &mut Both, case: &[u8], start: &[u8]) -> String {
+    let refusal = both.judge(case, start);
+    if refusal != 0 {
+        return format!("refused {refusal}\n");
+    }
+    let (_, moves, entries) = both.saturate(case);
+    let mut text = format!("moves {moves} entries {entries}\n");
+    // A sound start file has the number of its starts at byte 3.
+    let starts = u16::from_le_bytes([start[3], start[4]]);
+    for number in 0..u64::from(starts) {
+        let answer = listing_answer(both.guide(case, start, number));
+        text += &format!("start {number} {answer}\n");
+    }
+    text
+}
+
+/// Whether the case takes the proved library too long; its name is printed.
+fn is_left_out(name: &str, case: &[u8]) -> bool {
+    let left_out = decode_case(case).is_ok_and(|case| !is_quick(&case, MOST_CHOICES));
+    if left_out {
+        println!("left out: {name}");
+    }
+    left_out
+}
+
+#[test]
+fn every_vector() {
+    let mut both = Both::new(Lent::as_listing());
+    let mut compared = 0;
+    for vector in vectors() {
+        let Vector {
+            name, case, start, ..
+        } = &vector;
+        if is_left_out(name, case) {
+            continue;
+        }
+        assert_eq!(listing(&mut both, case, start), vector.printed, "{name}");
+        compared += 1;
+    }
+    println!("{compared} vectors compared");
+}
+
+/// The vector with the longest runs, with cells from too few to more than count
+/// and traces of many lengths.
+#[test]
+fn long_runs() {
+    let all = vectors();
+    let vector = all.iter().find(|vector| vector.name == "doubling12");
+    let Vector { case, start, .. } = vector.expect("the vector doubling12");
+    let cells = [
+        0,
+        1,
+        100,
+        512,
+        1000,
+        2047,
+        MOST_CELLS - 1,
+        MOST_CELLS,
+        MOST_CELLS + 1,
+        6000,
+    ];
+    for cells in cells {
+        for trace in [0, 1, 1000, 1024, 4096, 65536] {
+            let mut both = Both::new(Lent::new(LISTING_MOVES, LISTING_ENTRIES, cells, trace));
+            for number in 0..u64::from(start[3]) {
+                both.guide(case, start, number);
+            }
+        }
+    }
+}
+
+#[test]
+fn every_larger_file() {
+    let mut both = Both::new(Lent::as_listing());
+    let names = [
+        "copy-1008338",
+        "copy-1031611",
+        "deep-1002280",
+        "large-880",
+        "mid-1013239",
+        "mid-1021568",
+    ];
+    for name in names {
+        let file = |part: &str| bytes(&format!("bench/{name}/{part}"));
+        let (case, start) = (file("case.bin"), file("start.bin"));
+        if !is_left_out(name, &case) {
+            let printed = listing(&mut both, &case, &start);
+            assert_eq!(printed.as_bytes(), file("expected.txt"), "{name}");
+        }
+    }
+    for name in ["chain-999", "copies-8", "copies-60", "power-2", "power-5"] {
+        let case = bytes(&format!("bench/{name}/case.bin"));
+        if !is_left_out(name, &case) {
+            assert_eq!(both.saturate(&case).0, 0, "{name}");
+        }
+    }
+}
+
+/// All services; guide from each of the first numbers, and from a number that
+/// no file has.
+fn every_service(both: &mut Both, case: &[u8], start: &[u8]) {
+    both.saturate(case);
+    both.judge(case, start);
+    for number in [0, 1, 2, 64, u64::MAX] {
+        both.guide(case, start, number);
+    }
+}
+
+#[test]
+fn models() {
+    let models: [(&[u8], &[u8]); 4] = [
+        (&CASE_A, &START_A),
+        (&CASE_B, &START_B),
+        (&CASE_C, &START_C_ONE),
+        (&CASE_C, &START_C_TWO),
+    ];
+    for (case, start) in models {
+        every_service(&mut Both::new(Lent::as_listing()), case, start);
+        for moves in 0..5 {
+            every_service(&mut Both::new(Lent::new(moves, 64, 512, 1024)), case, start);
+        }
+    }
+}
+
+// ---- at the limits
+
+/// "64 starts pass, 65 give 5; 256 rules pass, 257 give 1; a cell naming itself
+/// gives 6."
+#[test]
+fn at_the_edges() {
+    let mut both = Both::new(Lent::as_listing());
+    assert_eq!(both.judge(&CASE_A, &start_a_with_starts(64)), 0);
+    assert_eq!(both.judge(&CASE_A, &start_a_with_starts(65)), 5);
+    assert_eq!(both.saturate(&case_a_with_rules(256)), (0, 3, 3));
+    assert_eq!(both.saturate(&case_a_with_rules(257)), (1, 0, 0));
+    for (at, own_number) in [(52, 4), (58, 5), (60, 5)] {
+        let naming_itself = changed(&START_A, at, own_number);
+        assert_eq!(both.judge(&CASE_A, &naming_itself), 6);
+    }
+}
+
+/// P, I, J and A from 0 to past their bounds.
+#[test]
+fn every_head() {
+    let mut both = Both::new(Lent::as_listing());
+    for at in 33..37 {
+        for value in 0..=40 {
+            every_service(&mut both, &changed(&CASE_A, at, value), &START_A);
+        }
+    }
+}
+
+/// A case of 8 controls without rules, for `change` to fill.
+fn wide_case(change: impl Fn(&mut Case)) -> Vec<u8> {
+    let mut case = Case {
+        controls: 8,
+        inner_two: 8,
+        inner_one: 16,
+        symbols: 32,
+        final_two: 0,
+        final_one: 0,
+        rules: Vec::new(),
+        entries: Vec::new(),
+        edges: Vec::new(),
+        moves: Vec::new(),
+    };
+    change(&mut case);
+    encode_case(&case)
+}
+
+/// The first `count` moves of states 0 to 15 on symbols 0 to 31, with the given
+/// rest sets.
+fn many_moves(count: usize) -> Vec<Move> {
+    let plain = |number: usize| Move {
+        state: (number / 64) as u8,
+        symbol: (number / 2 % 32) as u8,
+        order: 0,
+        note: 0,
+        rest: (number % 2) as u64,
+    };
+    (0..count).map(plain).collect()
+}
+
+fn pop_two(from: u8, symbol: u8, to: u8) -> Rule {
+    Rule {
+        from,
+        symbol,
+        code: 6,
+        put: 0,
+        to,
+    }
+}
+
+/// 1,024 own moves pass and leave no room for a result; 1,025 give 1.
+#[test]
+fn moves_at_their_limit() {
+    let mut both = Both::new(Lent::new(2000, 200, 512, 10));
+    let full = wide_case(|case| case.moves = many_moves(1024));
+    assert_eq!(both.saturate(&full), (0, 1024, 0));
+    let with_results = |own: usize| {
+        wide_case(|case| {
+            case.moves = many_moves(own);
+            case.rules = vec![pop_two(0, 0, 1)];
+        })
+    };
+    assert_eq!(both.saturate(&with_results(1023)), (0, 1024, 1));
+    assert_eq!(both.saturate(&with_results(1024)), (9, 0, 0));
+    let more = wide_case(|case| case.moves = many_moves(1025));
+    assert_eq!(both.saturate(&more), (1, 0, 0));
+}
+
+/// Order-1 states up to 64 and one more, of the file or by rounds: 8 controls
+/// have 64 entries [p,{p'}].
+#[test]
+fn entries_at_their_limit() {
+    let mut both = Both::new(Lent::new(2000, 200, 512, 10));
+    let by_rounds = |inner: u8, extra: &[Rule]| {
+        wide_case(|case| {
+            case.inner_one = inner;
+            case.rules = (0..64).map(|n| pop_two(n / 8, 0, n % 8)).collect();
+            case.rules.extend(extra);
+        })
+    };
+    let collapse = Rule {
+        code: 8,
+        ..pop_two(0, 0, 0)
+    };
+    assert_eq!(both.saturate(&by_rounds(0, &[])), (0, 64, 64));
+    assert_eq!(both.saturate(&by_rounds(0, &[collapse])), (9, 0, 0));
+    assert_eq!(both.saturate(&by_rounds(1, &[])), (9, 0, 0));
+    let own = |count: u64, inner: u8| {
+        wide_case(|case| {
+            case.inner_one = inner;
+            let entry = |n: u64| Entry {
+                control: (n / 32) as u8,
+                set: n % 32 << 8,
+            };
+            case.entries = (0..count).map(entry).collect();
+        })
+    };
+    assert_eq!(both.saturate(&own(64, 0)), (0, 0, 64));
+    assert_eq!(both.saturate(&own(64, 1)), (3, 0, 0));
+    assert_eq!(both.saturate(&own(48, 16)), (0, 0, 48));
+    assert_eq!(both.saturate(&own(49, 16)), (3, 0, 0));
+    assert_eq!(both.saturate(&own(65, 0)), (1, 0, 0));
+}
+
+/// 256 cells pass, 257 give 5.
+#[test]
+fn cells_at_their_limit() {
+    let mut both = Both::new(Lent::as_listing());
+    let start = |count: usize| {
+        let mut cells = vec![Cell::EmptyOne, Cell::EmptyTwo];
+        while cells.len() < count {
+            let below = cells.len() as u16 - 1;
+            let top = if below % 2 == 1 { below - 1 } else { below };
+            cells.push(match below % 2 {
+                1 => Cell::Symbol {
+                    name: (below / 2 % 2) as u8,
+                    note: below,
+                    rest: top,
+                },
+                _ => Cell::Pair {
+                    top,
+                    rest: below - 1,
+                },
+            });
+        }
+        let roots = (0..count as u16).filter(|root| root % 2 == 1);
+        let starts = roots.rev().take(64).map(|root| Start {
+            control: (root / 2 % 2) as u8,
+            root,
+        });
+        encode_start(&StartFile {
+            starts: starts.collect(),
+            cells,
+        })
+    };
+    for case in [&CASE_A[..], &CASE_B, &CASE_C] {
+        let refusal = both.judge(case, &start(256));
+        assert!(matches!(refusal, 0 | 6));
+        for number in 0..64 {
+            both.guide(case, &start(256), number);
+        }
+        assert_eq!(both.judge(case, &start(257)), 5);
+    }
+}
