@@ -6,23 +6,10 @@ use std::fmt::Debug;
 use std::iter::repeat_with;
 
 use crate::data::hex;
-use crate::effort::effort;
-use crate::file::Case;
 use crate::lent::Lent;
 use crate::proved;
 use crate::random::Random;
-use crate::services::{GuideReply, LISTING_ENTRIES, LISTING_MOVES};
-use crate::table::Size;
-
-/// Whether a round has at most so many choices, written out one by one: the
-/// proved library takes about half a second for a million.
-pub fn is_quick(case: &Case, most: f64) -> bool {
-    let lent = Size {
-        moves: LISTING_MOVES,
-        entries: LISTING_ENTRIES,
-    };
-    effort(case, lent) <= most
-}
+use crate::services::GuideReply;
 
 /// Words on both sides of a lent slice that must stay as they are.
 const MARGIN: usize = 4;

@@ -12,7 +12,6 @@ pub mod compare;
 pub mod damage;
 pub mod data;
 pub mod derivation;
-pub mod effort;
 pub mod encode;
 pub mod file;
 pub mod generate;

@@ -5,11 +5,14 @@ use std::ops::Range;
 
 use crate::sets::{Set, members, only};
 
-/// Seeds from 0 on: `count` of them, or twenty times as many in a long run,
-/// asked for by the environment variable LONG=1.
+/// Whether a long run is asked for, by the environment variable LONG=1.
+pub fn is_long() -> bool {
+    env::var("LONG").is_ok_and(|value| value == "1")
+}
+
+/// Seeds from 0 on: `count` of them, or twenty times as many in a long run.
 pub fn seeds(count: u64) -> Range<u64> {
-    let long = env::var("LONG").is_ok_and(|value| value == "1");
-    let seeds = 0..if long { 20 * count } else { count };
+    let seeds = 0..if is_long() { 20 * count } else { count };
     println!("seeds {} to {}", seeds.start, seeds.end - 1);
     seeds
 }

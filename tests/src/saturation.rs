@@ -24,12 +24,6 @@ struct Found {
 /// The saturated table, or nothing where refusal 9 is due: "more moves than
 /// lent or than 1,024, more entries than lent, or more than 64 order-1 states".
 pub fn saturate(case: &Case, lent: Size) -> Option<Table> {
-    let (table, fits) = last_table(case, lent);
-    fits.then_some(table)
-}
-
-/// The table of the last round within the limits, and whether it is saturated.
-pub fn last_table(case: &Case, lent: Size) -> (Table, bool) {
     let limit = Size {
         moves: lent.moves.min(MOST_MOVES),
         entries: lent
@@ -38,18 +32,15 @@ pub fn last_table(case: &Case, lent: Size) -> (Table, bool) {
     };
     let mut table = Table::new(case);
     if table.moves().len() > limit.moves || table.entries().len() > limit.entries {
-        return (table, false);
+        return None;
     }
     loop {
-        let Some(found) = new_results(case, &table, limit.moves) else {
-            return (table, false);
-        };
+        let found = new_results(case, &table, limit.moves)?;
         if found.is_empty() {
-            return (table, true);
+            return Some(table);
         }
-        let before = table.clone();
         if !add_entries(&mut table, &found, limit.entries) {
-            return (before, false);
+            return None;
         }
         add_moves(&mut table, &found);
         table.end_round();

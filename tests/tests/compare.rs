@@ -2,29 +2,14 @@
 //! answers and every lent word; traces replayed on nested stacks; marks against
 //! a bounded search; memory of every small length.
 
-use second::compare::{Both, is_quick};
+use second::compare::Both;
 use second::generate::{Pair, WIDE, pair};
 use second::lent::Lent;
+use second::pairs::pairs;
 use second::random::{Random, seeds};
 use second::search::{Bounds, Outcome, search};
 use second::services::GuideReply::{self, Arrived, CellsShort, NoRun, Refused, TraceFull};
 use second::services::{CELL_WORDS, ENTRY_WORDS, LISTING_ENTRIES, LISTING_MOVES, MOVE_WORDS};
-
-/// Files with more choices in a round are left out.
-const MOST_CHOICES: f64 = 500_000.0;
-
-/// The pairs that the proved library finishes soon; the others are printed.
-fn pairs(count: u64) -> impl Iterator<Item = (String, Pair)> {
-    second::pairs::pairs(count).filter(|(name, pair)| !is_left_out(name, pair))
-}
-
-fn is_left_out(name: &str, pair: &Pair) -> bool {
-    let left_out = !is_quick(&pair.case, MOST_CHOICES);
-    if left_out {
-        println!("left out: {name}");
-    }
-    left_out
-}
 
 /// Memory in which nearly every walk of a generated pair arrives.
 fn ample() -> Both {
@@ -80,9 +65,6 @@ fn wide_files() {
     for seed in seeds(80) {
         let pair = pair(seed, &WIDE);
         let name = format!("wide {seed}");
-        if is_left_out(&name, &pair) {
-            continue;
-        }
         both.saturate(&pair.case_file);
         let marks = marks(&mut both, &pair).unwrap_or_default();
         for (number, &mark) in marks.iter().enumerate().take(8) {

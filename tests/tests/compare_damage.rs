@@ -1,25 +1,12 @@
 //! The proved library against the second implementation on damaged files.
 
-use second::compare::{Both, is_quick};
+use second::compare::Both;
 use second::damage::{
     bodies_swapped, changed, counts_off_by_one, cuts, lines_swapped, longer, offsets_off_by_one,
 };
-use second::file::decode_case;
 use second::generate::{Pair, SHAPES, pair};
 use second::lent::Lent;
 use second::random::{Random, seeds};
-
-/// Files with more choices in a round are left out.
-const MOST_CHOICES: f64 = 500_000.0;
-
-/// Whether the case takes the proved library too long, which is printed.
-fn is_left_out(case: &[u8]) -> bool {
-    let left_out = decode_case(case).is_ok_and(|case| !is_quick(&case, MOST_CHOICES));
-    if left_out {
-        println!("left out: a case of {} bytes", case.len());
-    }
-    left_out
-}
 
 /// Small generated pairs.
 fn small_pairs(count: u64) -> Vec<Pair> {
@@ -29,7 +16,6 @@ fn small_pairs(count: u64) -> Vec<Pair> {
         .flat_map(|shape| seeds.clone().map(|seed| pair(seed, shape)));
     pairs
         .filter(|pair| pair.case_file.len() < 500 && pair.start_file.len() < 250)
-        .filter(|pair| !is_left_out(&pair.case_file))
         .collect()
 }
 
@@ -39,9 +25,6 @@ fn memory() -> Both {
 
 /// The services on a case file that may be damaged.
 fn on_case(both: &mut Both, case: &[u8], start: &[u8]) {
-    if is_left_out(case) {
-        return;
-    }
     both.saturate(case);
     both.judge(case, start);
     both.guide(case, start, 0);

@@ -1,64 +1,47 @@
 //! The proved library against the second implementation on files that came with
 //! document 01 and on files at its limits.
 
-use second::compare::{Both, is_quick};
+use second::compare::Both;
 use second::damage::changed;
 use second::data::{Vector, bytes, vectors};
 use second::encode::{encode_case, encode_start};
-use second::file::{Case, Cell, Entry, Move, Rule, Start, StartFile, decode_case};
+use second::file::{Case, Cell, Entry, Move, Rule, Start, StartFile};
 use second::lent::Lent;
 use second::models::{
     CASE_A, CASE_B, CASE_C, START_A, START_B, START_C_ONE, START_C_TWO, case_a_with_rules,
     start_a_with_starts,
 };
+use second::random::is_long;
 use second::services::{LISTING_ENTRIES, LISTING_MOVES, MOST_CELLS, listing_answer};
-
-/// Files with more choices in a round are left out.
-const MOST_CHOICES: f64 = 2_000_000.0;
 
 // ---- the files that came with document 01
 
-/// The listing, from what the services answer.
-fn listing(both: &mut Both, case: &[u8], start: &[u8]) -> String {
+/// The services answer as the listing says, guide from every `step`th start.
+fn check_listing(both: &mut Both, (case, start): (&[u8], &[u8]), step: usize, printed: &str) {
     let refusal = both.judge(case, start);
     if refusal != 0 {
-        return format!("refused {refusal}\n");
+        assert_eq!(printed, format!("refused {refusal}\n"));
+        return;
     }
     let (_, moves, entries) = both.saturate(case);
-    let mut text = format!("moves {moves} entries {entries}\n");
+    let lines: Vec<&str> = printed.lines().collect();
+    assert_eq!(lines[0], format!("moves {moves} entries {entries}"));
     // A sound start file has the number of its starts at byte 3.
-    let starts = u16::from_le_bytes([start[3], start[4]]);
-    for number in 0..u64::from(starts) {
-        let answer = listing_answer(both.guide(case, start, number));
-        text += &format!("start {number} {answer}\n");
+    assert_eq!(lines.len(), 1 + usize::from(start[3]));
+    for (number, line) in lines[1..].iter().enumerate().step_by(step) {
+        let answer = listing_answer(both.guide(case, start, number as u64));
+        assert_eq!(*line, format!("start {number} {answer}"));
     }
-    text
-}
-
-/// Whether the case takes the proved library too long; its name is printed.
-fn is_left_out(name: &str, case: &[u8]) -> bool {
-    let left_out = decode_case(case).is_ok_and(|case| !is_quick(&case, MOST_CHOICES));
-    if left_out {
-        println!("left out: {name}");
-    }
-    left_out
 }
 
 #[test]
 fn every_vector() {
     let mut both = Both::new(Lent::as_listing());
-    let mut compared = 0;
     for vector in vectors() {
-        let Vector {
-            name, case, start, ..
-        } = &vector;
-        if is_left_out(name, case) {
-            continue;
-        }
-        assert_eq!(listing(&mut both, case, start), vector.printed, "{name}");
-        compared += 1;
+        println!("{}", vector.name);
+        let files = (&vector.case[..], &vector.start[..]);
+        check_listing(&mut both, files, 1, &vector.printed);
     }
-    println!("{compared} vectors compared");
 }
 
 /// The vector with the longest runs, with cells from too few to more than count
@@ -90,9 +73,11 @@ fn long_runs() {
     }
 }
 
+/// The larger files, from a few of their starts, or from all in a long run.
 #[test]
 fn every_larger_file() {
     let mut both = Both::new(Lent::as_listing());
+    let step = if is_long() { 1 } else { 5 };
     let names = [
         "copy-1008338",
         "copy-1031611",
@@ -102,18 +87,15 @@ fn every_larger_file() {
         "mid-1021568",
     ];
     for name in names {
+        println!("{name}");
         let file = |part: &str| bytes(&format!("bench/{name}/{part}"));
+        let printed = String::from_utf8(file("expected.txt")).expect("text");
         let (case, start) = (file("case.bin"), file("start.bin"));
-        if !is_left_out(name, &case) {
-            let printed = listing(&mut both, &case, &start);
-            assert_eq!(printed.as_bytes(), file("expected.txt"), "{name}");
-        }
+        check_listing(&mut both, (&case, &start), step, &printed);
     }
     for name in ["chain-999", "copies-8", "copies-60", "power-2", "power-5"] {
         let case = bytes(&format!("bench/{name}/case.bin"));
-        if !is_left_out(name, &case) {
-            assert_eq!(both.saturate(&case).0, 0, "{name}");
-        }
+        assert_eq!(both.saturate(&case).0, 0, "{name}");
     }
 }
 
@@ -254,7 +236,7 @@ fn entries_at_their_limit() {
             case.inner_one = inner;
             let entry = |n: u64| Entry {
                 control: (n / 32) as u8,
-                set: n % 32 << 8,
+                set: (n % 32) << 8,
             };
             case.entries = (0..count).map(entry).collect();
         })

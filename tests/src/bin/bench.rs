@@ -17,14 +17,16 @@ use second::{proved, saturation};
 /// The second implementation is left out where it would take longer.
 const MOST_SECONDS: f64 = 20.0;
 
+type Saturate = fn(&[u8], &mut [u64], &mut [u64]) -> (u64, u64, u64);
+type Judge = fn(&[u8], &[u8], &mut [u64], &mut [u64], &mut [u8]) -> u64;
+type Guide = fn(&[u8], &[u8], u64, &mut [u64], &mut [u64], &mut [u16], &mut [u16]) -> GuideReply;
+
 /// The services of one of the two.
 struct Services {
-    saturate: fn(&[u8], &mut [u64], &mut [u64]) -> (u64, u64, u64),
-    judge: fn(&[u8], &[u8], &mut [u64], &mut [u64], &mut [u8]) -> u64,
+    saturate: Saturate,
+    judge: Judge,
     guide: Guide,
 }
-
-type Guide = fn(&[u8], &[u8], u64, &mut [u64], &mut [u64], &mut [u16], &mut [u16]) -> GuideReply;
 
 const PROVED: Services = Services {
     saturate: proved::saturate,
