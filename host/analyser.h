@@ -61,6 +61,9 @@ extern "C" {
 #define ANALYSER_ENTRY_WORDS 2
 #define ANALYSER_CELL_WORDS 68
 
+/* Bytes of a listing. */
+#define ANALYSER_LISTING_BYTES 4096
+
 /* Answers of the guide that are no refusals. */
 #define ANALYSER_ARRIVED 0
 #define ANALYSER_TRACE_FULL 256
@@ -128,6 +131,18 @@ uint64_t analyser_guide(
     uint16_t *cells, size_t cells_length,
     uint16_t *trace, size_t trace_length,
     uint64_t *steps, uint64_t *cells_used);
+
+/*
+ * Listing: the text that the printing program prints for two files, with the
+ * memory that document 01 lends to it. text points to ANALYSER_LISTING_BYTES
+ * bytes, which are always enough.
+ *
+ * Returns the length of the text. The bytes after it are zero.
+ */
+size_t analyser_listing(
+    const uint8_t *case_file, size_t case_length,
+    const uint8_t *start_file, size_t start_length,
+    uint8_t *text);
 
 #ifdef __cplusplus
 }

@@ -47,6 +47,34 @@ unsafe extern "C" {
         steps: *mut u64,
         cells_used: *mut u64,
     ) -> u64;
+
+    fn analyser_listing(
+        case: *const u8,
+        case_length: usize,
+        start: *const u8,
+        start_length: usize,
+        text: *mut u8,
+    ) -> usize;
+}
+
+/// The bytes lent for a listing.
+const LISTING_BYTES: usize = 4096;
+
+/// What the printing program prints; the bytes behind it must be zero.
+pub fn listing(case: &[u8], start: &[u8]) -> String {
+    let mut text = [u8::MAX; LISTING_BYTES];
+    // Safety: the slices are valid for their lengths, and so are the bytes lent.
+    let length = unsafe {
+        analyser_listing(
+            case.as_ptr(),
+            case.len(),
+            start.as_ptr(),
+            start.len(),
+            text.as_mut_ptr(),
+        )
+    };
+    assert!(text[length..].iter().all(|&byte| byte == 0));
+    String::from_utf8(text[..length].to_vec()).expect("text")
 }
 
 /// As `services::saturate`.

@@ -11,13 +11,16 @@ use second::models::{
     CASE_A, CASE_B, CASE_C, START_A, START_B, START_C_ONE, START_C_TWO, case_a_with_rules,
     start_a_with_starts,
 };
+use second::proved;
 use second::random::is_long;
 use second::services::{LISTING_ENTRIES, LISTING_MOVES, MOST_CELLS, listing_answer};
 
 // ---- the files that came with document 01
 
-/// The services answer as the listing says, guide from every `step`th start.
+/// The proved listing is this text, and the services answer as it says, guide
+/// from every `step`th start.
 fn check_listing(both: &mut Both, (case, start): (&[u8], &[u8]), step: usize, printed: &str) {
+    assert_eq!(proved::listing(case, start), printed);
     let refusal = both.judge(case, start);
     if refusal != 0 {
         assert_eq!(printed, format!("refused {refusal}\n"));

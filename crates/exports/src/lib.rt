@@ -1,5 +1,5 @@
-// The services for the bench host in C: a slice is a pointer and a length to it. Nothing is asked of the caller but valid memory that does not
-// overlap. host/analyser.h says the same in C.
+// The services and the listing for the bench host in C: a slice is a pointer and a length to it. Nothing is asked of the caller but valid
+// memory that does not overlap. host/analyser.h says the same in C.
 ghost use mathlib.Core.Path.{_≡_};
 ghost use lib.ListN.{length};
 ghost use Rattle.services.specs.Saturate.{saturateService};
@@ -9,6 +9,9 @@ ghost use Rattle.saturate.specs.Service.{theLent, theDone};
 ghost use Rattle.judge.specs.Cases.{judgeInput, judgeDone};
 ghost use Rattle.guide.specs.Run.{guideInput};
 ghost use Rattle.replies.specs.Numbers.{numberOf, replyCounts};
+ghost use Rattle.services.specs.Memory.{padded};
+ghost use Rattle.services.specs.Listing.{listingText};
+ghost use Rattle.start_file.specs.Checks.{filesOf};
 ghost use Rattle.exports.specs.Answers.{theReply, theCounts, theAnswer, answerOf};
 use replies::Counts;
 use replies::Halt;
@@ -95,4 +98,13 @@ pub extern "C" fn analyser_guide(
     *steps = counts.steps;
     *cells_used = counts.cells;
     number_of(reply)
+}
+
+// The text that the printing program prints for two files, zeros behind it. Answers its length.
+#[no_mangle]
+pub extern "C" fn analyser_listing(case: &[u8], start: &[u8], text: &mut [u8; 4096]) -> usize
+    ensures { λ _. ⌜ now (text .exit) ≡ padded 4096 (listingText (filesOf (now (case .entry)) (now (start .entry)))) ⌝ }
+    ensures long { λ r. ⌜ r ≡ length (listingText (filesOf (now (case .entry)) (now (start .entry)))) ⌝ }
+{
+    listing_text::listing(case, start, text)
 }
