@@ -16,7 +16,7 @@ pub fn bytes(name: &str) -> Vec<u8> {
     fs::read(&path).unwrap_or_else(|error| panic!("{}: {error}", path.display()))
 }
 
-/// A line of vectors.txt.
+/// A line of vectors.txt, or a larger file with its listing.
 pub struct Vector {
     pub name: String,
     pub case: Vec<u8>,
@@ -37,6 +37,28 @@ pub fn vectors() -> Vec<Vector> {
         }
     };
     text.lines().map(vector).collect()
+}
+
+/// The larger files that came with starts and a listing.
+pub fn larger_files() -> Vec<Vector> {
+    let names = [
+        "copy-1008338",
+        "copy-1031611",
+        "deep-1002280",
+        "large-880",
+        "mid-1013239",
+        "mid-1021568",
+    ];
+    let vector = |name: &str| {
+        let file = |part: &str| bytes(&format!("bench/{name}/{part}"));
+        Vector {
+            name: name.to_string(),
+            case: file("case.bin"),
+            start: file("start.bin"),
+            printed: String::from_utf8(file("expected.txt")).expect("text"),
+        }
+    };
+    names.map(vector).into()
 }
 
 /// The bytes that a field of vectors.txt stands for; "an empty file is `-`".

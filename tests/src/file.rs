@@ -218,6 +218,23 @@ fn read_fields(record: &[u8]) -> Case {
 }
 
 impl Case {
+    /// A case of so many controls, inner states and symbols, with no final
+    /// states, rules, edges or moves.
+    pub fn without_records(controls: u8, inner_two: u8, inner_one: u8, symbols: u8) -> Case {
+        Case {
+            controls,
+            inner_two,
+            inner_one,
+            symbols,
+            final_two: 0,
+            final_one: 0,
+            rules: Vec::new(),
+            entries: Vec::new(),
+            edges: Vec::new(),
+            moves: Vec::new(),
+        }
+    }
+
     /// The number of order-2 states, P + I.
     pub fn order_two_states(&self) -> u8 {
         self.controls + self.inner_two

@@ -170,18 +170,12 @@ pub fn pair(seed: u64, shape: &Shape) -> Pair {
 
 /// A sound case of the shape.
 pub fn case(random: &mut Random, shape: &Shape) -> Case {
-    let mut case = Case {
-        controls: random.byte(1, shape.controls),
-        inner_two: random.byte(0, shape.inner_two),
-        inner_one: random.byte(0, shape.inner_one),
-        symbols: random.byte(1, shape.symbols),
-        final_two: 0,
-        final_one: 0,
-        rules: Vec::new(),
-        entries: Vec::new(),
-        edges: Vec::new(),
-        moves: Vec::new(),
-    };
+    let mut case = Case::without_records(
+        random.byte(1, shape.controls),
+        random.byte(0, shape.inner_two),
+        random.byte(0, shape.inner_one),
+        random.byte(1, shape.symbols),
+    );
     case.final_two = random.part_of(case.inner_two_set(), 50);
     case.final_one = random.part_of(case.inner_one_set(), 50);
     case.rules = rules(random, shape, &case);

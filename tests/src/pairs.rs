@@ -4,6 +4,7 @@
 use crate::automaton::accepts;
 use crate::generate::{Pair, SHAPES, Shape, pair};
 use crate::random::seeds;
+use crate::search::{Bounds, Outcome, search};
 use crate::services::GuideReply::{self, Arrived, CellsShort, TraceFull};
 use crate::stack::{Configuration, configuration, new_cells, replay};
 use crate::table::Table;
@@ -74,5 +75,33 @@ impl Pair {
             }
         }
         unreachable!("the run is finite")
+    }
+}
+
+/// What the search said of starts, by its outcomes.
+#[derive(Debug, Default)]
+pub struct Searched {
+    pub reached: usize,
+    pub exhausted: usize,
+    pub bounded: usize,
+}
+
+impl Searched {
+    /// No start marked no reaches the target within the bounds, and no start
+    /// marked yes is one whose reachable configurations are all outside it.
+    pub fn check(&mut self, name: &str, pair: &Pair, marks: &[bool], bounds: Bounds) {
+        for (number, &mark) in marks.iter().enumerate() {
+            match search(&pair.case, pair.configuration(number), bounds) {
+                Outcome::Reached(_) => {
+                    assert!(mark, "{name} start {number} reaches the target");
+                    self.reached += 1;
+                }
+                Outcome::Exhausted => {
+                    assert!(!mark, "{name} start {number} cannot reach the target");
+                    self.exhausted += 1;
+                }
+                Outcome::Bounded => self.bounded += 1,
+            }
+        }
     }
 }

@@ -5,9 +5,9 @@
 use second::compare::Both;
 use second::generate::{Pair, WIDE, pair};
 use second::lent::Lent;
-use second::pairs::pairs;
+use second::pairs::{Searched, pairs};
 use second::random::{Random, seeds};
-use second::search::{Bounds, Outcome, search};
+use second::search::Bounds;
 use second::services::GuideReply::{self, Arrived, CellsShort, NoRun, Refused, TraceFull};
 use second::services::{CELL_WORDS, ENTRY_WORDS, LISTING_ENTRIES, LISTING_MOVES, MOVE_WORDS};
 
@@ -107,27 +107,15 @@ fn marks_agree_with_the_search() {
         configurations: 300,
     };
     let mut both = ample();
-    let (mut reached, mut exhausted, mut bounded) = (0, 0, 0);
+    let mut searched = Searched::default();
     for (name, pair) in pairs(120) {
         let Some(marks) = marks(&mut both, &pair) else {
             continue;
         };
-        for (number, &mark) in marks.iter().enumerate() {
-            match search(&pair.case, pair.configuration(number), bounds) {
-                Outcome::Reached(_) => {
-                    assert!(mark, "{name} start {number} reaches the target");
-                    reached += 1;
-                }
-                Outcome::Exhausted => {
-                    assert!(!mark, "{name} start {number} cannot reach the target");
-                    exhausted += 1;
-                }
-                Outcome::Bounded => bounded += 1,
-            }
-        }
+        searched.check(&name, &pair, &marks, bounds);
     }
-    println!("reached {reached}, exhausted {exhausted}, bounded {bounded}");
-    assert!(reached >= 200 && exhausted >= 200);
+    println!("{searched:?}");
+    assert!(searched.reached >= 200 && searched.exhausted >= 200);
 }
 
 /// Tables of every length up to a few words more than the saturated table

@@ -3,7 +3,7 @@
 
 use second::compare::Both;
 use second::damage::changed;
-use second::data::{Vector, bytes, vectors};
+use second::data::{Vector, bytes, larger_files, vectors};
 use second::encode::{encode_case, encode_start};
 use second::file::{Case, Cell, Entry, Move, Rule, Start, StartFile};
 use second::lent::Lent;
@@ -81,20 +81,9 @@ fn long_runs() {
 fn every_larger_file() {
     let mut both = Both::new(Lent::as_listing());
     let step = if is_long() { 1 } else { 5 };
-    let names = [
-        "copy-1008338",
-        "copy-1031611",
-        "deep-1002280",
-        "large-880",
-        "mid-1013239",
-        "mid-1021568",
-    ];
-    for name in names {
-        println!("{name}");
-        let file = |part: &str| bytes(&format!("bench/{name}/{part}"));
-        let printed = String::from_utf8(file("expected.txt")).expect("text");
-        let (case, start) = (file("case.bin"), file("start.bin"));
-        check_listing(&mut both, (&case, &start), step, &printed);
+    for file in larger_files() {
+        println!("{}", file.name);
+        check_listing(&mut both, (&file.case, &file.start), step, &file.printed);
     }
     for name in ["chain-999", "copies-8", "copies-60", "power-2", "power-5"] {
         let case = bytes(&format!("bench/{name}/case.bin"));
@@ -158,18 +147,7 @@ fn every_head() {
 
 /// A case of 8 controls without rules, for `change` to fill.
 fn wide_case(change: impl Fn(&mut Case)) -> Vec<u8> {
-    let mut case = Case {
-        controls: 8,
-        inner_two: 8,
-        inner_one: 16,
-        symbols: 32,
-        final_two: 0,
-        final_one: 0,
-        rules: Vec::new(),
-        entries: Vec::new(),
-        edges: Vec::new(),
-        moves: Vec::new(),
-    };
+    let mut case = Case::without_records(8, 8, 16, 32);
     change(&mut case);
     encode_case(&case)
 }

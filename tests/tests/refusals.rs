@@ -328,18 +328,7 @@ fn the_answers_lent() {
 /// from every one of eight controls to every one.
 #[test]
 fn order_one_states_of_the_table() {
-    let mut case = Case {
-        controls: 8,
-        inner_two: 0,
-        inner_one: 0,
-        symbols: 1,
-        final_two: 0,
-        final_one: 0,
-        rules: Vec::new(),
-        entries: Vec::new(),
-        edges: Vec::new(),
-        moves: Vec::new(),
-    };
+    let mut case = Case::without_records(8, 0, 0, 1);
     for from in 0..8 {
         case.rules.extend((0..8).map(|to| Rule {
             from,

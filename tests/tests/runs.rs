@@ -6,7 +6,7 @@ use second::automaton::{accepting, accepts};
 use second::file::{decode_case, decode_start};
 use second::generate::Pair;
 use second::lent::Lent;
-use second::pairs::pairs;
+use second::pairs::{Searched, pairs};
 use second::search::{Bounds, Outcome, search};
 use second::services::GuideReply::{Arrived, CellsShort, NoRun, Refused};
 use second::services::{LISTING_ENTRIES, LISTING_MOVES, MOST_CELLS};
@@ -94,27 +94,15 @@ fn marks_agree_with_the_search() {
         configurations: 400,
     };
     let mut lent = ample();
-    let (mut reached, mut exhausted, mut bounded) = (0, 0, 0);
+    let mut searched = Searched::default();
     for (name, pair) in pairs(300) {
         let Some(marks) = marks(&mut lent, &pair, &name) else {
             continue;
         };
-        for (number, &mark) in marks.iter().enumerate() {
-            match search(&pair.case, pair.configuration(number), bounds) {
-                Outcome::Reached(_) => {
-                    assert!(mark, "{name} start {number} reaches the target");
-                    reached += 1;
-                }
-                Outcome::Exhausted => {
-                    assert!(!mark, "{name} start {number} cannot reach the target");
-                    exhausted += 1;
-                }
-                Outcome::Bounded => bounded += 1,
-            }
-        }
+        searched.check(&name, &pair, &marks, bounds);
     }
-    println!("reached {reached}, exhausted {exhausted}, bounded {bounded}");
-    assert!(reached >= 500 && exhausted >= 500);
+    println!("{searched:?}");
+    assert!(searched.reached >= 500 && searched.exhausted >= 500);
 }
 
 /// The search finds every start marked yes whose run is short, by no more steps

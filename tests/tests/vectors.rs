@@ -1,7 +1,7 @@
 //! The vectors and the larger files that came with document 01.
 
 use second::automaton::accepts;
-use second::data::{Vector, bytes, vectors};
+use second::data::{Vector, bytes, larger_files, vectors};
 use second::file::{decode_case, decode_start};
 use second::lent::Lent;
 use second::saturation::saturate;
@@ -76,18 +76,9 @@ fn more_cells_than_count() {
 
 #[test]
 fn every_larger_file_with_an_expected_listing() {
-    let names = [
-        "copy-1008338",
-        "copy-1031611",
-        "deep-1002280",
-        "large-880",
-        "mid-1013239",
-        "mid-1021568",
-    ];
-    for name in names {
-        let file = |part: &str| bytes(&format!("bench/{name}/{part}"));
-        let printed = listing(&file("case.bin"), &file("start.bin"));
-        assert_eq!(printed.as_bytes(), file("expected.txt"), "{name}");
+    for file in larger_files() {
+        let printed = listing(&file.case, &file.start);
+        assert_eq!(printed, file.printed, "{}", file.name);
     }
 }
 
