@@ -24,28 +24,6 @@ pub fn byte_at(b: &[u8], at: usize) -> u64
     wide(b[at])
 }
 
-// The byte at a place, and 0 past the end.
-pub fn byte_or_zero(b: &[u8], at: usize) -> u64
-    ensures { λ r. ⌜ r ≡ getD (now (b .entry)) at 0 ⌝ }
-    ensures small { λ r. ⌜ r < 256 ⌝ }
-{
-    if at < b.len() {
-        return byte_at(b, at);
-    }
-    0
-}
-
-// Two bytes from a place on, each 0 past the end.
-pub fn number2_or_zero(b: &[u8], at: usize) -> u64
-    requires { ⌜ at < 2 ^ 32 ⌝ }
-    ensures { λ r. ⌜ r ≡ field at 2 (now (b .entry)) ⌝ }
-    ensures small { λ r. ⌜ r < 2 ^ 16 ⌝ }
-{
-    let low = byte_or_zero(b, at);
-    let high = byte_or_zero(b, at + 1);
-    low + 256 * high
-}
-
 // Two bytes from a place on.
 pub fn number2(b: &[u8], at: usize) -> u64
     requires { ⌜ at + 2 ≤ length (now b) ⌝ }

@@ -1,14 +1,14 @@
 // The check of a start file, body by body.
 ghost use mathlib.Core.Path.{_≡_};
 ghost use mathlib.Core.Bool.{true};
-ghost use mathlib.Core.List.{[], map};
-ghost use Prim.Native.Nat.{_<_, _≤_, _+_, _*_};
-ghost use lib.ListN.{length, getD};
+ghost use mathlib.Core.List.{map};
+ghost use Prim.Native.Nat.{_≤_, _*_};
+ghost use lib.ListN.{length};
 ghost use Rattle.words.specs.Lists.{every};
-ghost use Rattle.files.specs.Bytes.{placed, records, recordsOf};
-ghost use Rattle.files.specs.Start.{startBodies, startOf, cellBytes, startsOf, cellRecords, startRight, cellsRight, startRefusal};
+ghost use Rattle.files.specs.Bytes.{placed, records};
+ghost use Rattle.files.specs.Start.{startBodies, startOf, cellBytes, startsOf, cellRecords, startRight, cellsRight};
 ghost use Rattle.bytes_in.specs.Records.{bodyOf};
-ghost use Rattle.start_file.specs.Checks.{filesOf};
+ghost use Rattle.start_file.specs.Checks.{refusalFor};
 
 // Kind, least and most number of records and bytes of a record of each body.
 const BODIES: [u16; 8] = [1, 1, 64, 3, 2, 1, 256, 6];
@@ -86,31 +86,17 @@ fn file_cells_right(symbols: u64, file: &[u8]) -> bool
     cells_right(symbols, cell_body(file), bytes_in::count_of(file, 1))
 }
 
-// Byte k of the record of a case's body 1, and 0 where there is none. The case need not be sound.
-fn head_byte(case: &[u8], k: usize) -> u64
-    requires { ⌜ k < 14 ⌝ }
-    ensures { λ r. ⌜ r ≡ getD (getD (recordsOf (now (case .entry)) 0 14) 0 []) k 0 ⌝ }
-{
-    if bytes_in::number2_or_zero(case, 3) == 0 {
-        return 0;
-    }
-    let low = bytes_in::number2_or_zero(case, 5);
-    let high = bytes_in::number2_or_zero(case, 7);
-    let offset = (low + 65536 * high) as usize;
-    bytes_in::byte_or_zero(case, offset + k)
-}
-
-// 0 for a start file that is sound for its case, else its refusal, 5 or 6.
-pub fn check_start(case: &[u8], start: &[u8]) -> u64
-    ensures { λ r. ⌜ r ≡ startRefusal (filesOf (now (case .entry)) (now (start .entry))) ⌝ }
+// 0 for a start file that is sound for a case with so many controls and symbols, else its refusal, 5 or 6.
+pub fn check_start(controls: u64, symbols: u64, start: &[u8]) -> u64
+    ensures { λ r. ⌜ r ≡ refusalFor controls symbols (now (start .entry)) ⌝ }
 {
     if !start_placed(start) {
         return 5;
     }
-    if !file_starts_right(head_byte(case, 0), start) {
+    if !file_starts_right(controls, start) {
         return 6;
     }
-    if !file_cells_right(head_byte(case, 3), start) {
+    if !file_cells_right(symbols, start) {
         return 6;
     }
     0

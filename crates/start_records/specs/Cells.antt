@@ -1,14 +1,12 @@
 -- The bounds of cells, kind by kind, and the cells of a body by number.
 -- Assumes nothing.
-use Prim.Native.Nat.{ℕ, _*_, _≤_, _<_}
+use Prim.Native.Nat.{ℕ, _≤_, _<_}
 use mathlib.Core.Bool.{Bool, false, _&&_}
 use mathlib.Core.Path.{_≡_, ap, ap₂, sym, _∙_}
 use mathlib.Core.List.{List, [], map}
-use lib.ListN.{length, getD, drop, length-map, List·getD-map}
-use lib.Seq.{getD-take, getD-drop}
+use lib.ListN.{length, getD, length-map, List·getD-map}
 use lib.Dec.{eqb, ltb}
 use borrow.Author.Tests.{lt-ltb, le-ltb, eq-eqb, ne-eqb, ltb-true, eqb-true, eqb-false}
-use native.Mathlib.Nat.{add-zero}
 use native.Mathlib.Omega.{arith}
 use Rattle.words.specs.Lists.Laws.{by-test}
 use Rattle.files.specs.Bytes.{number, field, records}
@@ -74,11 +72,6 @@ pub cell-at : (n i : ℕ) (b : List ℕ) → i < n
 unfolding recordAt cellBytes field number
 cell-at n i b h = List·getD-map cellBytes (records n 6 b) i [] ∙ ap cellBytes (records-at n 6 b i h)
 
--- a cell's kind is its first byte
-pub kind-at : (i : ℕ) (b : List ℕ) → cellBytes (recordAt 6 i b) .kind ≡ getD b (i * 6) 0
-unfolding cellBytes recordAt
-kind-at i b = getD-take 6 (drop (i * 6) b) 0 0 (omega arith) ∙ getD-drop (i * 6) b 0 0 ∙ ap (λ (k : ℕ). getD b k 0) (add-zero (i * 6))
-
 pub length-cells : (n : ℕ) (b : List ℕ) → length (map cellBytes (records n 6 b)) ≡ n
 length-cells n b = length-map (records n 6 b) cellBytes ∙ length-records n 6 b
 
@@ -88,10 +81,11 @@ pub refers-not : (cells : List CellBytes) (n order x : ℕ) → n ≤ x → refe
 unfolding refersTo
 refers-not cells n order x h = rw (le-ltb x n h)
 
-pub refers-kind : (b : List ℕ) (n order x kind r : ℕ) → x < n → kind ≡ getD b (x * 6) 0 → r ≡ orderOf kind
+pub refers-kind : (b : List ℕ) (n order x : ℕ) {y : CellBytes} {r : ℕ} → x < n → y ≡ cellBytes (recordAt 6 x b) → r ≡ orderOf (y .kind)
     → eqb r order ≡ refersTo (map cellBytes (records n 6 b)) n order x
 unfolding refersTo
-refers-kind b n order x kind r h e f = rw (lt-ltb x n h, cell-at n x b h, kind-at x b, ← e, ← f)
+refers-kind b n order x h e f =
+    rw (lt-ltb x n h, cell-at n x b h) (ap (λ (k : ℕ). eqb k order) (f ∙ ap (λ (y : CellBytes). orderOf (y .kind)) e))
 
 -- a reference to one of the first n cells is the same, whether the others are given or not
 pub refers-all : (b : List ℕ) (n m order x : ℕ) → n ≤ m

@@ -116,7 +116,7 @@ pub fn refers_to(body: &[u8], n: usize, order: u64, x: u64) -> bool
     if n <= at {
         return false;
     }
-    order_of(bytes_in::byte_at(body, at * 6)) == order
+    order_of(fields_at(body, at).kind) == order
 }
 
 // An empty stack's cell: its other fields are unused.

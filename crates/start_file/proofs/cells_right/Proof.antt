@@ -6,7 +6,8 @@ use native.Mathlib.Omega.{arith}
 use borrow.Author.Tests.{not-true, not-false}
 use Rattle.files.specs.Start.{cellRight}
 use Rattle.start_records.specs.Cells.{right-all}
-use Rattle.start_file.specs.Checks.{CellsFrom, cells-first, cells-next, cells-wrong, cells-last}
+use Rattle.start_file.specs.Checks.{CellsFrom}
+use Rattle.start_file.specs.Checks.Laws.{cells-first, cells-next, cells-wrong, cells-last}
 use borrow.Author.Needs.{needs}
 use Rattle.start_file.proofs.cells_right.Statement.{statement}
 use Rattle.start_file.proofs.cells_right.Tie as tie
