@@ -1,6 +1,1 @@
-pub mod Tables
-pub mod Run
-pub mod Walk
-pub mod Cases
-pub mod Left
-pub mod Demands
+pub mod Service

@@ -1,4 +1,2 @@
 pub mod Marks
-pub mod Cases
-pub mod Left
-pub mod Demands
+pub mod Service

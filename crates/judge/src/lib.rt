@@ -12,11 +12,11 @@ ghost use Rattle.start_records.specs.Values.{theStart};
 ghost use Rattle.acceptance.specs.Named.{Stands};
 ghost use Rattle.sound_files.specs.Starts.{startsIn, StartsStand};
 ghost use Rattle.sound_files.specs.Sound.{StartSound};
+ghost use Rattle.sound_files.specs.Refusal.{FilesSound};
 ghost use Rattle.judge.specs.Marks.{markBy};
 ghost use Rattle.demands.specs.Demand1.{JudgeStates};
 ghost use Rattle.demands.specs.Demand2.{Marks};
-ghost use Rattle.judge.specs.Demands.{SizeRefused};
-ghost use Rattle.judge.specs.Cases.{refusedBefore, Passed, judgeInput, judgeDone};
+ghost use Rattle.judge.specs.Service.{judgeInput, judgeDone, SizeRefused};
 use start_records::Start;
 use tables::Table;
 
@@ -78,20 +78,6 @@ fn mark_starts(
     put_marks(body, n, &words, answers);
 }
 
-// The refusal by the two files and the number of answers lent, or 0.
-fn refusal_before(case: &[u8], start: &[u8], answers: usize) -> u64
-    ensures { λ r. ⌜ r ≡ refusedBefore (now (case .entry)) (now (start .entry)) answers ⌝ }
-{
-    let files = sound_files::files_refusal(case, start);
-    if files != 0 {
-        return files;
-    }
-    if answers < bytes_in::count_of(start, 0) {
-        return 8;
-    }
-    0
-}
-
 // Judges sound files. All lent memory is zero before.
 fn judge_sound(
     case: &[u8],
@@ -100,7 +86,7 @@ fn judge_sound(
     entries: &mut [u64],
     answers: &mut [u8],
 ) -> u64
-    requires { ⌜ Passed (now case) (now start) (length (now answers)) × (now moves ≡ zeros (length (now moves))) × (now entries ≡ zeros (length (now entries))) × (now answers ≡ zeros (length (now answers))) ⌝ }
+    requires { ⌜ FilesSound (now case) (now start) × (length (startsOf (now start)) ≤ length (now answers)) × (now moves ≡ zeros (length (now moves))) × (now entries ≡ zeros (length (now entries))) × (now answers ≡ zeros (length (now answers))) ⌝ }
     ensures { λ r. ⌜ judgeDone r (now (moves .exit)) (now (entries .exit)) (now (answers .exit)) ≡ judgeService (judgeInput (now (case .entry)) (now (start .entry)) (length (now (moves .entry))) (length (now (entries .entry))) (length (now (answers .entry)))) ⌝ }
 {
     let mut inner = [0u64; 192];
@@ -133,7 +119,7 @@ pub fn judge(
 {
     sound_files::zero_tables(moves, entries);
     zero_bytes(answers);
-    let refusal = refusal_before(case, start, answers.len());
+    let refusal = sound_files::refusal_before(case, start, answers.len(), 8, 0);
     if refusal != 0 {
         return refusal;
     }

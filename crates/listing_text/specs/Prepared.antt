@@ -13,7 +13,7 @@ use Rattle.saturate.specs.Case.{CaseSaturated}
 use Rattle.sound_files.specs.Refusal.{FilesSound}
 use Rattle.sound_files.specs.Saturated.{lentOf, table-there}
 use Rattle.guided_step.specs.Step.{saturatedIn}
-use Rattle.guide.specs.Tables.{TablesStand, tables-stand}
+use Rattle.guided_start.specs.Tables.{TablesStand, tables-stand}
 
 -- Neither file is refused, and the tables hold the case's saturated table, which fits what the program lends.
 pub record Prepared (case start : List ℕ) (z : Table) (inner entries moves : List ℕ) (k : ℕ) (sizes : List ℕ) : Type 0 where

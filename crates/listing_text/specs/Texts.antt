@@ -25,12 +25,13 @@ use Rattle.start_file.specs.Checks.{filesOf}
 use Rattle.saturate.specs.Service.Laws.{done-filled}
 use Rattle.text.specs.Lines.{replyLine, startLine-is}
 use Rattle.sound_files.specs.Sound.{start-sound, starts-count}
-use Rattle.sound_files.specs.Refusal.{FilesSound, filesRefusal, filesThen, by-files}
+use Rattle.sound_files.specs.Refusal.{FilesSound, filesRefusal, refusedBefore}
+use Rattle.sound_files.specs.Refusal.Laws.{by-files}
 use Rattle.sound_files.specs.Saturated.{lentOf}
-use Rattle.judge.specs.Cases as judge
+use Rattle.judge.specs.Service.Cases as judge
 use Rattle.guided_step.specs.Step.{saturatedIn}
-use Rattle.guide.specs.Run.{guideInput, run-tables}
-use Rattle.guide.specs.Cases as guide
+use Rattle.guided_start.specs.Run.{guideInput, run-tables}
+use Rattle.guide.specs.Service.Cases.{answers-guided}
 use Rattle.listing_text.specs.Prepared.{Prepared}
 
 -- ---- by the number with which judge refuses
@@ -55,20 +56,16 @@ module _ (case start : List ℕ) where
   abbrev files : Files
   files = filesOf case start
 
-  -- judge has room for the marks
-  passes : FilesSound case start → judge.Passed case start 64
-  passes s = record { sound = s; answers-lent = starts-few s }
-
   pub listing-refused : {n : ℕ} → n ≡ filesRefusal case start → (n ≡ 0 → ⊥) → refusedText n ≡ listingText files
   unfolding listingJudge judgeLeft
   listing-refused {n} is h =
-      let e : n ≡ filesThen case start (judge.answersRefusal start 64) = by-files case start (judge.answersRefusal start 64) is h in
-      sym (text-refused files n (ap (λ d. d .code) (judge.refused (listingJudge files) (λ z. h (e ∙ z))) ∙ sym e) h)
+      let e : n ≡ refusedBefore case start 64 8 0 = by-files case start 64 8 0 is h in
+      sym (text-refused files n (ap (λ d. d .code) (judge.answers-refused (listingJudge files) (λ z. h (e ∙ z))) ∙ sym e) h)
 
   pub listing-exceeded : FilesSound case start → saturated (lentOf case (1024 * 5) (64 * 2)) ≡ none → refusedText 9 ≡ listingText files
   unfolding listingJudge judgeLeft judgeLent
   listing-exceeded s h =
-      sym (text-refused files 9 (ap (λ d. d .code) (judge.exceeded (listingJudge files) (passes s) h)) (omega arith))
+      sym (text-refused files 9 (ap (λ d. d .code) (judge.answers-exceeded (listingJudge files) s (starts-few s) h)) (omega arith))
 
   module _ {z : Table} {inner entries moves : List ℕ} {k : ℕ} {sizes : List ℕ} (prepared : Prepared case start z inner entries moves k sizes) where
     abbrev T : Saturated
@@ -86,7 +83,7 @@ module _ (case start : List ℕ) where
     unfolding listingJudge judgeLeft judgeLent judgedText
     listing-judged =
         ap (λ (r : Saturation). sizeLine r ++ startLines files 0 (length (startsOf start))) (sym sizes-are)
-        ∙ sym (text-judged files (ap (λ d. d .code) (judge.answered (listingJudge files) (passes (prepared .sound)) (prepared .table-is))))
+        ∙ sym (text-judged files (ap (λ d. d .code) (judge.answers-judged (listingJudge files) (prepared .sound) (starts-few (prepared .sound)) (prepared .table-is))))
 
     -- the line of a start is that of the reply of its run, whatever the lengths m and e of the tables
     pub line-guided : (n m e : ℕ) {reply : Reply} → n < length (startsOf start)
@@ -96,5 +93,5 @@ module _ (case start : List ℕ) where
         ap (replyLine n)
         (is
         ∙ ap (λ o. o .reply) (run-tables case start n m (1024 * 5) e (64 * 2) (512 * 68) 1024 T)
-        ∙ sym (ap (λ d. d .reply) (guide.answers-guided (listingGuide files n) (record { sound = prepared .sound; start-there = h }) (prepared .table-is))))
+        ∙ sym (ap (λ d. d .reply) (answers-guided (listingGuide files n) (prepared .sound) h (prepared .table-is))))
         ∙ sym (startLine-is files n)

@@ -45,7 +45,7 @@ fn start_line(
 {
     let mut cells = [0u16; Limits::CELLS * 68];
     let mut trace = [0u16; Limits::TRACE];
-    let reply = guide::guide_start(
+    let reply = guided_start::guide_start(
         case,
         start,
         n,

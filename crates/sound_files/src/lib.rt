@@ -1,5 +1,5 @@
-// What judge and guide begin with: the refusal by the case file and the start file, and the words of the start file's cells for a table. They end by zeroing the
-// tables.
+// What judge and guide begin with: the refusal by the case file, the start file and the number of its starts, and the words of the start
+// file's cells for a table. They end by zeroing the tables.
 ghost use mathlib.Core.Path.{_≡_};
 ghost use mathlib.Core.Bool.{true};
 ghost use mathlib.Core.List.{_++_};
@@ -11,7 +11,7 @@ ghost use Rattle.services.specs.Memory.{zeros};
 ghost use Rattle.tables.specs.Held.{automatonOf};
 ghost use Rattle.acceptance.specs.Named.{Stands};
 ghost use Rattle.acceptance.specs.Cells.{cellWords};
-ghost use Rattle.sound_files.specs.Refusal.{filesRefusal};
+ghost use Rattle.sound_files.specs.Refusal.{filesRefusal, refusedBefore};
 use tables::Table;
 
 // The refusal by the two files, or 0.
@@ -22,7 +22,22 @@ pub fn files_refusal(case: &[u8], start: &[u8]) -> u64
     if c != 0 {
         return c;
     }
-    start_file::check_start(case, start)
+    let h = case_file::head_of(case);
+    start_file::check_start(h.controls, h.symbols, start)
+}
+
+// The refusal by the two files. Where there is none, `below` if k is below the number of starts, and `past` if it is not; 0 is no refusal.
+pub fn refusal_before(case: &[u8], start: &[u8], k: usize, below: u64, past: u64) -> u64
+    ensures { λ r. ⌜ r ≡ refusedBefore (now (case .entry)) (now (start .entry)) k below past ⌝ }
+{
+    let files = files_refusal(case, start);
+    if files != 0 {
+        return files;
+    }
+    if k < bytes_in::count_of(start, 0) {
+        return below;
+    }
+    past
 }
 
 // Writes the word of each cell of the start file, for the automaton in these tables.

@@ -7,7 +7,7 @@ use Rattle.replies.specs.declared.Counts.{Counts}
 use Rattle.replies.specs.declared.Reply.{Reply}
 use Rattle.replies.specs.Numbers.{numberOf, replyCounts}
 use Rattle.services.specs.Guide.{GuideDone}
-use Rattle.guide.specs.Left.{guideDone}
+use Rattle.guide.specs.Service.{guideDone}
 use Rattle.exports.specs.Answers.{GuideAnswer, theAnswer, answerOf}
 
 pub answered : (reply : Reply) (moves entries cells trace : List ℕ) (d : GuideDone) → guideDone reply moves entries cells trace ≡ d

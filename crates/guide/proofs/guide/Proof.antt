@@ -1,10 +1,11 @@
 -- `guide::guide` meets its contract.
 -- Assumes nothing.
 use mathlib.Core.Path.{sym, _∙_}
+use native.Mathlib.Omega.{arith}
 use Rattle.saturate.specs.Service.Laws.{zero-self}
-use Rattle.guide.specs.Cases.{passed}
-use Rattle.guide.specs.Left.{cells-zero, left-refused, service-kept}
-use Rattle.guide.specs.Demands.{meets}
+use Rattle.sound_files.specs.Refusal.Laws.{sound-before, not-past}
+use Rattle.guide.specs.Service.Left.{cells-zero, left-refused, service-kept}
+use Rattle.guide.specs.Service.Demands.{meets}
 use borrow.Author.Needs.{needs}
 use Rattle.guide.proofs.guide.Statement.{statement}
 use Rattle.guide.proofs.guide.Tie as tie
@@ -44,8 +45,10 @@ guide-sound-requires : tie.Need-guide-sound-requires
 guide-sound-requires c κs =
     let t = c .before .before .before .before .before .before .before .before .before .before .before .before .before .before .before .before .before .before .zero-tables in
     let cells = c .before .before .before .before .before .before .before .before .before .before .before .before .zero-cells in
-    let trace = c .before .before .before .before .before .before .before .before .zero-cells2 in (
-      passed _ _ _ (sym (c .before .before .before .before .before .refusal-before .ensures) ∙ c .before .before .before .before .if1 .left),
+    let trace = c .before .before .before .before .before .before .before .before .zero-cells2 in
+    let none = sym (c .before .before .before .before .before .refusal-before .ensures) ∙ c .before .before .before .before .if1 .left in (
+      sound-before _ _ _ 0 7 none,
+      not-past _ _ _ 0 7 none (omega arith),
       zero-self _ _ (t .ensures .0) (t .kept .0),
       zero-self _ _ (t .ensures .1) (t .kept .1 .0),
       zero-self _ _ (cells-zero _ (cells .ensures)) (cells .kept .0),

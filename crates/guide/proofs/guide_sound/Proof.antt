@@ -3,9 +3,9 @@
 use borrow.Author.Tests.{not-true, not-false}
 use Rattle.sound_files.specs.Sound.{start-sound}
 use Rattle.sound_files.specs.Saturated.{table-there, table-none}
-use Rattle.guide.specs.Tables.{tables-stand}
-use Rattle.guide.specs.Run.{leaves-same, run-tables}
-use Rattle.guide.specs.Left.{zeros-kept, cells-zero, left-exceeded, left-guided}
+use Rattle.guided_start.specs.Tables.{tables-stand}
+use Rattle.guided_start.specs.Run.{leaves-same, run-tables}
+use Rattle.guide.specs.Service.Left.{zeros-kept, cells-zero, left-exceeded, left-guided}
 use borrow.Author.Needs.{needs}
 use Rattle.guide.proofs.guide_sound.Statement.{statement}
 use Rattle.guide.proofs.guide_sound.Tie as tie
@@ -36,8 +36,8 @@ returns c =
     let s = c .before .before .before .before .before .before .before .before .before .before .before .before .before .before .before .before .before .saturate-case in
     let e = c .before .before .before .before .before .before .before .before .before .before .before .before .before .before .before .before .before .before .before .before .before .before .before .before .before .before .before .before .before in
     let z = c .before .before .before .before .zero-tables .ensures in
-    left-exceeded _ (zeros-kept (z .0) (s .kept .1 .1 .1 .0)) (zeros-kept (z .1) (s .kept .1 .1 .0)) (e .pre .3) (e .pre .0)
-    (table-none (s .ensures) (not-true (s .result .fits) (c .before .before .before .before .before .before .before .if1 .taken))) (e .pre .4)
+    left-exceeded _ (zeros-kept (z .0) (s .kept .1 .1 .1 .0)) (zeros-kept (z .1) (s .kept .1 .1 .0)) (e .pre .4) (e .pre .0) (e .pre .1)
+    (table-none (s .ensures) (not-true (s .result .fits) (c .before .before .before .before .before .before .before .if1 .taken))) (e .pre .5)
 
 slice-aggregate-guide-start : tie.Need-slice-aggregate-guide-start
 slice-aggregate-guide-start c = search needs
@@ -49,14 +49,14 @@ guide-start-requires : tie.Need-guide-start-requires
 guide-start-requires c κs =
     let s = c .before .before .before .before .before .before .before .before .before .before .before .before .before .before .before .before .saturate-case in
     let p = c .before .before .before .before .before .before .before .before .before .before .before .before .before .before .before .before .before .before .before .before .before .before .before .before .before .before .before .before .pre in
-    let sound = p .0 .sound in
+    let sound = p .0 in
     let inner = s .kept .1 .0 in
     let sizes = s .kept .1 .1 .1 .1 .1 .0 in (
       sound .sound-case,
       start-sound sound,
       tables-stand (s .ensures) (sound .sound-case) (not-false (s .result .fits) (c .before .before .before .before .before .before .if1 .left)) (search needs) (search needs),
-      p .0 .start-there,
-      p .4,
+      p .1,
+      p .5,
     )
 
 zero-tables-requires-2 : tie.Need-zero-tables-requires-2
@@ -84,7 +84,7 @@ returns-2 c =
     let g = c .before .before .before .before .before .before .before .before .before .before .before .before .before .before .before .guide-start in
     let z = c .before .before .before .before .before .before .before .before .zero-tables2 .ensures in
     left-guided _ (zeros-kept (z .0) (s .kept .1 .1 .1 .0)) (zeros-kept (z .1) (s .kept .1 .1 .0))
-    (zeros-kept (cells-zero _ (c .before .before .zero-cells .ensures)) (g .kept .1 .1 .1 .1 .1 .1 .1 .1 .1 .0)) (e .pre .0)
+    (zeros-kept (cells-zero _ (c .before .before .zero-cells .ensures)) (g .kept .1 .1 .1 .1 .1 .1 .1 .1 .1 .0)) (e .pre .0) (e .pre .1)
     (table-there (s .ensures) (not-false (s .result .fits) (c .before .before .before .before .before .before .before .before .before .before .before .before .before .before .before .before .before .before .before .before .before .before .if1 .left)))
     (leaves-same (run-tables _ _ _ _ _ _ _ _ _ _) (g .ensures))
 

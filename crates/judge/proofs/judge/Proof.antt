@@ -1,10 +1,11 @@
 -- `judge::judge` meets its contract.
 -- Assumes nothing.
 use mathlib.Core.Path.{sym, _∙_}
+use native.Mathlib.Omega.{arith}
 use Rattle.saturate.specs.Service.Laws.{zero-self}
-use Rattle.judge.specs.Cases.{passed}
-use Rattle.judge.specs.Left.{left-refused, service-kept}
-use Rattle.judge.specs.Demands.{meets}
+use Rattle.sound_files.specs.Refusal.Laws.{sound-before, not-below}
+use Rattle.judge.specs.Service.Left.{left-refused, service-kept}
+use Rattle.judge.specs.Service.Demands.{meets}
 use borrow.Author.Needs.{needs}
 use Rattle.judge.proofs.judge.Statement.{statement}
 use Rattle.judge.proofs.judge.Tie as tie
@@ -36,8 +37,10 @@ returns c =
 judge-sound-requires : tie.Need-judge-sound-requires
 judge-sound-requires c κs =
     let t = c .before .before .before .before .before .before .before .before .before .before .before .before .before .zero-tables in
-    let b = c .before .before .before .before .before .before .before .zero-bytes in (
-      passed _ _ _ (sym (c .before .before .before .before .refusal-before .ensures) ∙ c .before .before .before .if1 .left),
+    let b = c .before .before .before .before .before .before .before .zero-bytes in
+    let none = sym (c .before .before .before .before .refusal-before .ensures) ∙ c .before .before .before .if1 .left in (
+      sound-before _ _ _ 8 0 none,
+      not-below _ _ _ 8 0 none (omega arith),
       zero-self _ _ (t .ensures .0) (t .kept .0),
       zero-self _ _ (t .ensures .1) (t .kept .1 .0),
       zero-self _ _ (b .ensures) (b .kept .0),

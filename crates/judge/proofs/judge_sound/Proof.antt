@@ -3,7 +3,7 @@
 use borrow.Author.Tests.{not-true, not-false}
 use Rattle.sound_files.specs.Sound.{start-sound}
 use Rattle.sound_files.specs.Saturated.{table-there, table-none, table-stands}
-use Rattle.judge.specs.Left.{left-exceeded, left-judged}
+use Rattle.judge.specs.Service.Left.{left-exceeded, left-judged}
 use borrow.Author.Needs.{needs}
 use Rattle.judge.proofs.judge_sound.Statement.{statement}
 use Rattle.judge.proofs.judge_sound.Tie as tie
@@ -35,8 +35,8 @@ returns c =
     let s = t .before .before .before .before .before .before .before .before .before .before in
     let e = s .before .before .before .before .before .before .before .before .before .before .before in
     let z = c .before .before .before .before .zero-tables .ensures in
-    left-exceeded _ (e .pre .0) (s .saturate-case .kept .1 .1 .1 .0) (s .saturate-case .kept .1 .1 .0) (z .0) (z .1)
-    (table-none (s .saturate-case .ensures) (not-true (s .saturate-case .result .fits) (t .if1 .taken))) (e .pre .3)
+    left-exceeded _ (e .pre .0) (e .pre .1) (s .saturate-case .kept .1 .1 .1 .0) (s .saturate-case .kept .1 .1 .0) (z .0) (z .1)
+    (table-none (s .saturate-case .ensures) (not-true (s .saturate-case .result .fits) (t .if1 .taken))) (e .pre .4)
 
 slice-aggregate-mark-starts : tie.Need-slice-aggregate-mark-starts
 slice-aggregate-mark-starts c = search needs
@@ -45,10 +45,10 @@ mark-starts-requires : tie.Need-mark-starts-requires
 mark-starts-requires c κs =
     let s = c .before .before .before .before .before .before .before .before .before .before .before .before .before .before in
     let e = s .before .before .before .before .before .before .before .before .before .before .before in
-    let p = e .pre .0 in (
-      table-stands (s .saturate-case .ensures) (p .sound .sound-case) (not-false (s .saturate-case .result .fits) (c .before .before .before .before .if1 .left)),
-      start-sound (p .sound),
-      p .answers-lent,
+    let p = e .pre in (
+      table-stands (s .saturate-case .ensures) (p .0 .sound-case) (not-false (s .saturate-case .result .fits) (c .before .before .before .before .if1 .left)),
+      start-sound (p .0),
+      p .1,
     )
 
 zero-tables-requires-2 : tie.Need-zero-tables-requires-2
@@ -69,8 +69,8 @@ returns-2 c =
     let s = t .before .before .before .before .before .before .before .before .before .before in
     let e = s .before .before .before .before .before .before .before .before .before .before .before in
     let z = c .before .before .before .before .zero-tables2 .ensures in
-    left-judged _ (e .pre .0) (s .saturate-case .kept .1 .1 .1 .0) (s .saturate-case .kept .1 .1 .0) (z .0) (z .1)
-    (table-there (s .saturate-case .ensures) (not-false (s .saturate-case .result .fits) (t .if1 .left))) (e .pre .3)
+    left-judged _ (e .pre .0) (e .pre .1) (s .saturate-case .kept .1 .1 .1 .0) (s .saturate-case .kept .1 .1 .0) (z .0) (z .1)
+    (table-there (s .saturate-case .ensures) (not-false (s .saturate-case .result .fits) (t .if1 .left))) (e .pre .4)
     (c .before .before .before .before .before .before .before .before .before .mark-starts .ensures)
 
 pub judge-sound-spec : {M : Type 1} → statement M

@@ -3,7 +3,7 @@
 use mathlib.Core.Path.{refl, sym, _∙_}
 use native.Mathlib.Omega.{arith}
 use borrow.Author.Needs.{needs}
-use Rattle.sound_files.specs.Refusal.{files-sound}
+use Rattle.sound_files.specs.Refusal.Laws.{files-sound}
 use Rattle.listing_text.specs.Texts.{listing-refused}
 use Rattle.listing_text.specs.Printed.{printed}
 use Rattle.listing_text.proofs.listing.Statement.{statement}

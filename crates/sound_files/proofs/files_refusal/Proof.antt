@@ -1,6 +1,8 @@
 -- `sound_files::files_refusal` meets its contract.
 -- Assumes nothing.
-use Rattle.sound_files.specs.Refusal.{by-case, by-start}
+use mathlib.Core.Path.{sym, _∙_}
+use Rattle.saturate.specs.Case.Laws.{is-placed}
+use Rattle.sound_files.specs.Refusal.Laws.{by-case, by-start}
 use borrow.Author.Needs.{needs}
 use Rattle.sound_files.proofs.files_refusal.Statement.{statement}
 use Rattle.sound_files.proofs.files_refusal.Tie as tie
@@ -11,11 +13,16 @@ check-case-requires c κs = search needs
 returns : tie.Need-returns
 returns c = by-case _ _ (c .before .check-case .ensures) (c .if1 .taken)
 
+head-of-requires : tie.Need-head-of-requires
+head-of-requires c κs = is-placed _ (sym (c .before .check-case .ensures) ∙ c .if1 .left)
+
 check-start-requires : tie.Need-check-start-requires
 check-start-requires c κs = search needs
 
 returns-2 : tie.Need-returns-2
-returns-2 c = by-start _ _ (c .before .before .check-case .ensures) (c .before .if1 .left) (c .check-start .ensures)
+returns-2 c =
+    by-start _ _ (c .before .before .before .check-case .ensures) (c .before .before .if1 .left) (c .before .head-of .ensures) (c .check-start .ensures)
 
 pub files-refusal-spec : {M : Type 1} → statement M
-files-refusal-spec = tie.close (tie.spec check-case-requires returns check-start-requires returns-2)
+files-refusal-spec =
+    tie.close (tie.spec check-case-requires returns head-of-requires check-start-requires returns-2)

@@ -1,6 +1,6 @@
 -- What judge leaves in lent memory, in each case.
 -- Assumes nothing.
-use Prim.Native.Nat.{ℕ, _-_}
+use Prim.Native.Nat.{ℕ, _-_, _≤_}
 use mathlib.Core.Path.{_≡_, refl, ap, sym, _∙_}
 use mathlib.Core.Option.{none, some}
 use mathlib.Core.List.{List, _++_, map}
@@ -12,26 +12,28 @@ use Rattle.services.specs.Saturate.{saturated}
 use Rattle.services.specs.Judge.{JudgeInput, JudgeDone, judgeLent, judgeLeft, judgeService, mark}
 use Rattle.tables.specs.Filled.{drop-zeros}
 use Rattle.demands.specs.Demand1.Proof.{padded-none}
+use Rattle.sound_files.specs.Refusal.{FilesSound, refusedBefore}
 use Rattle.sound_files.specs.Saturated.{lentOf}
-use Rattle.judge.specs.Cases.{refusedBefore, Passed, judgeInput, judgeDone, refused, exceeded, answered}
+use Rattle.judge.specs.Service.{judgeInput, judgeDone}
+use Rattle.judge.specs.Service.Cases.{answers-refused, answers-exceeded, answers-judged}
 
 done-same : {c d : ℕ} {m n e f a b : List ℕ} → c ≡ d → m ≡ n → e ≡ f → a ≡ b → judgeDone c m e a ≡ judgeDone d n f b
 done-same p q r s = λ i. record { code = p i; moves = q i; entries = r i; answers = s i }
 
 module _ (x : JudgeInput) {m e a : List ℕ} where
-  pub left-refused : {c n : ℕ} → n ≡ x .answers → c ≡ refusedBefore (x .case) (x .start) n → (c ≡ 0 → ⊥) → m ≡ zeros (x .moves) → e ≡ zeros (x .entries)
+  pub left-refused : {c n : ℕ} → n ≡ x .answers → c ≡ refusedBefore (x .case) (x .start) n 8 0 → (c ≡ 0 → ⊥) → m ≡ zeros (x .moves) → e ≡ zeros (x .entries)
       → a ≡ zeros (x .answers) → judgeDone c m e a ≡ judgeService x
   unfolding judgeLeft
   left-refused {c} k is h p q r =
-      let same : c ≡ refusedBefore (x .case) (x .start) (x .answers) = is ∙ ap (refusedBefore (x .case) (x .start)) k in
-      done-same same p q (r ∙ sym (padded-none (x .answers))) ∙ sym (refused x (λ z. h (same ∙ z)))
+      let same : c ≡ refusedBefore (x .case) (x .start) (x .answers) 8 0 = is ∙ ap (λ (i : ℕ). refusedBefore (x .case) (x .start) i 8 0) k in
+      done-same same p q (r ∙ sym (padded-none (x .answers))) ∙ sym (answers-refused x (λ z. h (same ∙ z)))
 
-  module _ (through : Passed (x .case) (x .start) (x .answers)) {k l : ℕ} (kept : k ≡ x .moves) (kept′ : l ≡ x .entries)
+  module _ (sound : FilesSound (x .case) (x .start)) (lent : length (startsOf (x .start)) ≤ x .answers) {k l : ℕ} (kept : k ≡ x .moves) (kept′ : l ≡ x .entries)
       (p : m ≡ zeros k) (q : e ≡ zeros l) where
     pub left-exceeded : saturated (lentOf (x .case) (x .moves) (x .entries)) ≡ none → a ≡ zeros (x .answers) → judgeDone 9 m e a ≡ judgeService x
     unfolding judgeLeft judgeLent
     left-exceeded h z =
-        done-same refl (p ∙ ap zeros kept) (q ∙ ap zeros kept′) (z ∙ sym (padded-none (x .answers))) ∙ sym (exceeded x through h)
+        done-same refl (p ∙ ap zeros kept) (q ∙ ap zeros kept′) (z ∙ sym (padded-none (x .answers))) ∙ sym (answers-exceeded x sound lent h)
 
     -- a₀ being the answers before they are marked
     pub left-judged : {T : Saturated} {a₀ : List ℕ} → saturated (lentOf (x .case) (x .moves) (x .entries)) ≡ some T → a₀ ≡ zeros (x .answers)
@@ -45,7 +47,7 @@ module _ (x : JudgeInput) {m e a : List ℕ} where
         done-same refl (p ∙ ap zeros kept) (q ∙ ap zeros kept′)
         (marks
         ∙ ap (λ (y : List ℕ). l ++ y) (ap (drop n) z ∙ drop-zeros n (x .answers) ∙ ap (λ (i : ℕ). zeros (x .answers - i)) (sym len)))
-        ∙ sym (answered x through h)
+        ∙ sym (answers-judged x sound lent h)
 
 -- the same slices are lent where a call before has kept their lengths
 pub service-kept : (case start : List ℕ) {d : JudgeDone} {m m′ e e′ a a′ : ℕ} → d ≡ judgeService (judgeInput case start m e a)

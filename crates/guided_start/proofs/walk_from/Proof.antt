@@ -1,14 +1,14 @@
--- `guide::walk_from` meets its contract.
+-- `guided_start::walk_from` meets its contract.
 -- Assumes nothing.
 use native.Mathlib.Omega.{arith}
 use Rattle.tables.specs.Held.{automatonOf}
 use Rattle.saturate.specs.Case.Laws.{is-placed, long-enough}
 use Rattle.guided_step.specs.Step.{saturatedIn}
 use Rattle.sound_files.specs.Sound.{start-long}
-use Rattle.guide.specs.Walk.{prepared, cells-number, walk-starts, run-stands, walk-leaves}
+use Rattle.guided_start.specs.Walk.{prepared, cells-number, walk-starts, run-stands, walk-leaves}
 use borrow.Author.Needs.{needs}
-use Rattle.guide.proofs.walk_from.Statement.{statement}
-use Rattle.guide.proofs.walk_from.Tie as tie
+use Rattle.guided_start.proofs.walk_from.Statement.{statement}
+use Rattle.guided_start.proofs.walk_from.Tie as tie
 
 cell-body-requires : tie.Need-cell-body-requires
 cell-body-requires c κs = search needs

@@ -1,21 +1,27 @@
--- The service's answer meets demands 1 and 3.
+-- The service guide: what it leaves, as the values of the code give it, and demand 3 of its answer.
 -- Assumes nothing.
+pub mod Cases
+pub mod Left
+pub mod Demands
 use Prim.Native.Nat.{ℕ, _≤_, _<_}
 use mathlib.Core.Bool.{true}
-use mathlib.Core.Path.{_≡_, sym, subst}
+use mathlib.Core.Path.{_≡_}
 use mathlib.Core.Logic.{_↔_}
 use mathlib.Core.List.{List}
 use lib.ListN.{length}
+use Rattle.replies.specs.declared.Reply.{Reply}
 use Rattle.files.specs.Case.{rulesOf}
 use Rattle.files.specs.Start.{cellsOf}
 use Rattle.services.specs.Judge.{JudgeInput}
-use Rattle.services.specs.Guide.{GuideInput, GuideDone, cellsLent, guideService}
+use Rattle.services.specs.Guide.{GuideInput, GuideDone, cellsLent}
 use Rattle.guidance.specs.Prefix.{isArrival}
 use Rattle.demands.specs.FullRun.{used}
-use Rattle.demands.specs.Demand1.{GuideStates}
-use Rattle.demands.specs.Demand1.Proof.{demand1}
-use Rattle.demands.specs.Demand3.{MarkedYes, guideTo, Walks, TooShort}
+use Rattle.demands.specs.Demand3.{MarkedYes, Walks, TooShort}
 use Rattle.demands.specs.Demand3.Proof.{demand3}
+
+abbrev pub guideDone : Reply → List ℕ → List ℕ → List ℕ → List ℕ → GuideDone
+guideDone reply moves entries cells trace =
+    record { reply = reply; moves = moves; entries = entries; cells = cells; trace = trace }
 
 -- judge's input with the same files and tables, and so many answers
 abbrev pub judgeFor : GuideInput → ℕ → JudgeInput
@@ -35,16 +41,3 @@ pub record AnswersRun (x : GuideInput) (ns : List ℕ) (d : GuideDone) : Type 0 
 abbrev pub Guides : GuideInput → GuideDone → Type 0
 Guides x d = (answers : ℕ) (marked : MarkedYes (judgeFor x answers) (x .number))
     → AnswersRun x (demand3 (judgeFor x answers) (x .number) marked .trace) d
-
-guides : (x : GuideInput) → Guides x (guideService x)
-unfolding guideTo
-guides x answers marked =
-    let run = demand3 (judgeFor x answers) (x .number) marked in
-    record {
-      walks = run .walks (x .cells) (x .trace);
-      too-short = run .too-short (x .cells) (x .trace);
-      arrives-exactly = run .arrives-exactly (x .cells) (x .trace);
-    }
-
-pub meets : (x : GuideInput) (d : GuideDone) → d ≡ guideService x → (d ≡ guideService x) × (GuideStates x d × Guides x d)
-meets x d e = (e, (subst (GuideStates x) (sym e) (demand1 .2 x), subst (Guides x) (sym e) (guides x)))

@@ -1,25 +1,24 @@
 -- What guide leaves in lent memory, in each case.
 -- Assumes nothing.
-use Prim.Native.Nat.{ℕ}
+use Prim.Native.Nat.{ℕ, _<_}
 use mathlib.Core.Path.{_≡_, refl, ap, sym, _∙_}
 use mathlib.Core.Option.{none, some}
 use mathlib.Core.List.{List}
-use lib.ListN.{replicate}
+use lib.ListN.{length, replicate}
 use Rattle.automata.specs.Saturation.{Saturated}
 use Rattle.replies.specs.declared.Reply.{Reply}
 use Rattle.replies.specs.declared.Reply.the-variants.{Refused}
+use Rattle.files.specs.Start.{startsOf}
 use Rattle.services.specs.Memory.{zeros}
 use Rattle.services.specs.Saturate.{saturated}
 use Rattle.services.specs.Guide.{GuideInput, GuideDone, guideLent, guideRun, guideLeft, refused, guideService}
 use Rattle.demands.specs.Demand1.Proof.{padded-none}
 use Rattle.guided_walk.specs.Turns.{Leaves}
+use Rattle.sound_files.specs.Refusal.{FilesSound, refusedBefore}
 use Rattle.sound_files.specs.Saturated.{lentOf}
-use Rattle.guide.specs.Run.{guideInput}
-use Rattle.guide.specs.Cases.{refusedBefore, Passed, answers-refused, answers-exceeded, answers-guided}
-
-abbrev pub guideDone : Reply → List ℕ → List ℕ → List ℕ → List ℕ → GuideDone
-guideDone reply moves entries cells trace =
-    record { reply = reply; moves = moves; entries = entries; cells = cells; trace = trace }
+use Rattle.guided_start.specs.Run.{guideInput}
+use Rattle.guide.specs.Service.{guideDone}
+use Rattle.guide.specs.Service.Cases.{answers-refused, answers-exceeded, answers-guided}
 
 done-same : {r s : Reply} {m n e f c d t u : List ℕ} → r ≡ s → m ≡ n → e ≡ f → c ≡ d → t ≡ u → guideDone r m e c t ≡ guideDone s n f d u
 done-same o p q k l = λ i. record { reply = o i; moves = p i; entries = q i; cells = k i; trace = l i }
@@ -33,21 +32,21 @@ unfolding zeros
 cells-zero n e = e
 
 module _ (x : GuideInput) {m e c t : List ℕ} (p : m ≡ zeros (x .moves)) (q : e ≡ zeros (x .entries)) (k : c ≡ zeros (x .cells)) where
-  pub left-refused : {n : ℕ} → n ≡ refusedBefore (x .case) (x .start) (x .number) → (n ≡ 0 → ⊥) → t ≡ zeros (x .trace)
+  pub left-refused : {n : ℕ} → n ≡ refusedBefore (x .case) (x .start) (x .number) 0 7 → (n ≡ 0 → ⊥) → t ≡ zeros (x .trace)
       → guideDone (Refused n) m e c t ≡ guideService x
   unfolding guideLeft refused
   left-refused is h z =
       done-same (ap Refused is) p q k (z ∙ sym (padded-none (x .trace))) ∙ sym (answers-refused x (λ n. h (is ∙ n)))
 
-  module _ (through : Passed (x .case) (x .start) (x .number)) where
+  module _ (sound : FilesSound (x .case) (x .start)) (there : x .number < length (startsOf (x .start))) where
     pub left-exceeded : saturated (lentOf (x .case) (x .moves) (x .entries)) ≡ none → t ≡ zeros (x .trace) → guideDone (Refused 9) m e c t ≡ guideService x
     unfolding guideLeft refused guideLent
-    left-exceeded h z = done-same refl p q k (z ∙ sym (padded-none (x .trace))) ∙ sym (answers-exceeded x through h)
+    left-exceeded h z = done-same refl p q k (z ∙ sym (padded-none (x .trace))) ∙ sym (answers-exceeded x sound there h)
 
     pub left-guided : {r : Reply} {T : Saturated} → saturated (lentOf (x .case) (x .moves) (x .entries)) ≡ some T → Leaves (guideRun x T) (x .trace) r t
         → guideDone r m e c t ≡ guideService x
     unfolding guideLeft guideLent
-    left-guided h a = done-same (a .reply-is) p q k (a .trace-is) ∙ sym (answers-guided x through h)
+    left-guided h a = done-same (a .reply-is) p q k (a .trace-is) ∙ sym (answers-guided x sound there h)
 
 -- the same slices are lent where a call before has kept their lengths
 pub service-kept : (case start : List ℕ) (number : ℕ) {d : GuideDone} {m m′ e e′ c c′ t t′ : ℕ} → d ≡ guideService (guideInput case start number m e c t)

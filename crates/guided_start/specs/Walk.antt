@@ -32,8 +32,8 @@ use Rattle.guided_step.specs.declared.Walk.{Walk}
 use Rattle.guided_step.specs.Walks.{walkIn}
 use Rattle.guided_walk.specs.Turns.{RunStands, Leaves}
 use Rattle.sound_files.specs.Sound.{StartSound, cells-count, cells-lent}
-use Rattle.guide.specs.Tables.{TablesStand, reading-stands}
-use Rattle.guide.specs.Run.{leaves-same}
+use Rattle.guided_start.specs.Tables.{TablesStand, reading-stands}
+use Rattle.guided_start.specs.Run.{leaves-same}
 
 -- The first words are those of the cells.
 pub record WordsStand (A : Automaton) (cells : List Cell) (words : List ℕ) : Type 0 where

@@ -1,4 +1,4 @@
--- `guide::guide_start` meets its contract.
+-- `guided_start::guide_start` meets its contract.
 -- Assumes nothing.
 use Prim.Native.Nat.{_≤_}
 use mathlib.Core.Path.{sym, _∙_}
@@ -7,11 +7,11 @@ use lib.ListN.{length}
 use borrow.Author.Tests.{not-true, not-false}
 use Rattle.tables.specs.Held.{automatonOf}
 use Rattle.sound_files.specs.Sound.{start-long, cells-count, cells-few, start-lent, start-names}
-use Rattle.guide.specs.Run.{lent-fit, named, tested, leaves-no, leaves-short, leaves-walk}
-use Rattle.guide.specs.Walk.{words-written}
+use Rattle.guided_start.specs.Run.{lent-fit, named, tested, leaves-no, leaves-short, leaves-walk}
+use Rattle.guided_start.specs.Walk.{words-written}
 use borrow.Author.Needs.{needs}
-use Rattle.guide.proofs.guide_start.Statement.{statement}
-use Rattle.guide.proofs.guide_start.Tie as tie
+use Rattle.guided_start.proofs.guide_start.Statement.{statement}
+use Rattle.guided_start.proofs.guide_start.Tie as tie
 
 slice-aggregate-start-words : tie.Need-slice-aggregate-start-words
 slice-aggregate-start-words c = search needs

@@ -1,0 +1,125 @@
+// The guided run from one start of a sound start file, on the saturated table of a sound case.
+ghost use mathlib.Core.Path.{_≡_};
+ghost use mathlib.Core.List.{[]};
+ghost use Prim.Native.Nat.{_<_, _≤_, _*_};
+ghost use lib.ListN.{length};
+ghost use Rattle.walks.specs.Guide.{startWalk, guided};
+ghost use Rattle.files.specs.Case.{caseRefusal, rulesOf};
+ghost use Rattle.files.specs.Start.{startsOf, cellsOf};
+ghost use Rattle.services.specs.Memory.{zeros};
+ghost use Rattle.services.specs.Guide.{guideRun};
+ghost use Rattle.tables.specs.Held.{automatonOf};
+ghost use Rattle.guided_step.specs.Step.{saturatedIn};
+ghost use Rattle.guided_walk.specs.Turns.{Leaves};
+ghost use Rattle.sound_files.specs.Sound.{StartSound};
+ghost use Rattle.guided_start.specs.Tables.{TablesStand};
+ghost use Rattle.guided_start.specs.Run.{guideInput, lentCells, shortAtStart};
+ghost use Rattle.guided_start.specs.Walk.{Ready};
+use guided_step::Walk;
+use replies::Counts;
+use replies::Halt;
+use replies::Reply;
+use start_records::Start;
+use tables::Table;
+
+// The cells that so many words lend, of which at most 4,096 count.
+fn cells_lent(words: usize) -> usize
+    ensures { λ r. ⌜ r ≡ lentCells words ⌝ }
+{
+    let n = words / 68;
+    if n < 4096 { n } else { 4096 }
+}
+
+// Short before any step, with 0 steps and 0 cells.
+fn short_at_start() -> Reply
+    ensures { λ r. ⌜ r ≡ shortAtStart ⌝ }
+{
+    let none = Counts { steps: 0, cells: 0 };
+    Reply::Walked(Halt::CellsShort(none))
+}
+
+// The walk from start x of a sound start file, whose cells fit the first `most` lent cells. The trace is all zero before.
+fn walk_from(
+    case: &[u8],
+    start: &[u8],
+    x: Start,
+    z: Table,
+    inner: &[u64],
+    entries: &[u64],
+    moves: &[u64],
+    sizes: &[u64],
+    k: usize,
+    words: &[u64],
+    cells: &mut [u16],
+    most: usize,
+    trace: &mut [u16],
+) -> Reply
+    requires { ⌜ Ready (now case) (now start) z (now inner) (now entries) (now moves) k (now sizes) (now words) × (x .root < 256) × (now trace ≡ zeros (length (now trace))) × (length (cellsOf (now start)) ≤ most) × (most * 68 ≤ length (now cells)) × (most ≤ 4096) ⌝ }
+    ensures { λ r. ⌜ Leaves (guided (rulesOf (now (case .entry))) (saturatedIn z (now (inner .entry)) (now (entries .entry)) (now (moves .entry)) k (now (sizes .entry))) most (length (now (trace .entry))) [] (startWalk (automatonOf z (now (inner .entry)) (now (entries .entry)) (now (moves .entry))) (cellsOf (now (start .entry))) (x .control) (x .root))) (length (now (trace .entry))) r (now (trace .exit)) ⌝ }
+{
+    let body = start_file::cell_body(start);
+    let n = bytes_in::count_of(start, 1);
+    least_choices::put_start_cells(z, inner, entries, moves, body, n, words, cells);
+    let rules = case_file::rule_body(case);
+    let count = bytes_in::count_of(case, 1);
+    let w = Walk::start(x.control, x.root as u16, n);
+    guided_walk::walk(
+        z,
+        inner,
+        entries,
+        moves,
+        rules,
+        count,
+        sizes,
+        k,
+        cells,
+        most,
+        trace,
+        w,
+    )
+}
+
+// Guides from one start of a sound start file, for a sound case whose saturated table stands in these tables, its sizes in the first k rows.
+// The trace is all zero before. What the cells hold after it is left free: the service zeroes them.
+pub fn guide_start(
+    case: &[u8],
+    start: &[u8],
+    number: usize,
+    z: Table,
+    inner: &[u64],
+    entries: &[u64],
+    moves: &[u64],
+    sizes: &[u64],
+    k: usize,
+    cells: &mut [u16],
+    trace: &mut [u16],
+) -> Reply
+    requires { ⌜ (caseRefusal (now case) ≡ 0) × StartSound (now start) × TablesStand z (now inner) (now entries) (now moves) k (now sizes) × (number < length (startsOf (now start))) × (now trace ≡ zeros (length (now trace))) ⌝ }
+    ensures { λ r. ⌜ Leaves (guideRun (guideInput (now (case .entry)) (now (start .entry)) number (length (now (moves .entry))) (length (now (entries .entry))) (length (now (cells .entry))) (length (now (trace .entry)))) (saturatedIn z (now (inner .entry)) (now (entries .entry)) (now (moves .entry)) k (now (sizes .entry)))) (length (now (trace .entry))) r (now (trace .exit)) ⌝ }
+{
+    let mut words = [0u64; 256];
+    sound_files::start_words(z, inner, entries, moves, start, &mut words);
+    let x = start_records::start_at(start_file::start_body(start), number);
+    if !acceptance::accepted(&words, x.root as usize, x.control) {
+        return Reply::NoRun;
+    }
+    let most = cells_lent(cells.len());
+    if most < bytes_in::count_of(start, 1) {
+        return short_at_start();
+    }
+    walk_from(
+        case,
+        start,
+        x,
+        z,
+        inner,
+        entries,
+        moves,
+        sizes,
+        k,
+        &words,
+        cells,
+        most,
+        trace,
+    )
+}
