@@ -1,39 +1,19 @@
--- The walk from a start: what is asked before it, its cells in lent cells, and its answer.
+-- The walk from a start: what is asked before it.
 -- Assumes nothing.
-use Prim.Native.Nat.{ℕ, _*_, _≤_}
-use mathlib.Core.Path.{_≡_, ap, ap₂, sym, _∙_, subst}
-use mathlib.Core.List.{List, [], _++_}
-use native.Mathlib.Omega.{arith}
+pub mod Laws
+use Prim.Native.Nat.{ℕ, _≤_}
+use mathlib.Core.Path.{_≡_}
+use mathlib.Core.List.{List}
 use lib.ListN.{length, take}
-use lib.Seq.{take-at}
-use Rattle.stacks.specs.System.{Rule}
 use Rattle.automata.specs.Automaton.{Automaton}
-use Rattle.automata.specs.Saturation.{Saturated}
-use Rattle.replies.specs.declared.Reply.{Reply}
 use Rattle.walks.specs.Cell.{Cell}
-use Rattle.walks.specs.Cell.Formed.{Formed}
-use Rattle.walks.specs.Guide as walks
-use Rattle.walks.specs.Guide.{startWalk, guided}
-use Rattle.files.specs.Bytes.{countOf}
-use Rattle.files.specs.Case.{caseRefusal, rulesOf}
-use Rattle.files.specs.Case.Laws.{case-placed}
+use Rattle.files.specs.Case.{caseRefusal}
 use Rattle.files.specs.Start.{cellsOf}
-use Rattle.bytes_in.specs.Records.{bodyOf}
 use Rattle.tables.specs.declared.Table.{Table}
 use Rattle.tables.specs.Held.{automatonOf}
-use Rattle.results.specs.Collecting.{rulesIn}
-use Rattle.saturate.specs.Case.Laws.{rules-are, rules-stand}
-use Rattle.cell_memory.specs.Memory.{guidedIn}
-use Rattle.acceptance.specs.Cells.{cellWords, length-cellWords}
-use Rattle.acceptance.specs.Cells.Body.{cellsIn}
-use Rattle.acceptance.specs.Starts.{cells-body}
-use Rattle.least_choices.specs.Starts.{Prepared, startCells}
-use Rattle.guided_step.specs.declared.Walk.{Walk}
-use Rattle.guided_step.specs.Walks.{walkIn}
-use Rattle.guided_walk.specs.Turns.{RunStands, Leaves}
-use Rattle.sound_files.specs.Sound.{StartSound, cells-count, cells-lent}
-use Rattle.guided_start.specs.Tables.{TablesStand, reading-stands}
-use Rattle.guided_start.specs.Run.{leaves-same}
+use Rattle.acceptance.specs.Cells.{cellWords}
+use Rattle.sound_files.specs.Sound.{StartSound}
+use Rattle.guided_start.specs.Tables.{TablesStand}
 
 -- The first words are those of the cells.
 pub record WordsStand (A : Automaton) (cells : List Cell) (words : List ℕ) : Type 0 where
@@ -46,71 +26,3 @@ pub record Ready (case start : List ℕ) (z : Table) (inner entries moves : List
   pub start-is : StartSound start
   pub tables : TablesStand z inner entries moves k sizes
   pub words-stand : WordsStand (automatonOf z inner entries moves) (cellsOf start) words
-
--- the words as they are written
-pub words-written : (A : Automaton) (cells : List Cell) (more : List ℕ) {words : List ℕ} → length cells ≤ length words
-    → words ≡ cellWords A cells ++ more → WordsStand A cells words
-words-written A cells more l e =
-    record {
-      words-lent = l;
-      words-are = ap (take (length cells)) e ∙ take-at (cellWords A cells) more (length cells) (length-cellWords A cells);
-    }
-
--- ---- the start's cells
-
-module _ (file : List ℕ) {body : List ℕ} {n : ℕ} (b : body ≡ bodyOf file 1 6) (count : n ≡ countOf file 1) where
-  cells-file : cellsIn n body ≡ cellsOf file
-  cells-file = ap₂ cellsIn count b ∙ cells-body file
-
-  pub cells-number : n ≡ length (cellsOf file)
-  cells-number = count ∙ sym (cells-count file)
-
-  -- what is asked before they are written
-  pub prepared : {case : List ℕ} {z : Table} {inner entries moves : List ℕ} {k : ℕ} {sizes words : List ℕ}
-      → Ready case file z inner entries moves k sizes words → Prepared z inner entries moves body n words
-  prepared {z = z} {inner} {entries} {moves} {words = words} r =
-      let A : Automaton = automatonOf z inner entries moves in
-      let w = r .words-stand .words-lent in
-      let e = cells-number in
-      record {
-        stands = r .tables .stands;
-        few = r .tables .few;
-        body-lent = cells-lent file (r .start-is .in-place) {words = 256} count b (omega arith) .0;
-        formed = subst Formed (sym cells-file) (r .start-is .formed);
-        words-lent = omega arith;
-        words-are = ap (λ (i : ℕ). take i words) e ∙ r .words-stand .words-are ∙ ap (cellWords A) (sym cells-file);
-      }
-
-  -- once written, they are those of the walk from the start
-  pub walk-starts : (A : Automaton) (w : Walk) (cells : List ℕ) {p root : ℕ} → w .control ≡ p → w .root ≡ root → w .cells ≡ n
-      → guidedIn n cells ≡ startCells A (cellsIn n body) → walkIn w cells ≡ startWalk A (cellsOf file) p root
-  unfolding startWalk
-  walk-starts A w cells c r k is =
-      λ i. record {
-        control = c i;
-        root = r i;
-        cells = (ap (λ (j : ℕ). guidedIn j cells) k ∙ is ∙ ap (startCells A) cells-file) i;
-      }
-
--- ---- the case's rules
-
-module _ (case : List ℕ) (sound : caseRefusal case ≡ 0) {body : List ℕ} {count : ℕ} (b : body ≡ bodyOf case 1 5) (c : count ≡ countOf case 1) where
-  -- what is asked for the walk
-  pub run-stands : {z : Table} {inner entries moves : List ℕ} {k : ℕ} {sizes cells : List ℕ} {most : ℕ} → TablesStand z inner entries moves k sizes
-      → most * 68 ≤ length cells → most ≤ 4096 → RunStands z inner entries moves body count sizes k cells most
-  run-stands t l m =
-      let n = case-placed case sound .rules-count in
-      record {
-        tables-stand = reading-stands t;
-        rules-stand = rules-stand case sound body count b c;
-        rules-few = omega arith;
-        sizes-lent = t .sizes-lent;
-        cells-lent = l;
-        cells-few = m;
-      }
-
-  -- what it leaves, where it begins with the walk v
-  pub walk-leaves : (T : Saturated) (most n : ℕ) {w v : walks.Walk} {r : Reply} {trace : List ℕ} → w ≡ v
-      → Leaves (guided (rulesIn count body) T most n [] w) n r trace → Leaves (guided (rulesOf case) T most n [] v) n r trace
-  walk-leaves T most n e =
-      leaves-same (ap₂ (λ (l : List Rule) (u : walks.Walk). guided l T most n [] u) (sym (rules-are case sound body count b c)) (sym e))

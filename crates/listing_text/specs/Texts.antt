@@ -24,13 +24,14 @@ use Rattle.tables.specs.Records.{entryRow, moveRow}
 use Rattle.start_file.specs.Checks.{filesOf}
 use Rattle.saturate.specs.Service.Laws.{done-filled}
 use Rattle.text.specs.Lines.{replyLine, startLine-is}
-use Rattle.sound_files.specs.Sound.{start-sound, starts-count}
+use Rattle.sound_files.specs.Sound.Laws.{start-sound, starts-count}
 use Rattle.sound_files.specs.Refusal.{FilesSound, filesRefusal, refusedBefore}
 use Rattle.sound_files.specs.Refusal.Laws.{by-files}
 use Rattle.sound_files.specs.Saturated.{lentOf}
 use Rattle.judge.specs.Service.Cases as judge
 use Rattle.guided_step.specs.Step.{saturatedIn}
-use Rattle.guided_start.specs.Run.{guideInput, run-tables}
+use Rattle.guided_start.specs.Run.{guideInput}
+use Rattle.guided_start.specs.Run.Laws.{run-tables}
 use Rattle.guide.specs.Service.Cases.{answers-guided}
 use Rattle.listing_text.specs.Prepared.{Prepared}
 

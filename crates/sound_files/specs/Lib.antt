@@ -1,5 +1,4 @@
 pub mod Starts
 pub mod Sound
-pub mod Words
 pub mod Refusal
 pub mod Saturated

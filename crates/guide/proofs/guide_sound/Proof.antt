@@ -1,10 +1,10 @@
 -- `guide::guide_sound` meets its contract.
 -- Assumes nothing.
 use borrow.Author.Tests.{not-true, not-false}
-use Rattle.sound_files.specs.Sound.{start-sound}
-use Rattle.sound_files.specs.Saturated.{table-there, table-none}
-use Rattle.guided_start.specs.Tables.{tables-stand}
-use Rattle.guided_start.specs.Run.{leaves-same, run-tables}
+use Rattle.sound_files.specs.Sound.Laws.{start-sound}
+use Rattle.sound_files.specs.Saturated.Laws.{table-there, table-none}
+use Rattle.guided_start.specs.Tables.Laws.{tables-stand}
+use Rattle.guided_start.specs.Run.Laws.{leaves-same, run-tables}
 use Rattle.guide.specs.Service.Left.{zeros-kept, cells-zero, left-exceeded, left-guided}
 use borrow.Author.Needs.{needs}
 use Rattle.guide.proofs.guide_sound.Statement.{statement}

@@ -14,7 +14,7 @@ use Rattle.services.specs.Guide.{GuideInput, GuideDone, guideLent, guideFiles, 
 use Rattle.services.specs.Guide.Laws.{Started, GuideCase, guide-cases, case-refused, start-refused, start-missing, size-exceeded, no-run, cells-short, walked}
 use Rattle.sound_files.specs.Refusal.{FilesSound, refusedBefore}
 use Rattle.sound_files.specs.Refusal.Laws.{before-case, before-start, before-below, before-past}
-use Rattle.guided_start.specs.Run.{run-no, run-short, run-goes}
+use Rattle.guided_start.specs.Run.Laws.{run-no, run-short, run-goes}
 
 module _ (x : GuideInput) where
   abbrev before : ℕ

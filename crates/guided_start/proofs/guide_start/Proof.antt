@@ -6,9 +6,9 @@ use native.Mathlib.Omega.{arith}
 use lib.ListN.{length}
 use borrow.Author.Tests.{not-true, not-false}
 use Rattle.tables.specs.Held.{automatonOf}
-use Rattle.sound_files.specs.Sound.{start-long, cells-count, cells-few, start-lent, start-names}
-use Rattle.guided_start.specs.Run.{lent-fit, named, tested, leaves-no, leaves-short, leaves-walk}
-use Rattle.guided_start.specs.Walk.{words-written}
+use Rattle.sound_files.specs.Sound.Laws.{start-long, cells-count, cells-few, start-lent, start-names}
+use Rattle.guided_start.specs.Run.Laws.{lent-fit, named, tested, leaves-no, leaves-short, leaves-walk}
+use Rattle.guided_start.specs.Walk.Laws.{words-written}
 use borrow.Author.Needs.{needs}
 use Rattle.guided_start.proofs.guide_start.Statement.{statement}
 use Rattle.guided_start.proofs.guide_start.Tie as tie

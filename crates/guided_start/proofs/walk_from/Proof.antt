@@ -4,8 +4,8 @@ use native.Mathlib.Omega.{arith}
 use Rattle.tables.specs.Held.{automatonOf}
 use Rattle.saturate.specs.Case.Laws.{is-placed, long-enough}
 use Rattle.guided_step.specs.Step.{saturatedIn}
-use Rattle.sound_files.specs.Sound.{start-long}
-use Rattle.guided_start.specs.Walk.{prepared, cells-number, walk-starts, run-stands, walk-leaves}
+use Rattle.sound_files.specs.Sound.Laws.{start-long}
+use Rattle.guided_start.specs.Walk.Laws.{prepared, cells-number, walk-starts, run-stands, walk-leaves}
 use borrow.Author.Needs.{needs}
 use Rattle.guided_start.proofs.walk_from.Statement.{statement}
 use Rattle.guided_start.proofs.walk_from.Tie as tie

@@ -1,8 +1,8 @@
 -- `judge::judge_sound` meets its contract.
 -- Assumes nothing.
 use borrow.Author.Tests.{not-true, not-false}
-use Rattle.sound_files.specs.Sound.{start-sound}
-use Rattle.sound_files.specs.Saturated.{table-there, table-none, table-stands}
+use Rattle.sound_files.specs.Sound.Laws.{start-sound}
+use Rattle.sound_files.specs.Saturated.Laws.{table-there, table-none, table-stands}
 use Rattle.judge.specs.Service.Left.{left-exceeded, left-judged}
 use borrow.Author.Needs.{needs}
 use Rattle.judge.proofs.judge_sound.Statement.{statement}

@@ -1,7 +1,7 @@
 -- `judge::mark` meets its contract.
 -- Assumes nothing.
 use Rattle.start_records.specs.Values.{theStart}
-use Rattle.judge.specs.Marks.{mark-yes, mark-no}
+use Rattle.judge.specs.Marks.Writing.{mark-yes, mark-no}
 use borrow.Author.Needs.{needs}
 use Rattle.judge.proofs.mark.Statement.{statement}
 use Rattle.judge.proofs.mark.Tie as tie

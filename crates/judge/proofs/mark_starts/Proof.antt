@@ -2,7 +2,7 @@
 -- Assumes nothing.
 use native.Mathlib.Omega.{arith}
 use Rattle.tables.specs.Held.{automatonOf}
-use Rattle.sound_files.specs.Sound.{start-long, starts-stand, starts-count}
+use Rattle.sound_files.specs.Sound.Laws.{start-long, starts-stand, starts-count}
 use Rattle.judge.specs.Marks.Laws.{marks-judged}
 use borrow.Author.Needs.{needs}
 use Rattle.judge.proofs.mark_starts.Statement.{statement}

@@ -5,8 +5,10 @@ use mathlib.Core.Path.{refl}
 use mathlib.Core.List.{map}
 use borrow.Author.Needs.{needs}
 use Rattle.acceptance.specs.Written.{Written, written-none}
-use Rattle.sound_files.specs.Starts.{startsIn, start-stands}
-use Rattle.judge.specs.Marks.{markBy, marks-more, marks-all}
+use Rattle.sound_files.specs.Starts.{startsIn}
+use Rattle.sound_files.specs.Starts.Laws.{start-stands}
+use Rattle.judge.specs.Marks.{markBy}
+use Rattle.judge.specs.Marks.Writing.{marks-more, marks-all}
 use Rattle.judge.proofs.put_marks.Statement.{statement}
 use Rattle.judge.proofs.put_marks.Tie as tie
 

@@ -13,8 +13,9 @@ use Rattle.services.specs.Judge.{mark}
 use Rattle.bytes_in.specs.Records.{bodyOf}
 use Rattle.acceptance.specs.Cells.{cellWords}
 use Rattle.sound_files.specs.Starts.{startsIn}
-use Rattle.sound_files.specs.Sound.{StartSound, starts-count}
-use Rattle.sound_files.specs.Words.{starts-body, start-member}
+use Rattle.sound_files.specs.Sound.{StartSound}
+use Rattle.sound_files.specs.Sound.Laws.{starts-count}
+use Rattle.sound_files.specs.Sound.Words.{starts-body, start-member}
 use Rattle.judge.specs.Marks.{markBy}
 
 map-same : {X : Type 0} (f g : X → ℕ) (l : List X) → ((x : X) → List·Memᴰ x l → f x ≡ g x) → map f l ≡ map g l

@@ -6,8 +6,8 @@ use borrow.Author.Tests.{not-true, not-false}
 use borrow.Author.Needs.{needs}
 use Rattle.services.specs.Memory.{zeros}
 use Rattle.text.specs.Written.{written-same}
-use Rattle.sound_files.specs.Saturated.{table-none}
-use Rattle.listing_text.specs.Prepared.{prepared}
+use Rattle.sound_files.specs.Saturated.Laws.{table-none}
+use Rattle.listing_text.specs.Prepared.Laws.{prepared}
 use Rattle.listing_text.specs.Texts.{listing-exceeded}
 use Rattle.listing_text.proofs.sound_listing.Statement.{statement}
 use Rattle.listing_text.proofs.sound_listing.Tie as tie

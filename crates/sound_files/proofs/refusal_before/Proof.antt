@@ -2,7 +2,7 @@
 -- Assumes nothing.
 use mathlib.Core.Path.{sym, _∙_}
 use native.Mathlib.Omega.{arith}
-use Rattle.sound_files.specs.Sound.{start-sound, start-long}
+use Rattle.sound_files.specs.Sound.Laws.{start-sound, start-long}
 use Rattle.sound_files.specs.Refusal.Laws.{files-sound, by-files, by-below, by-past}
 use borrow.Author.Needs.{needs}
 use Rattle.sound_files.proofs.refusal_before.Statement.{statement}

@@ -2,8 +2,8 @@
 -- Assumes nothing.
 use native.Mathlib.Omega.{arith}
 use Rattle.tables.specs.Held.{automatonOf}
-use Rattle.sound_files.specs.Sound.{start-long, cells-lent}
-use Rattle.sound_files.specs.Words.{words-are}
+use Rattle.sound_files.specs.Sound.Laws.{start-long, cells-lent}
+use Rattle.sound_files.specs.Sound.Words.{words-are}
 use borrow.Author.Needs.{needs}
 use Rattle.sound_files.proofs.start_words.Statement.{statement}
 use Rattle.sound_files.proofs.start_words.Tie as tie

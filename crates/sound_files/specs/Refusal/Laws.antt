@@ -14,7 +14,7 @@ use Rattle.files.specs.Start.{startRefusal, startsOf}
 use Rattle.start_file.specs.Checks.{filesOf, refusalFor}
 use Rattle.start_file.specs.Checks.Laws.{refusal-is}
 use Rattle.sound_files.specs.Refusal.{firstOf, filesRefusal, FilesSound, startsRefusal, refusedBefore}
-use Rattle.sound_files.specs.Sound.{starts-count}
+use Rattle.sound_files.specs.Sound.Laws.{starts-count}
 
 -- ---- one refusal after another
 

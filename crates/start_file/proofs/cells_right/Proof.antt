@@ -5,7 +5,7 @@ use mathlib.Core.Path.{_≡_, ap, sym, _∙_}
 use native.Mathlib.Omega.{arith}
 use borrow.Author.Tests.{not-true, not-false}
 use Rattle.files.specs.Start.{cellRight}
-use Rattle.start_records.specs.Cells.{right-all}
+use Rattle.start_records.specs.Cells.Laws.{right-all}
 use Rattle.start_file.specs.Checks.{CellsFrom}
 use Rattle.start_file.specs.Checks.Laws.{cells-first, cells-next, cells-wrong, cells-last}
 use borrow.Author.Needs.{needs}

@@ -2,7 +2,7 @@
 -- Assumes nothing.
 use mathlib.Core.Path.{sym}
 use Rattle.cell_memory.specs.Memory.{cellOf}
-use Rattle.start_records.specs.Cells.{of-empty1, of-symbol, of-empty2, of-above}
+use Rattle.start_records.specs.Cells.Laws.{of-empty1, of-symbol, of-empty2, of-above}
 use borrow.Author.Needs.{needs}
 use Rattle.start_records.proofs.cell_of.Statement.{statement}
 use Rattle.start_records.proofs.cell_of.Tie as tie

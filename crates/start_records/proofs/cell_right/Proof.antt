@@ -1,7 +1,7 @@
 -- `start_records::cell_right` meets its contract.
 -- Assumes nothing.
 use mathlib.Core.Path.{sym, _∙_}
-use Rattle.start_records.specs.Cells.{right-empty1, right-symbol, right-empty2, right-above}
+use Rattle.start_records.specs.Cells.Laws.{right-empty1, right-symbol, right-empty2, right-above}
 use borrow.Author.Needs.{needs}
 use Rattle.start_records.proofs.cell_right.Statement.{statement}
 use Rattle.start_records.proofs.cell_right.Tie as tie

@@ -1,7 +1,7 @@
 -- `start_records::refers_to` meets its contract.
 -- Assumes nothing.
 use mathlib.Core.Path.{sym}
-use Rattle.start_records.specs.Cells.{refers-not, refers-kind}
+use Rattle.start_records.specs.Cells.Laws.{refers-not, refers-kind}
 use borrow.Author.Needs.{needs}
 use Rattle.start_records.proofs.refers_to.Statement.{statement}
 use Rattle.start_records.proofs.refers_to.Tie as tie

@@ -2,7 +2,7 @@
 -- Assumes nothing.
 use borrow.Author.Tests.{lt-ltb, le-ltb}
 use Rattle.files.specs.Start.{startRight}
-use Rattle.start_records.specs.Cells.{length-cells}
+use Rattle.start_records.specs.Cells.Laws.{length-cells}
 use borrow.Author.Needs.{needs}
 use Rattle.start_records.proofs.start_right.Statement.{statement}
 use Rattle.start_records.proofs.start_right.Tie as tie

@@ -15,7 +15,8 @@ use Rattle.acceptance.specs.Cells.{cellWords, length-cellWords}
 use Rattle.acceptance.specs.Cells.Body.{cellsIn}
 use Rattle.acceptance.specs.Starts.{cells-body, start-accepted}
 use Rattle.sound_files.specs.Starts.{startsIn}
-use Rattle.sound_files.specs.Sound.{StartSound, cells-count}
+use Rattle.sound_files.specs.Sound.{StartSound}
+use Rattle.sound_files.specs.Sound.Laws.{cells-count}
 
 -- the starts of the file are those of its first body
 pub starts-body : (file : List ℕ) → startsIn (countOf file 0) (bodyOf file 0 3) ≡ startsOf file

@@ -1,0 +1,114 @@
+-- The guided run from a start on a saturated table, as the code comes to it: no run, short at the start, or the walk.
+-- Assumes nothing.
+use Prim.Native.Nat.{ℕ, _*_, _/_, _≤_, _<_, min}
+use mathlib.Core.Bool.{Bool, true, false}
+use mathlib.Core.Path.{_≡_, refl, ap, ap₂, sym, _∙_, subst}
+use mathlib.Core.List.{List, [], _++_}
+use native.Mathlib.Nat.{min-le-left, min-le-right}
+use native.Mathlib.Omega.{arith}
+use lib.ListN.{length, getD}
+use Rattle.words.specs.Sets.{member}
+use Rattle.words.specs.Lists.Laws.{getD-in}
+use Rattle.automata.specs.Automaton.{Automaton}
+use Rattle.automata.specs.Saturation.{Saturated}
+use Rattle.replies.specs.declared.Reply.{Reply}
+use Rattle.replies.specs.declared.Reply.the-variants.{NoRun}
+use Rattle.replies.specs.declared.Halt.the-variants.{CellsShort}
+use Rattle.walks.specs.Guide.{Outcome, outcome, noOutcome, startWalk, guided}
+use Rattle.files.specs.Bytes.{countOf}
+use Rattle.files.specs.Case.{rulesOf}
+use Rattle.files.specs.Start.{Start, startOf, startsOf, cellsOf}
+use Rattle.services.specs.Memory.{zeros}
+use Rattle.services.specs.Judge.{accepted}
+use Rattle.services.specs.Guide.{GuideInput, cellWords, cellsLent, startNamed, guideWalk, guideRun}
+use Rattle.services.specs.Guide.Laws.{walk-short, walk-goes}
+use Rattle.demands.specs.Demand1.Proof.{padded-none}
+use Rattle.bytes_in.specs.Records.{recordAt, bodyOf}
+use Rattle.acceptance.specs.Cells as acceptance
+use Rattle.guided_walk.specs.Turns.{Leaves}
+use Rattle.sound_files.specs.Sound.{StartSound}
+use Rattle.sound_files.specs.Sound.Laws.{starts-count, start-at}
+use Rattle.sound_files.specs.Sound.Words.{start-member}
+use Rattle.guided_start.specs.Run.{guideInput, lentCells, shortAtStart}
+
+-- they are in the slice, and at most 4,096
+pub lent-fit : (words : ℕ) {c : ℕ} → c ≡ lentCells words → (c * 68 ≤ words) × (c ≤ 4096)
+lent-fit words e =
+    let a : min (words / 68) 4096 ≤ words / 68 = min-le-left (words / 68) 4096 in
+    let b : min (words / 68) 4096 ≤ 4096 = min-le-right (words / 68) 4096 in
+    (omega arith, omega arith)
+
+pub leaves-same : {o p : Outcome} {n : ℕ} {r : Reply} {trace : List ℕ} → o ≡ p → Leaves p n r trace → Leaves o n r trace
+leaves-same {n = n} {r = r} {trace = trace} e = subst (λ (q : Outcome). Leaves q n r trace) (sym e)
+
+-- ---- the start
+
+module _ (x : GuideInput) (there : x .number < length (startsOf (x .start))) where
+  -- the start that was read is the one named
+  pub named : {s : Start} {body : List ℕ} → body ≡ bodyOf (x .start) 0 3 → s ≡ startOf (recordAt 3 (x .number) body) → s ≡ startNamed x
+  unfolding startNamed
+  named b e =
+      let n : length (startsOf (x .start)) ≡ countOf (x .start) 0 = starts-count (x .start) in
+      e ∙ ap (λ (l : List ℕ). startOf (recordAt 3 (x .number) l)) b ∙ sym (start-at (x .start) (x .number) _ (omega arith))
+
+  -- the word of its root says whether it is accepted
+  pub tested : (A : Automaton) (more : List ℕ) {words : List ℕ} {s : Start} {t : Bool} → StartSound (x .start)
+      → words ≡ acceptance.cellWords A (cellsOf (x .start)) ++ more → s ≡ startNamed x → t ≡ member (getD words (s .root) 0) (s .control)
+      → t ≡ accepted A (x .start) (startNamed x)
+  unfolding startNamed
+  tested A more sound w e is =
+      is
+      ∙ ap₂ (λ (l : List ℕ) (y : Start). member (getD l (y .root) 0) (y .control)) w e
+      ∙ start-member (x .start) sound A more (startNamed x) (getD-in (startsOf (x .start)) (x .number) _ there)
+
+-- ---- the run
+
+-- it does not depend on the lengths of the tables
+pub run-tables : (case start : List ℕ) (number m m′ e e′ c t : ℕ) (T : Saturated)
+    → guideRun (guideInput case start number m e c t) T ≡ guideRun (guideInput case start number m′ e′ c t) T
+unfolding guideRun guideWalk cellsLent startNamed
+run-tables case start number m m′ e e′ c t T = refl
+
+module _ (x : GuideInput) (T : Saturated) where
+  pub run-no : accepted (T .table) (x .start) (startNamed x) ≡ false → guideRun x T ≡ noOutcome
+  unfolding guideRun
+  run-no e = rw (guideRun, e)
+
+  module _ (yes : accepted (T .table) (x .start) (startNamed x) ≡ true) where
+    pub run-short : cellsLent x < length (cellsOf (x .start)) → guideRun x T ≡ outcome (CellsShort (record { steps = 0; cells = 0 })) []
+    unfolding guideRun
+    run-short l = rw (guideRun, yes) (walk-short x T l)
+
+    pub run-goes : length (cellsOf (x .start)) ≤ cellsLent x
+        → guideRun x T ≡ guided (rulesOf (x .case)) T (cellsLent x) (x .trace) []
+        (startWalk (T .table) (cellsOf (x .start)) (startNamed x .control) (startNamed x .root))
+    unfolding guideRun
+    run-goes l = rw (guideRun, yes) (walk-goes x T l)
+
+-- ---- as the code comes to it
+
+cells-are : (x : GuideInput) → lentCells (x .cells) ≡ cellsLent x
+unfolding cellsLent cellWords
+cells-are x = refl
+
+module _ (x : GuideInput) (T : Saturated) {t : Bool} (is : t ≡ accepted (T .table) (x .start) (startNamed x)) {trace : List ℕ} where
+  pub leaves-no : t ≡ false → trace ≡ zeros (x .trace) → Leaves (guideRun x T) (x .trace) NoRun trace
+  unfolding noOutcome
+  leaves-no f z = leaves-same (run-no x T (sym is ∙ f)) (record { reply-is = refl; trace-is = z ∙ sym (padded-none (x .trace)) })
+
+  module _ (yes : t ≡ true) {c n : ℕ} (lent : c ≡ lentCells (x .cells)) (count : n ≡ length (cellsOf (x .start))) where
+    pub leaves-short : {r : Reply} → c < n → r ≡ shortAtStart → trace ≡ zeros (x .trace) → Leaves (guideRun x T) (x .trace) r trace
+    unfolding outcome
+    leaves-short l e z =
+        let k = cells-are x in
+        leaves-same (run-short x T (sym is ∙ yes) (omega arith)) (record { reply-is = e; trace-is = z ∙ sym (padded-none (x .trace)) })
+
+    pub leaves-walk : {r : Reply} {s : Start} → n ≤ c → s ≡ startNamed x
+        → Leaves (guided (rulesOf (x .case)) T c (x .trace) [] (startWalk (T .table) (cellsOf (x .start)) (s .control) (s .root))) (x .trace) r trace
+        → Leaves (guideRun x T) (x .trace) r trace
+    leaves-walk {r} {s} l e =
+        let d : c ≡ cellsLent x = lent ∙ cells-are x in
+        leaves-same
+        (run-goes x T (sym is ∙ yes) (omega arith)
+        ∙ ap₂ (λ (k : ℕ) (y : Start). guided (rulesOf (x .case)) T k (x .trace) [] (startWalk (T .table) (cellsOf (x .start)) (y .control) (y .root)))
+        (sym d) (sym e))
