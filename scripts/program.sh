@@ -51,21 +51,20 @@ wrong_use() { leave "$WRONG_USE" "$1; usage: $usage"; }
 
 # ---- what a call has started, and its temporary folder
 
-room='' child='' lines=''
+room='' lines=''
 
 clear_room() { [ -z "$room" ] || rm -rf "$room"; }
 
-# Ends the process group that is attended to. Of rt's group the last one has ended when nobody holds the pipe `lines` any more.
-end_child() {
-    kill -TERM -- "-$child" 2>/dev/null || kill -TERM "$child" 2>/dev/null || :
-    wait "$child" || :
-    [ -z "$lines" ] || cat <&"$lines" >/dev/null
-}
-
-# Ends by a signal, as a script without children does.
+# Ends by a signal, as a script without children does: first all that was started ends. The last of rt's group has ended when nobody holds the
+# pipe `lines` any more.
 stop() { # SIGNAL
+    local leader
     trap '' HUP INT TERM
-    [ -z "$child" ] || end_child
+    for leader in $(jobs -pr); do
+        kill -TERM -- "-$leader" 2>/dev/null || kill -TERM "$leader" 2>/dev/null || :
+        wait "$leader" || :
+    done
+    [ -z "$lines" ] || cat <&"$lines" >/dev/null
     clear_room
     trap - EXIT "$1"
     kill -s "$1" $$
@@ -79,12 +78,8 @@ done
 
 # Runs a command as a process group of its own, and answers its status. Unlike a command in the foreground it does not put off a signal.
 attend() { # COMMAND..
-    local status=0
     setsid "$@" <&0 &
-    child=$!
-    wait "$child" || status=$?
-    child=''
-    return "$status"
+    wait $!
 }
 
 # Makes the temporary folder. Others may pass through it, because rt runs a program as nobody below it; the files are in a folder of the user.
@@ -135,23 +130,28 @@ crates_below() {
         END { visit(program); print count + 0 }' "$repository/crates.txt"
 }
 
-# Has rt prove and build the program, and says which crates it has proved. What rt says is kept. rt keeps what it has proved when it is ended.
+# Has rt prove and build the program, and says which crates it has proved; what else rt says is kept. rt keeps what it has proved when it is
+# ended. All that rt starts holds the pipe as its file 3.
 prove() {
-    local all done=0 line status=0 proved='^rt: ([a-z0-9_]+) proved \((.*)\)$'
+    local all done=0 line prover proved='^rt: ([a-z0-9_]+) proved \((.*)\)$'
     all=$(crates_below)
     say "proving and building the program: $all crates, some minutes if none is proved yet"
-    exec {lines}< <(cd "$repository" && TMPDIR=$room exec setsid rt check "$program" 2>&1 3>&1 </dev/null)
-    child=$!
+    mkfifo "$room/lines"
+    (cd "$repository" && TMPDIR=$room exec setsid rt check "$program") >"$room/lines" 2>&1 3>&1 </dev/null &
+    prover=$!
+    exec {lines}<"$room/lines"
     while IFS= read -r line <&"$lines"; do
-        echo "$line" >>"$room/rt.txt"
-        [[ $line =~ $proved ]] || continue
+        if ! [[ $line =~ $proved ]]; then
+            echo "$line" >>"$room/rt.txt"
+            continue
+        fi
         done=$((done + 1))
         [[ ${BASH_REMATCH[2]} = unchanged* ]] || say "proved $done of $all: ${BASH_REMATCH[1]} (${BASH_REMATCH[2]})"
     done
-    wait "$child" || status=$?
     exec {lines}<&-
-    child='' lines=''
-    return "$status"
+    lines=''
+    rm "$room/lines"
+    wait "$prover"
 }
 
 # Proves the sources, and keeps the program unless they have changed meanwhile.
@@ -161,7 +161,8 @@ build() {
     # rt does not ask whether a program that it has built is still there.
     [ -x "$made" ] || rm -f "$repository/target/stamp/$program"
     if ! prove; then
-        cat "$room/rt.txt" >&2 || :
+        # Without the lines on what is proved.
+        grep -vE '^(fn .*: proved$|library |logic )' "$room/rt.txt" >&2 || :
         leave "$NOT_BUILT" "the program is not built: see above"
     fi
     is_built || [ "$built" = "$wanted" ] || return 0
@@ -184,7 +185,7 @@ copy() { # WHAT FILE
     [ ! -d "$2" ] || wrong_use "the $1 file $2 is a folder"
     [ -r "$2" ] || wrong_use "the $1 file $2 can not be read"
     [[ $from = /* ]] || from=./$from
-    attend head -c "$MOST_BYTES" -- "$from" >"$room/files/$1.bin" || wrong_use "the $1 file $2 can not be read"
+    attend head -c "$MOST_BYTES" -- "$from" >"$room/files/$1.bin" || leave 1 "the $1 file $2 can not be copied"
 }
 
 # Document 01's sentence for a refusal.
