@@ -28,11 +28,11 @@ The first call proves and builds the program, which takes some minutes, and says
 
 Status:
   0  all of that is printed
-  $WRONG_USE  wrong use: a number of arguments, or an argument, or a file that is missing or can not be read
+  1  anything that is not below, as a full temporary folder
+  $WRONG_USE  wrong use: too few or too many arguments, a number that is none, a file that is missing or can not be read
   $REFUSED  the files are refused: 'refused N' is printed, and what N means is said on standard error
   $NOT_BUILT  the program can not be proved and built
   $LOST  output is lost: not all of the text could be written to standard output
-  1  anything else, as a full temporary folder
 END
 }
 
