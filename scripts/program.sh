@@ -36,7 +36,7 @@ Status:
 END
 }
 
-version() { echo "$name: the script analyser of document 01, sources $(sources)"; }
+version() { (echo "$name: the script analyser of document 01, sources $(sources)"); }
 
 # ---- messages
 
