@@ -11,8 +11,8 @@
  * may be any, and lent memory may hold anything before a call. No call keeps a
  * pointer, allocates or fails to return.
  *
- * A call runs on the caller's stack and takes about 1.25 MB of it. This is
- * measured and not proved: call from a thread that has 2 MB.
+ * A call runs on the caller's stack and takes 1.26 MB of it, the listing 1.37 MB.
+ * This is measured (host/stack.c) and not proved: call from a thread that has 2 MB.
  *
  * What is lent. Lengths count elements, not bytes. Only whole records count; the
  * words after the last whole record are written too, with zero.
@@ -28,23 +28,9 @@
  *
  * A set is a word with bit n for state n. A missing file is one of length 0.
  *
- * Refusals, by number. After a refusal every lent word is zero, and so is every
- * count. The lowest number that applies is returned.
- *
- *   1  the case's first byte, contents table, a count or the length is wrong
- *   2  a field of case body 1 is out of range
- *   3  a rule, edge or move breaks a bound of its body, or entries are too many
- *   4  edges or moves are not strictly increasing
- *   5  the start file's first byte, contents table, a count or the length is
- *      wrong
- *   6  a start or cell is out of range, refers to a cell of the wrong order, or
- *      fills an unused field
- *   7  guide: the start named is not in the file
- *   8  judge: fewer answer bytes than starts
- *   9  the saturated table has more moves than lent or than 1,024, more entries
- *      than lent, or more than 64 order-1 states
- *
- * Every refusal is from 1 to 255; no other answer is.
+ * A refusal is a number from 1 to 255 (ANALYSER_REFUSALS says what each means);
+ * no other answer is. The lowest number that applies is returned. After a refusal
+ * every lent word is zero, and so is every count.
  */
 #ifndef ANALYSER_H
 #define ANALYSER_H
@@ -63,6 +49,18 @@ extern "C" {
 
 /* Bytes of a listing. */
 #define ANALYSER_LISTING_BYTES 4096
+
+/* Document 01's sentence for each refusal: REFUSAL(number, sentence). */
+#define ANALYSER_REFUSALS(REFUSAL) \
+    REFUSAL(1, "the case's first byte, contents table, a count or the length is wrong") \
+    REFUSAL(2, "a field of case body 1 is out of range") \
+    REFUSAL(3, "a rule, edge or move breaks a bound of its body (b, or B against its order, included), or entries are too many") \
+    REFUSAL(4, "edges or moves are not strictly increasing") \
+    REFUSAL(5, "the start file's first byte, contents table, a count or the length is wrong") \
+    REFUSAL(6, "a start or cell is out of range, refers to a cell of the wrong order, or fills an unused field") \
+    REFUSAL(7, "guide: the start named is not in the file") \
+    REFUSAL(8, "judge: fewer answer bytes than starts") \
+    REFUSAL(9, "the saturated table has more moves than lent or than 1,024, more entries than lent, or more than 64 order-1 states")
 
 /* Answers of the guide that are no refusals. */
 #define ANALYSER_ARRIVED 0

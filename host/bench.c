@@ -3,6 +3,9 @@
  * guides from each start that is marked yes. Prints what it gets.
  *
  * usage: bench CASE START
+ *
+ * Its status is 0, or 2 for wrong use, 3 for a refusal, 5 where not all could be
+ * written to standard output.
  */
 #include "analyser.h"
 
@@ -49,49 +52,93 @@ static void read_file(const char *path, struct file *into)
     fclose(from);
 }
 
-static void print_words(const char *what, const uint64_t *words, size_t count)
+static const char *words_for(uint64_t answer)
 {
-    printf("%s", what);
-    for (size_t i = 0; i < count; i++) {
-        printf(" %" PRIu64, words[i]);
+#define REFUSAL(number, sentence) case number: return "refused " #number ": " sentence;
+    switch (answer) {
+    ANALYSER_REFUSALS(REFUSAL)
+    case ANALYSER_ARRIVED: return "arrived";
+    case ANALYSER_TRACE_FULL: return "trace full";
+    case ANALYSER_CELLS_SHORT: return "cells short";
+    case ANALYSER_NO_RUN: return "no run";
+    default: return "an answer that no service gives";
     }
+#undef REFUSAL
+}
+
+/* Prints the members of a set. */
+static void print_set(uint64_t set)
+{
+    const char *before = "";
+    printf("{");
+    for (unsigned state = 0; state < 64; state++) {
+        if (set >> state & 1) {
+            printf("%s%u", before, state);
+            before = ",";
+        }
+    }
+    printf("}");
+}
+
+static void print_move(size_t number)
+{
+    const uint64_t *move = moves + number * ANALYSER_MOVE_WORDS;
+    printf("move %zu: state %" PRIu64 ", symbol %" PRIu64 ", order %" PRIu64 " ",
+           number, move[0], move[1], move[2]);
+    print_set(move[3]);
+    printf(", rest ");
+    print_set(move[4]);
     printf("\n");
 }
 
-static void saturate(void)
+static void print_entry(size_t number)
+{
+    const uint64_t *entry = entries + number * ANALYSER_ENTRY_WORDS;
+    printf("entry %zu: [%" PRIu64 ",", number, entry[0]);
+    print_set(entry[1]);
+    printf("]\n");
+}
+
+static uint64_t saturate(void)
 {
     uint64_t moves_used, entries_used;
-    uint64_t code = analyser_saturate(
+    uint64_t answer = analyser_saturate(
         case_file.bytes, case_file.length,
         moves, MOVES * ANALYSER_MOVE_WORDS,
         entries, ENTRIES * ANALYSER_ENTRY_WORDS,
         &moves_used, &entries_used);
-    printf("saturate %" PRIu64 " moves %" PRIu64 " entries %" PRIu64 "\n",
-           code, moves_used, entries_used);
+    if (answer != 0) {
+        printf("saturate: %s\n", words_for(answer));
+        return answer;
+    }
+    printf("saturate: %" PRIu64 " moves, %" PRIu64 " entries\n", moves_used, entries_used);
     for (size_t i = 0; i < moves_used; i++) {
-        print_words("move", moves + i * ANALYSER_MOVE_WORDS, ANALYSER_MOVE_WORDS);
+        print_move(i);
     }
     for (size_t i = 0; i < entries_used; i++) {
-        print_words("entry", entries + i * ANALYSER_ENTRY_WORDS, ANALYSER_ENTRY_WORDS);
+        print_entry(i);
     }
+    return answer;
 }
 
 static uint64_t judge(void)
 {
-    uint64_t code = analyser_judge(
+    uint64_t answer = analyser_judge(
         case_file.bytes, case_file.length,
         start_file.bytes, start_file.length,
         moves, MOVES * ANALYSER_MOVE_WORDS,
         entries, ENTRIES * ANALYSER_ENTRY_WORDS,
         answers, STARTS);
-    printf("judge %" PRIu64 "\n", code);
-    return code;
+    if (answer != 0) {
+        printf("judge: %s\n", words_for(answer));
+    }
+    return answer;
 }
 
 static void guide(uint64_t number)
 {
     uint64_t steps, cells_used;
-    uint64_t code = analyser_guide(
+    uint64_t answer = analyser_guide(
         case_file.bytes, case_file.length,
         start_file.bytes, start_file.length,
         number,
@@ -100,8 +147,8 @@ static void guide(uint64_t number)
         cells, CELLS * ANALYSER_CELL_WORDS,
         trace, STEPS,
         &steps, &cells_used);
-    printf("guide %" PRIu64 " steps %" PRIu64 " cells %" PRIu64 " rules",
-           code, steps, cells_used);
+    printf("guide: %s, %" PRIu64 " steps, %" PRIu64 " cells, rules",
+           words_for(answer), steps, cells_used);
     for (size_t i = 0; i < steps; i++) {
         printf(" %u", (unsigned)trace[i]);
     }
@@ -114,6 +161,20 @@ static size_t starts(void)
     return start_file.bytes[3] + 256 * (size_t)start_file.bytes[4];
 }
 
+static int bench(void)
+{
+    if (saturate() != 0 || judge() != 0) {
+        return 3;
+    }
+    for (size_t i = 0; i < starts(); i++) {
+        printf("start %zu: %s\n", i, answers[i] == 1 ? "yes" : "no");
+        if (answers[i] == 1) {
+            guide(i);
+        }
+    }
+    return 0;
+}
+
 int main(int count, char **words)
 {
     if (count != 3) {
@@ -122,15 +183,10 @@ int main(int count, char **words)
     }
     read_file(words[1], &case_file);
     read_file(words[2], &start_file);
-    saturate();
-    if (judge() != 0) {
-        return 0;
+    int status = bench();
+    if (ferror(stdout) || fclose(stdout) != 0) {
+        fprintf(stderr, "bench: not all could be written to standard output\n");
+        return 5;
     }
-    for (size_t i = 0; i < starts(); i++) {
-        printf("start %zu %s\n", i, answers[i] == 1 ? "yes" : "no");
-        if (answers[i] == 1) {
-            guide(i);
-        }
-    }
-    return 0;
+    return status;
 }
