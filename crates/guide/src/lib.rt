@@ -183,7 +183,7 @@ fn guide_sound(
         trace,
     );
     sound_files::zero_tables(moves, entries);
-    cell_memory::zero_cells(cells);
+    zeroing::zero_u16(cells);
     reply
 }
 
@@ -203,8 +203,8 @@ pub fn guide(
     ensures demand3 { λ r. ⌜ Guides (guideInput (now (case .entry)) (now (start .entry)) number (length (now (moves .entry))) (length (now (entries .entry))) (length (now (cells .entry))) (length (now (trace .entry)))) (guideDone r (now (moves .exit)) (now (entries .exit)) (now (cells .exit)) (now (trace .exit))) ⌝ }
 {
     sound_files::zero_tables(moves, entries);
-    cell_memory::zero_cells(cells);
-    cell_memory::zero_cells(trace);
+    zeroing::zero_u16(cells);
+    zeroing::zero_u16(trace);
     let refusal = refusal_before(case, start, number);
     if refusal != 0 {
         return Reply::Refused(refusal);
