@@ -4,9 +4,10 @@ pub mod Laws
 use Prim.Native.Nat.{ℕ, zero, suc, _+_, _*_}
 use mathlib.Core.Bool.{true, false}
 use mathlib.Core.List.{List, [], _∷_, _++_}
-use lib.ListN.{getD, take, drop, set, replicate}
+use lib.ListN.{getD, take, drop, set}
 use lib.Seq.{sets}
 use lib.Dec.{eqb}
+use Rattle.words.specs.Lists.{zeros}
 use Rattle.walks.specs.Cell as walks
 use Rattle.walks.specs.Guide.{Guided}
 use Rattle.cell_memory.specs.declared.Cell.{Cell}
@@ -63,7 +64,7 @@ fields (Above w t) = 4 ∷ 0 ∷ w ∷ t ∷ []
 
 -- the words where cell i is c and has no choice
 unfoldable pub withCell : List ℕ → ℕ → Cell → List ℕ
-withCell ws i c = sets ws (i * 68) (fields c ++ replicate 64 0)
+withCell ws i c = sets ws (i * 68) (fields c ++ zeros 64)
 
 -- the words where cell i chooses n for state q
 unfoldable pub withChoice : List ℕ → ℕ → ℕ → ℕ → List ℕ

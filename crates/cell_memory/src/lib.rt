@@ -2,7 +2,7 @@
 ghost use mathlib.Core.Path.{_≡_};
 ghost use Prim.Native.Nat.{_<_, _≤_, _+_, _*_};
 ghost use mathlib.Core.List.{[], _∷_};
-ghost use lib.ListN.{length, replicate};
+ghost use lib.ListN.{length};
 ghost use lib.Seq.{sets};
 ghost use Rattle.cell_memory.specs.Memory.{cellIn, choiceIn, withCell, withChoice, withChoices};
 
@@ -42,18 +42,6 @@ pub fn choice_at(cells: &[u16], i: usize, q: u64) -> u16
     }
 }
 
-// All words are zero.
-pub fn zero_cells(cells: &mut [u16])
-    ensures { λ r. ⌜ now (cells .exit) ≡ replicate (length (now (cells .entry))) 0 ⌝ }
-{
-    let n = cells.len();
-    let mut i: usize = 0;
-    while i < n {
-        cells[i] = 0;
-        i += 1;
-    }
-}
-
 // The four fields of the cell whose words begin at `at`.
 fn put_fields(cells: &mut [u16], at: usize, kind: u16, symbol: u16, first: u16, second: u16)
     requires { ⌜ at + 4 ≤ length (now cells) ⌝ }
@@ -72,7 +60,7 @@ pub fn put_cell(cells: &mut [u16], i: usize, cell: Cell)
 {
     let at = i * 68;
     let end = at + 68;
-    zero_cells(&mut cells[at..end]);
+    zeroing::zero_u16(&mut cells[at..end]);
     match cell {
         Cell::Empty1 => put_fields(cells, at, 1, 0, 0, 0),
         Cell::Symbol(a, u, s) => put_fields(cells, at, 2, a, u, s),

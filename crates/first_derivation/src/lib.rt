@@ -22,7 +22,7 @@ ghost use Rattle.first_derivation.specs.Premises.{rewritten, pushed, rea
 ghost use Rattle.first_derivation.specs.Derived.{FindsFirst, StatesSmall};
 use case_records::Operation;
 use case_records::Rule;
-use first_reading::Joins;
+use joins::Joins;
 use tables::Move;
 use tables::Outcome;
 use tables::Table;

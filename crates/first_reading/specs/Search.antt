@@ -4,10 +4,11 @@
 pub mod Laws
 pub mod Parts
 use Prim.Native.Nat.{ℕ}
+use mathlib.Core.Bool.{_&&_}
 use mathlib.Core.Option.{Option, none, some, Option·map}
 use mathlib.Core.List.{List, [], _∷_}
 use lib.Dec.{eqb}
-use Rattle.words.specs.Sets.{join, single, members}
+use Rattle.words.specs.Sets.{join, single, members, partOf}
 use Rattle.words.specs.Order.{same}
 use Rattle.automata.specs.Automaton.{Automaton, moveAt, edgeAt, edgesOf, movesOf}
 use Rattle.automata.specs.Derivation.{Result, Joins, joinMove}
@@ -20,6 +21,11 @@ joinsKey j = j .order ∷ j .B ∷ j .R ∷ []
 -- the joins of a result
 unfoldable pub wanted : Result → List ℕ
 wanted x = x .order ∷ x .B ∷ x .R ∷ []
+
+-- the joins, where there are any and their sets are parts of those of x
+unfoldable pub within : Result → Option Joins → Option Joins
+within x none = none
+within x (some k) = onlyIf (partOf (k .B) (x .B) && partOf (k .R) (x .R)) (some k)
 
 -- the numbers of chosen edges and moves
 pub record Numbers : Type 0 where

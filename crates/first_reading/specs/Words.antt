@@ -1,11 +1,11 @@
--- Joins, moves and choices as the words of the code.
+-- Moves and choices as the words of the code.
 -- Assumes nothing.
 pub mod Laws
 pub mod Reading
 pub mod Edges
 use Prim.Native.Nat.{ℕ, _≤_}
 use mathlib.Core.Bool.{_&&_}
-use mathlib.Core.Option.{Option, none, some, Option·map}
+use mathlib.Core.Option.{Option, Option·map}
 use mathlib.Core.List.{List, [], _∷_}
 use lib.Dec.{eqb}
 use Rattle.words.specs.Sets.{join, single, members}
@@ -15,23 +15,10 @@ use Rattle.tables.specs.declared.Table.{Table}
 use Rattle.tables.specs.Rows.{rowsIn}
 use Rattle.tables.specs.Held.{EdgesStand, EntriesStand, MovesStand}
 use Rattle.tables.specs.Records.{moveRow}
-use Rattle.first_reading.specs.declared.Joins.{Joins as JoinsWords}
-use Rattle.first_reading.specs.declared.Joined.{Joined}
-use Rattle.first_reading.specs.declared.Joined.the-variants.{Nothing, Into}
 use Rattle.first_reading.specs.First.{onlyIf}
 use Rattle.first_reading.specs.Answer.{writtenAll}
 use Rattle.first_reading.specs.Search.{Numbers, withEdge, firstEdges}
 use Rattle.first_reading.specs.Search.Laws.{readOn}
-
-abbrev pub joinsOf : JoinsWords → Joins
-joinsOf j = record { order = j .order; B = j .b; R = j .r }
-
-abbrev pub joinsWords : ℕ → ℕ → ℕ → Joins
-joinsWords order b r = record { order = order; B = b; R = r }
-
-abbrev pub joinsIn : Joined → Option Joins
-joinsIn Nothing = none
-joinsIn (Into j) = some (joinsOf j)
 
 -- An automaton of the first n moves alone: readings depend on nothing else.
 abbrev pub movesIn : ℕ → List ℕ → Automaton

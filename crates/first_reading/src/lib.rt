@@ -1,102 +1,41 @@
 // The first reading, and the first choice of edges with a reading, whose joined sets are those of a known result. Each is found by recursion
 // over the states left, with the joins carried along.
 ghost use mathlib.Core.Path.{_≡_};
-ghost use mathlib.Core.Bool.{_&&_};
 ghost use mathlib.Core.List.{_∷_};
-ghost use Prim.Native.Nat.{_<_, _≤_, _+_, _*_, max};
+ghost use Prim.Native.Nat.{_<_, _≤_, _+_, _*_};
 ghost use lib.ListN.{length};
-ghost use lib.Dec.{eqb};
 ghost use Rattle.words.specs.Sets.{members};
 ghost use Rattle.words.specs.Order.{same};
-ghost use Rattle.automata.specs.Automaton.{moveAt};
-ghost use Rattle.automata.specs.Derivation.{clash, joinMove};
 ghost use Rattle.tables.specs.Held.{automatonOf};
-ghost use Rattle.tables.specs.Rows.{rowAt};
-ghost use Rattle.tables.specs.Records.{moveRow, asMove, asResult};
-ghost use Rattle.first_reading.specs.First.{onlyIf};
-ghost use Rattle.first_reading.specs.Search.{joinsKey, wanted, firstReading, firstEdges};
-ghost use Rattle.first_reading.specs.Search.Parts.{within};
-ghost use Rattle.first_reading.specs.Words.{joinsOf, joinsWords, joinsIn, movesIn, tried, followed, writesEdges, writesMoves, Stands};
+ghost use Rattle.tables.specs.Records.{asResult};
+ghost use Rattle.joins.specs.Joining.{theJoins, asJoins, asJoined};
+ghost use Rattle.first_reading.specs.Search.{joinsKey, wanted, within, firstReading, firstEdges};
+ghost use Rattle.first_reading.specs.Words.{movesIn, tried, followed, writesEdges, writesMoves, Stands};
 ghost use Rattle.first_reading.specs.Answer.{writtenAll, Answer, Answers};
-use tables::Move;
+use joins::Joined;
+use joins::Joins;
 use tables::Outcome;
 use tables::Table;
 
-// Joined annotation sets, of one order, and joined rest sets.
-pub struct Joins {
-    pub order: u64,
-    pub b: u64,
-    pub r: u64,
-}
-
-// The joins with one move more, where they are parts of those wanted.
-enum Joined {
-    Nothing,
-    Into(Joins),
-}
-
-// Whether one order is 1 and the other 2.
-fn clashes(k: u64, l: u64) -> bool
-    ensures { λ r. ⌜ r ≡ clash k l ⌝ }
+// The joins, where there are any and their sets are parts of those of x.
+fn parts_within(j: Joined, x: Outcome) -> Joined
+    ensures { λ r. ⌜ asJoined r ≡ within (asResult x) (asJoined j) ⌝ }
 {
-    if k == 0 {
-        return false;
-    }
-    if l == 0 {
-        return false;
-    }
-    k != l
-}
-
-fn greater(k: u64, l: u64) -> u64
-    ensures { λ r. ⌜ r ≡ max k l ⌝ }
-{
-    if k < l {
-        return l;
-    }
-    k
-}
-
-// The joins with move m, where orders do not clash and the sets are parts of those of x.
-fn join_within(j: Joins, m: Move, x: Outcome) -> Joined
-    ensures { λ r. ⌜ joinsIn r ≡ within (asResult x) (joinMove (joinsOf j) (asMove m)) ⌝ }
-{
-    if clashes(j.order, m.order) {
+    let Joined::To(k) = j else {
+        return Joined::Nothing;
+    };
+    if !sets::part_of(k.b, x.b) {
         return Joined::Nothing;
     }
-    let b = sets::join(j.b, m.b);
-    if !sets::part_of(b, x.b) {
+    if !sets::part_of(k.r, x.r) {
         return Joined::Nothing;
     }
-    let r = sets::join(j.r, m.r);
-    if !sets::part_of(r, x.r) {
-        return Joined::Nothing;
-    }
-    Joined::Into(Joins {
-        order: greater(j.order, m.order),
-        b,
-        r,
-    })
-}
-
-// The joins with move i, where it is a move on a of state q.
-fn candidate(moves: &[u64], i: usize, q: u64, a: u64, j: Joins, x: Outcome) -> Joined
-    requires { ⌜ i * 5 + 5 ≤ length (now moves) ⌝ }
-    ensures { λ r. ⌜ joinsIn r ≡ onlyIf (eqb (rowAt moveRow (now (moves .entry)) i .state) q && eqb (rowAt moveRow (now (moves .entry)) i .symbol) a) (within (asResult x) (joinMove (joinsOf j) (rowAt moveRow (now (moves .entry)) i))) ⌝ }
-{
-    let m = tables::move_at(moves, i);
-    if m.state != q {
-        return Joined::Nothing;
-    }
-    if m.symbol != a {
-        return Joined::Nothing;
-    }
-    join_within(j, m, x)
+    Joined::To(k)
 }
 
 // Whether these joins are those of x.
 pub fn is_wanted(order: u64, b: u64, r: u64, x: Outcome) -> bool
-    ensures { λ t. ⌜ t ≡ same (joinsKey (joinsOf (record { order = order; b = b; r = r }))) (wanted (asResult x)) ⌝ }
+    ensures { λ t. ⌜ t ≡ same (joinsKey (theJoins order b r)) (wanted (asResult x)) ⌝ }
 {
     if order != x.order {
         return false;
@@ -122,10 +61,11 @@ fn read_with(
     chosen: &mut [u16],
 ) -> bool
     requires { ⌜ (n * 5 ≤ length (now moves)) × (n ≤ 1024) × (i < n) × (q < 64) × (length (now chosen) ≡ 64) ⌝ }
-    ensures { λ t. ⌜ Answer (tried (movesIn n (now (moves .entry))) a (wanted (asResult x)) q (members others) (joinsWords order b r) i) (writtenAll (q ∷ members others)) t (now (chosen .entry)) (now (chosen .exit)) ⌝ }
+    ensures { λ t. ⌜ Answer (tried (movesIn n (now (moves .entry))) a (wanted (asResult x)) q (members others) (theJoins order b r) i) (writtenAll (q ∷ members others)) t (now (chosen .entry)) (now (chosen .exit)) ⌝ }
 {
+    let m = tables::move_at(moves, i);
     let j = Joins { order, b, r };
-    let Joined::Into(k) = candidate(moves, i, q, a, j, x) else {
+    let Joined::To(k) = parts_within(joins::candidate(m, q, a, j), x) else {
         return false;
     };
     if first_reading(moves, n, a, others, k.order, k.b, k.r, x, chosen) {
@@ -150,7 +90,7 @@ pub fn first_reading(
     chosen: &mut [u16],
 ) -> bool
     requires { ⌜ (n * 5 ≤ length (now moves)) × (n ≤ 1024) × (length (now chosen) ≡ 64) ⌝ }
-    ensures { λ t. ⌜ Answer (firstReading (movesIn n (now (moves .entry))) a (wanted (asResult x)) (members left) (joinsWords order b r)) (writtenAll (members left)) t (now (chosen .entry)) (now (chosen .exit)) ⌝ }
+    ensures { λ t. ⌜ Answer (firstReading (movesIn n (now (moves .entry))) a (wanted (asResult x)) (members left) (theJoins order b r)) (writtenAll (members left)) t (now (chosen .entry)) (now (chosen .exit)) ⌝ }
 {
     if left == 0 {
         return is_wanted(order, b, r, x);
@@ -187,7 +127,7 @@ fn follow(
     chosen: &mut [u16],
 ) -> bool
     requires { ⌜ Stands z (now inner) (now entries) (now moves) × (e < z .edges + z .entries) × (q < 64) × (length (now edges) ≡ 64) × (length (now chosen) ≡ 64) ⌝ }
-    ensures { λ t. ⌜ Answers (followed (automatonOf z (now (inner .entry)) (now (entries .entry)) (now (moves .entry))) a (wanted (asResult x)) (joinsOf j) (x .s) q (members others) names s e) (writesEdges (q ∷ members others)) (writesMoves (automatonOf z (now (inner .entry)) (now (entries .entry)) (now (moves .entry))) names) t (now (edges .entry)) (now (edges .exit)) (now (chosen .entry)) (now (chosen .exit)) ⌝ }
+    ensures { λ t. ⌜ Answers (followed (automatonOf z (now (inner .entry)) (now (entries .entry)) (now (moves .entry))) a (wanted (asResult x)) (asJoins j) (x .s) q (members others) names s e) (writesEdges (q ∷ members others)) (writesMoves (automatonOf z (now (inner .entry)) (now (entries .entry)) (now (moves .entry))) names) t (now (edges .entry)) (now (edges .exit)) (now (chosen .entry)) (now (chosen .exit)) ⌝ }
 {
     let g = tables::edge_of(z, inner, entries, e);
     if g.state != q {
@@ -237,7 +177,7 @@ pub fn first_edges(
     chosen: &mut [u16],
 ) -> bool
     requires { ⌜ Stands z (now inner) (now entries) (now moves) × (length (now edges) ≡ 64) × (length (now chosen) ≡ 64) ⌝ }
-    ensures { λ t. ⌜ Answers (firstEdges (automatonOf z (now (inner .entry)) (now (entries .entry)) (now (moves .entry))) a (wanted (asResult x)) (joinsOf j) (x .s) (members left) names s) (writesEdges (members left)) (writesMoves (automatonOf z (now (inner .entry)) (now (entries .entry)) (now (moves .entry))) names) t (now (edges .entry)) (now (edges .exit)) (now (chosen .entry)) (now (chosen .exit)) ⌝ }
+    ensures { λ t. ⌜ Answers (firstEdges (automatonOf z (now (inner .entry)) (now (entries .entry)) (now (moves .entry))) a (wanted (asResult x)) (asJoins j) (x .s) (members left) names s) (writesEdges (members left)) (writesMoves (automatonOf z (now (inner .entry)) (now (entries .entry)) (now (moves .entry))) names) t (now (edges .entry)) (now (edges .exit)) (now (chosen .entry)) (now (chosen .exit)) ⌝ }
 {
     if left == 0 {
         if s != x.s {

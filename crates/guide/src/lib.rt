@@ -48,7 +48,7 @@ fn guide_sound(
         trace,
     );
     sound_files::zero_tables(moves, entries);
-    cell_memory::zero_cells(cells);
+    zeroing::zero_u16(cells);
     reply
 }
 
@@ -68,8 +68,8 @@ pub fn guide(
     ensures demand3 { λ r. ⌜ Guides (guideInput (now (case .entry)) (now (start .entry)) number (length (now (moves .entry))) (length (now (entries .entry))) (length (now (cells .entry))) (length (now (trace .entry)))) (guideDone r (now (moves .exit)) (now (entries .exit)) (now (cells .exit)) (now (trace .exit))) ⌝ }
 {
     sound_files::zero_tables(moves, entries);
-    cell_memory::zero_cells(cells);
-    cell_memory::zero_cells(trace);
+    zeroing::zero_u16(cells);
+    zeroing::zero_u16(trace);
     let refusal = sound_files::refusal_before(case, start, number, 0, 7);
     if refusal != 0 {
         return Reply::Refused(refusal);

@@ -1,7 +1,7 @@
 // One step of the guided run: the top of the walk with its chosen move, and the move's first derivation from the table before its round.
 ghost use mathlib.Core.Path.{_≡_};
 ghost use mathlib.Core.List.{[]};
-ghost use Prim.Native.Nat.{_<_, _≤_, _+_, _*_, min};
+ghost use Prim.Native.Nat.{_<_, _≤_, _+_, _*_};
 ghost use lib.ListN.{length, getD, replicate};
 ghost use Rattle.automata.specs.Automaton.{noEdge, noMove, moveAt};
 ghost use Rattle.automata.specs.Derivation.{resultOf};
@@ -178,16 +178,6 @@ fn last_up_to(sizes: &[u64], k: usize, i: u16) -> Size
     last
 }
 
-// The smaller of two numbers.
-fn smaller(k: u64, n: usize) -> usize
-    ensures { λ r. ⌜ r ≡ min k n ⌝ }
-{
-    if k < n as u64 {
-        return k as usize;
-    }
-    n
-}
-
 // The table before the round of move i.
 fn table_before(z: Table, sizes: &[u64], k: usize, i: u16) -> Table
     requires { ⌜ k * 2 ≤ length (now sizes) ⌝ }
@@ -199,8 +189,8 @@ fn table_before(z: Table, sizes: &[u64], k: usize, i: u16) -> Table
         final1: z.final1,
         final2: z.final2,
         edges: z.edges,
-        entries: smaller(s.entries, z.entries),
-        moves: smaller(s.moves, z.moves),
+        entries: numbers::smaller(s.entries, z.entries as u64) as usize,
+        moves: numbers::smaller(s.moves, z.moves as u64) as usize,
     }
 }
 

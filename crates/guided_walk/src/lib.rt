@@ -290,7 +290,7 @@ pub fn walk(
         match going {
             Going::Halted(h) => return Reply::Walked(h),
             Going::Stuck => {
-                cell_memory::zero_cells(trace);
+                zeroing::zero_u16(trace);
                 return Reply::NoRun;
             }
             Going::On(next) => v = next,

@@ -20,17 +20,6 @@ ghost use Rattle.judge.specs.Service.{judgeInput, judgeDone, SizeRefused
 use start_records::Start;
 use tables::Table;
 
-// Writes zero into every byte.
-fn zero_bytes(b: &mut [u8])
-    ensures { λ _. ⌜ now (b .exit) ≡ zeros (length (now (b .entry))) ⌝ }
-{
-    let mut i: usize = 0;
-    while i < b.len() {
-        b[i] = 0;
-        i += 1;
-    }
-}
-
 // 1 where the control is a member of the root's word, and 0 otherwise.
 fn mark(words: &[u64], x: Start) -> u8
     requires { ⌜ (x .root < length (now words)) × (x .control < 64) ⌝ }
@@ -118,7 +107,7 @@ pub fn judge(
     ensures size { λ r. ⌜ SizeRefused (judgeInput (now (case .entry)) (now (start .entry)) (length (now (moves .entry))) (length (now (entries .entry))) (length (now (answers .entry)))) r ⌝ }
 {
     sound_files::zero_tables(moves, entries);
-    zero_bytes(answers);
+    zeroing::zero_u8(answers);
     let refusal = sound_files::refusal_before(case, start, answers.len(), 8, 0);
     if refusal != 0 {
         return refusal;

@@ -1,6 +1,5 @@
 pub mod Offers
 pub mod Readings
-pub mod Joining
 pub mod Holding
 pub mod Turns
 pub mod Edges

@@ -15,7 +15,7 @@ use Rattle.tables.specs.Rows.{rowAt}
 use Rattle.tables.specs.Pending.{pendingIn}
 use Rattle.remembered.specs.declared.State.{State}
 use Rattle.remembered.specs.States.{stateRow}
-use Rattle.readings.specs.Joining.{theJoins}
+use Rattle.joins.specs.Joining.{theJoins}
 use Rattle.readings.specs.Offers.{offerAll}
 use Rattle.readings.specs.Readings.{readResults, edgeResults}
 

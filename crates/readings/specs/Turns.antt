@@ -3,7 +3,7 @@
 use Prim.Native.Nat.{ℕ, suc, _+_, _*_, _≤_, _<_}
 use mathlib.Core.Bool.{Bool, true, false, _&&_}
 use mathlib.Core.Path.{_≡_, refl, ap, sym, _∙_}
-use mathlib.Core.Option.{Option}
+use mathlib.Core.Option.{Option, none, some}
 use mathlib.Core.List.{List, [], _∷_}
 use native.Mathlib.Omega.{arith}
 use lib.ListN.{length, getD}
@@ -20,11 +20,11 @@ use Rattle.tables.specs.Rows.{rowAt, rowsIn}
 use Rattle.tables.specs.Rows.Laws.{length-rowsIn, getD-rowsIn}
 use Rattle.tables.specs.Records.{moveRow, asResult}
 use Rattle.tables.specs.Held.{automatonOf, tableOf}
+use Rattle.joins.specs.Joining.{theJoins, candidateOf}
 use Rattle.readings.specs.Offers.{Collects}
 use Rattle.readings.specs.Offers.Laws.{Passed, passed-none, passed-more, passed-all, collects-same, collects-none}
 use Rattle.readings.specs.Edges.{collects-edges}
-use Rattle.readings.specs.Readings.{fromJoins, readResults}
-use Rattle.readings.specs.Joining.{theJoins, theOutcome, joinsIf, candidateOf}
+use Rattle.readings.specs.Readings.{theOutcome, fromJoins, readResults}
 
 -- ---- moves of one state
 
@@ -35,11 +35,6 @@ movesTest r a m = eqb (m .state) r && eqb (m .symbol) a
 candidate-list : {X : Type 0} (r a : ℕ) (j : Joins) (m : Move) (f : Joins → List X) → when (movesTest r a m) (fromJoins (joinMove j m) f) ≡ fromJoins (candidateOf r a j m) f
 unfolding when candidateOf fromJoins
 candidate-list r a j m f = by-test (movesTest r a m) (λ e. rw (e, candidateOf, when)) (λ e. rw (e, candidateOf, when))
-
-joinsIf-list : {X : Type 0} (b : Bool) (j : Joins) (f : Joins → List X) → fromJoins (joinsIf b j) f ≡ when b (f j)
-unfolding fromJoins joinsIf when
-joinsIf-list true j f = refl
-joinsIf-list false j f = refl
 
 module _ (A : Automaton) (p a S : ℕ) (j : Joins) (r : ℕ) (rs : List ℕ) where
   -- what move i gives
@@ -54,39 +49,37 @@ module _ (z : Table) (inner entries moves : List ℕ) (p a S : ℕ) (j : Joins) 
   pub read-none : n ≤ room + 1 → ReadUpTo (automatonOf z inner entries moves) p a S j r rs room n t 0 n t
   read-none h = passed-none (automatonOf z inner entries moves) room (movesTest r a) (rowsIn moveRow (z .moves) moves) noMove (moveResults (automatonOf z inner entries moves) p a S j r rs) n t h
 
-  module _ (i k : ℕ) (t′ : List ℕ) (m : Move) (fits : Bool) (joins : Joins)
+  module _ (i k : ℕ) (t′ : List ℕ) (m : Move) (o : Option Joins)
       (h : ReadUpTo (automatonOf z inner entries moves) p a S j r rs room n t i k t′)
-      (b : i < z .moves) (e : m ≡ rowAt moveRow moves i) (f : joinsIf fits joins ≡ candidateOf r a j m) where
-    read-list : when fits (readResults (automatonOf z inner entries moves) p a S rs joins)
-        ≡ when (movesTest r a (getD (rowsIn moveRow (z .moves) moves) i noMove)) (moveResults (automatonOf z inner entries moves) p a S j r rs i)
+      (b : i < z .moves) (e : m ≡ rowAt moveRow moves i) (f : o ≡ candidateOf r a j m) where
+    -- what is read from the others by the joins with the move
+    abbrev resultsOn : Option Joins → List Result
+    resultsOn o′ = fromJoins o′ (readResults (automatonOf z inner entries moves) p a S rs)
+
+    read-list : resultsOn o ≡ when (movesTest r a (getD (rowsIn moveRow (z .moves) moves) i noMove)) (moveResults (automatonOf z inner entries moves) p a S j r rs i)
     unfolding moveResults moveAt
     read-list =
         let q : m ≡ getD (rowsIn moveRow (z .moves) moves) i noMove = e ∙ sym (getD-rowsIn moveRow (z .moves) moves i noMove b) in
         let g : Joins → List Result = readResults (automatonOf z inner entries moves) p a S rs in
-        sym (joinsIf-list fits joins g)
-        ∙ ap (λ (o : Option Joins). fromJoins o g) f
+        ap resultsOn f
         ∙ sym (candidate-list r a j m g)
         ∙ ap (λ (x : Move). when (movesTest r a x) (fromJoins (joinMove j x) g)) q
 
-    pub read-more : (k′ : ℕ) (t″ : List ℕ) → Collects (automatonOf z inner entries moves) room k t′ (when fits (readResults (automatonOf z inner entries moves) p a S rs joins)) k′ t″
+    read-more : (k′ : ℕ) (t″ : List ℕ) → Collects (automatonOf z inner entries moves) room k t′ (resultsOn o) k′ t″
         → length t″ ≡ length t′ → ReadUpTo (automatonOf z inner entries moves) p a S j r rs room n t (i + 1) k′ t″
     read-more k′ t″ c l =
         let len : length (rowsIn moveRow (z .moves) moves) ≡ z .moves = length-rowsIn moveRow (z .moves) moves in
         passed-more (automatonOf z inner entries moves) room (movesTest r a) (rowsIn moveRow (z .moves) moves) noMove (moveResults (automatonOf z inner entries moves) p a S j r rs)
         h (omega arith) (collects-same read-list c) l
 
-    pub read-yes : (k′ k″ : ℕ) (t″ t‴ : List ℕ) → fits ≡ true → Collects (automatonOf z inner entries moves) room k t′ (readResults (automatonOf z inner entries moves) p a S rs joins) k′ t″
+    pub read-yes : (joins : Joins) (k′ k″ : ℕ) (t″ t‴ : List ℕ) → o ≡ some joins → Collects (automatonOf z inner entries moves) room k t′ (readResults (automatonOf z inner entries moves) p a S rs joins) k′ t″
         → length t″ ≡ length t′ → t‴ ≡ t″ → k″ ≡ k′ → ReadUpTo (automatonOf z inner entries moves) p a S j r rs room n t (i + 1) k″ t‴
-    unfolding when
-    read-yes k′ k″ t″ t‴ y c l et ek =
-        rw (et, ek)
-        (read-more k′ t″ (collects-same (ap (λ (b : Bool). when b (readResults (automatonOf z inner entries moves) p a S rs joins)) (sym y)) c) l)
+    unfolding fromJoins
+    read-yes joins k′ k″ t″ t‴ y c l et ek = rw (et, ek) (read-more k′ t″ (collects-same (ap resultsOn (sym y)) c) l)
 
-    pub read-no : (k′ : ℕ) (t″ : List ℕ) → fits ≡ false → t″ ≡ t′ → k′ ≡ k → ReadUpTo (automatonOf z inner entries moves) p a S j r rs room n t (i + 1) k′ t″
-    unfolding when
-    read-no k′ t″ y et ek =
-        rw (et, ek)
-        (read-more k t′ (collects-same (ap (λ (b : Bool). when b (readResults (automatonOf z inner entries moves) p a S rs joins)) (sym y)) (collects-none k t′ (h .offered .number))) refl)
+    pub read-no : (k′ : ℕ) (t″ : List ℕ) → o ≡ none → t″ ≡ t′ → k′ ≡ k → ReadUpTo (automatonOf z inner entries moves) p a S j r rs room n t (i + 1) k′ t″
+    unfolding fromJoins
+    read-no k′ t″ y et ek = rw (et, ek) (read-more k t′ (collects-same (ap resultsOn (sym y)) (collects-none k t′ (h .offered .number))) refl)
 
   pub read-all : (i k : ℕ) (t′ : List ℕ) → ReadUpTo (automatonOf z inner entries moves) p a S j r rs room n t i k t′ → z .moves ≤ i
       → Collects (automatonOf z inner entries moves) room n t (readResults (automatonOf z inner entries moves) p a S (r ∷ rs) j) k t′

@@ -2,96 +2,21 @@
 // that are not yet held are collected in a table of their own, sorted, each once; the automaton's tables are only read.
 ghost use mathlib.Core.Path.{_≡_};
 ghost use mathlib.Core.List.{[], _∷_};
-ghost use Prim.Native.Nat.{max};
 ghost use Rattle.words.specs.Sets.{members};
-ghost use Rattle.automata.specs.Derivation.{clash, joinMove};
 ghost use Rattle.automata.specs.Saturation.{isResult, held};
 ghost use Rattle.tables.specs.Records.{asMove, asResult};
 ghost use Rattle.tables.specs.Held.{automatonOf, tableOf, EdgesStand, EntriesStand, MovesStand};
-ghost use Rattle.readings.specs.Joining.{theJoins, theOutcome, asJoins, asJoined, candidateOf};
+ghost use Rattle.joins.specs.Joining.{theJoins, asJoins};
 ghost use Rattle.readings.specs.Offers.{Collects, Room};
-ghost use Rattle.readings.specs.Readings.{readResults, edgeResults};
+ghost use Rattle.readings.specs.Readings.{theOutcome, readResults, edgeResults};
 ghost use Rattle.readings.specs.Remembering.{Remembers};
-
-// Joined annotation sets, of one order, and joined rest sets.
-pub struct Joins {
-    pub order: u64,
-    pub b: u64,
-    pub r: u64,
-}
-
-// Joins, or none where `fits` is false.
-pub struct Joined {
-    pub fits: bool,
-    pub joins: Joins,
-}
+use joins::Joined;
+use joins::Joins;
 
 // Where results go: to this symbol of entries of this control.
 pub struct Goal {
     pub control: u64,
     pub symbol: u64,
-}
-
-// Whether one order is 1 and the other 2.
-fn clashes(k: u64, l: u64) -> bool
-    ensures { λ r. ⌜ r ≡ clash k l ⌝ }
-{
-    if k == 0 {
-        return false;
-    }
-    if l == 0 {
-        return false;
-    }
-    k != l
-}
-
-fn larger(k: u64, l: u64) -> u64
-    ensures { λ r. ⌜ r ≡ max k l ⌝ }
-{
-    if k < l {
-        return l;
-    }
-    k
-}
-
-// The joins with the sets of a move, unless orders clash.
-fn join_move(j: Joins, m: tables::Move) -> Joined
-    ensures { λ r. ⌜ asJoined r ≡ joinMove (asJoins j) (asMove m) ⌝ }
-{
-    if clashes(j.order, m.order) {
-        return Joined {
-            fits: false,
-            joins: j,
-        };
-    }
-    let joins = Joins {
-        order: larger(j.order, m.order),
-        b: sets::join(j.b, m.b),
-        r: sets::join(j.r, m.r),
-    };
-    Joined {
-        fits: true,
-        joins: joins,
-    }
-}
-
-// The joins with the sets of a move, where it is one of state r on symbol a and orders do not clash.
-fn candidate(m: tables::Move, r: u64, a: u64, j: Joins) -> Joined
-    ensures { λ x. ⌜ asJoined x ≡ candidateOf r a (asJoins j) (asMove m) ⌝ }
-{
-    if m.state != r {
-        return Joined {
-            fits: false,
-            joins: j,
-        };
-    }
-    if m.symbol != a {
-        return Joined {
-            fits: false,
-            joins: j,
-        };
-    }
-    join_move(j, m)
 }
 
 // Whether a move is this result.
@@ -241,9 +166,8 @@ fn read_moves(
     let mut k = n;
     let mut i: usize = 0;
     while i < count {
-        let c = candidate(tables::move_at(moves, i), part.member, to.symbol, j);
-        if c.fits {
-            let m = c.joins;
+        let m = tables::move_at(moves, i);
+        if let Joined::To(more) = joins::candidate(m, part.member, to.symbol, j) {
             k = read_from(
                 z,
                 inner,
@@ -252,9 +176,9 @@ fn read_moves(
                 to,
                 s,
                 part.others,
-                m.order,
-                m.b,
-                m.r,
+                more.order,
+                more.b,
+                more.r,
                 seen,
                 out,
                 k,

@@ -18,8 +18,8 @@ use Rattle.tables.specs.Records.{moveRow, asResult}
 use Rattle.tables.specs.Held.{automatonOf, tableOf}
 use borrow.Author.Tests.{eq-eqb, ne-eqb}
 use Rattle.words.specs.Sets.{join, members}
-use Rattle.readings.specs.Joining.{theJoins, theOutcome}
-use Rattle.readings.specs.Readings.{readResults, edgeResults}
+use Rattle.joins.specs.Joining.{theJoins}
+use Rattle.readings.specs.Readings.{theOutcome, readResults, edgeResults}
 use Rattle.readings.specs.Edges.{collects-edges}
 use Rattle.readings.specs.Offers.{Collects}
 use Rattle.readings.specs.Offers.Laws.{Passed, passed-none, passed-more, passed-all, collects-same, collects-none}

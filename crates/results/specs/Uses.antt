@@ -15,10 +15,10 @@ use Rattle.tables.specs.declared.Outcome.{Outcome}
 use Rattle.tables.specs.declared.Table.{Table}
 use Rattle.tables.specs.Held.{automatonOf, tableOf}
 use Rattle.tables.specs.Records.{asResult}
-use Rattle.readings.specs.Joining.{theOutcome}
 use Rattle.readings.specs.Offers.{Collects}
 use Rattle.readings.specs.Offers.Laws.{collects-same}
 use Rattle.readings.specs.Edges.{collects-edges}
+use Rattle.readings.specs.Readings.{theOutcome}
 use Rattle.results.specs.declared.Premise.{Premise}
 use Rattle.results.specs.declared.EntryPremise.{EntryPremise}
 use Rattle.results.specs.declared.Premise.the-variants.{Rewritten, Pushed1, Pushed2, Copied}

@@ -10,7 +10,7 @@ ghost use Rattle.tables.specs.Rows.{rowAt};
 ghost use Rattle.tables.specs.Records.{asMove, asResult, moveRow, entryRow};
 ghost use Rattle.tables.specs.Held.{automatonOf, tableOf, EdgesStand, EntriesStand, MovesStand};
 ghost use Rattle.tables.specs.Pending.{pendingIn, limited};
-ghost use Rattle.readings.specs.Joining.{theJoins};
+ghost use Rattle.joins.specs.Joining.{theJoins};
 ghost use Rattle.readings.specs.Offers.{Collects, Room};
 ghost use Rattle.readings.specs.Readings.{readResults};
 ghost use Rattle.readings.specs.Remembering.{Remembers};
@@ -132,7 +132,7 @@ fn by_premise(
             by_push(z, inner, entries, moves, to, push, m, seen, out, n, room)
         }
         Premise::Copied => {
-            let j = readings::Joins {
+            let j = joins::Joins {
                 order: m.order,
                 b: m.b,
                 r: m.r,

@@ -85,8 +85,8 @@ pub fn saturate(case: &[u8], moves: &mut [u64], entries: &mut [u64]) -> Saturati
     ensures demand1 { λ r. ⌜ SaturateStates (theLent (now (case .entry)) (now (moves .entry)) (now (entries .entry))) (theDone r (now (moves .exit)) (now (entries .exit))) ⌝ }
     ensures demand2 { λ r. ⌜ (caseRefusal (now (case .entry)) ≡ 0 → (r .code ≡ 9) ↔ Exceeds (theLent (now (case .entry)) (now (moves .entry)) (now (entries .entry)))) ⌝ }
 {
-    tables::zero(moves);
-    tables::zero(entries);
+    zeroing::zero_u64(moves);
+    zeroing::zero_u64(entries);
     let code = case_file::check_case(case);
     if code != 0 {
         return refused(code);
@@ -97,8 +97,8 @@ pub fn saturate(case: &[u8], moves: &mut [u64], entries: &mut [u64]) -> Saturati
     let r = saturate_case(case, &mut inner, entries, moves, &mut pending, &mut sizes);
     let table = r.table;
     if !r.fits {
-        tables::zero(moves);
-        tables::zero(entries);
+        zeroing::zero_u64(moves);
+        zeroing::zero_u64(entries);
         return refused(9);
     }
     Saturation {

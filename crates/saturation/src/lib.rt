@@ -2,7 +2,7 @@
 // round are reported.
 ghost use mathlib.Core.Path.{_≡_};
 ghost use mathlib.Core.List.{[], _∷_};
-ghost use Prim.Native.Nat.{_<_, _≤_, _+_, _*_, min, max};
+ghost use Prim.Native.Nat.{_<_, _≤_, _+_, _*_};
 ghost use lib.ListN.{length};
 ghost use Rattle.tables.specs.Rows.{rowsIn, putRow};
 ghost use Rattle.tables.specs.Records.{asEntry, asResult, resultRow};
@@ -15,16 +15,6 @@ ghost use Rattle.saturation.specs.Running.{mostMoves, mostEntries, theSi
 pub struct Grown {
     pub fits: bool,
     pub table: tables::Table,
-}
-
-// The greater of two numbers.
-fn larger(k: usize, l: usize) -> usize
-    ensures { λ r. ⌜ r ≡ max k l ⌝ }
-{
-    if k < l {
-        return l;
-    }
-    k
 }
 
 // The number of entry e among the first n. Where it is not there, it is appended, unless there are as many as `most`.
@@ -78,7 +68,7 @@ fn add_result(
         final1: z.final1,
         final2: z.final2,
         edges: z.edges,
-        entries: larger(z.entries, i + 1),
+        entries: numbers::larger(z.entries as u64, i as u64 + 1) as usize,
         moves: z.moves + 1,
     };
     Grown {
@@ -146,16 +136,6 @@ pub fn add_round(
     add_results(z, entries, moves, most.entries, pending, n)
 }
 
-// The smaller of two numbers.
-fn smaller(k: usize, l: usize) -> usize
-    ensures { λ r. ⌜ r ≡ min k l ⌝ }
-{
-    if l < k {
-        return l;
-    }
-    k
-}
-
 // The limits of tables of so many words, where there are so many inner order-1 states: only whole records count, there are at most 1,024 moves
 // and at most 64 order-1 states.
 fn limits_of(moves: usize, entries: usize, states: u64) -> Limits
@@ -163,8 +143,8 @@ fn limits_of(moves: usize, entries: usize, states: u64) -> Limits
     ensures { λ r. ⌜ (r .moves ≡ mostMoves moves) × (r .entries ≡ mostEntries entries states) ⌝ }
 {
     Limits {
-        moves: smaller(moves / 5, 1024),
-        entries: smaller(entries / 2, (64 - states) as usize),
+        moves: numbers::smaller(moves as u64 / 5, 1024) as usize,
+        entries: numbers::smaller(entries as u64 / 2, 64 - states) as usize,
     }
 }
 

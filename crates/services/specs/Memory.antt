@@ -2,14 +2,11 @@
 -- Assumes nothing.
 use Prim.Native.Nat.{ℕ, _-_, _/_}
 use mathlib.Core.List.{List, [], _∷_, _++_}
-use lib.ListN.{length, replicate}
+use lib.ListN.{length}
 use Rattle.words.specs.Lists.{each}
+unfoldable pub use Rattle.words.specs.Lists.{zeros}
 use Rattle.automata.specs.Automaton.{Automaton, Move, Entry}
 use Rattle.automata.specs.Saturation.{Size}
-
--- n words that are all zero
-unfoldable pub zeros : ℕ → List ℕ
-zeros n = replicate n 0
 
 -- a slice of n words that begins with these and is zero from there on
 unfoldable pub padded : ℕ → List ℕ → List ℕ

@@ -61,6 +61,6 @@ pub fn start_words(
 pub fn zero_tables(moves: &mut [u64], entries: &mut [u64])
     ensures { λ _. ⌜ (now (moves .exit) ≡ zeros (length (now (moves .entry)))) × (now (entries .exit) ≡ zeros (length (now (entries .entry)))) ⌝ }
 {
-    tables::zero(moves);
-    tables::zero(entries);
+    zeroing::zero_u64(moves);
+    zeroing::zero_u64(entries);
 }

@@ -1,50 +1,16 @@
--- Loops over a slice: words set to zero, and the search for an entry.
+-- The search for an entry.
 -- Assumes nothing.
-use Prim.Native.Nat.{ℕ, zero, suc, _+_, _*_, _≤_, _<_}
+use Prim.Native.Nat.{ℕ, zero, suc, _≤_, _<_}
 use mathlib.Core.Bool.{Bool, true, false}
 use mathlib.Core.Path.{_≡_, refl, ap, sym, _∙_}
-use mathlib.Core.List.{List, [], _∷_, _++_, append-nil}
+use mathlib.Core.List.{List, [], _∷_}
 use native.Mathlib.Omega.{arith}
-use lib.ListN.{length, getD, set, drop, replicate, length-set}
-use lib.Seq.{drop-length}
-use borrow.Author.Fill.{fill-more}
+use lib.ListN.{length, getD}
 use Rattle.automata.specs.Automaton.{Entry}
 use Rattle.automata.specs.Saturation.{isEntry, entryNumber}
-use Rattle.services.specs.Memory.{zeros}
 use Rattle.tables.specs.Rows.{rowAt, rowsIn}
 use Rattle.tables.specs.Rows.Laws.{length-rowsIn, getD-rowsIn}
 use Rattle.tables.specs.Records.{entryRow}
-
--- ---- words set to zero
-
--- The first i words are zero, and the others as they were.
-pub record Zeroed (t₀ t : List ℕ) (i : ℕ) : Type 0 where
-  pub is : t ≡ replicate i 0 ++ drop i t₀
-  pub long : length t ≡ length t₀
-  pub within : i ≤ length t₀
-
-pub zeroed-none : (t : List ℕ) → Zeroed t t 0
-zeroed-none t = record { is = refl; long = refl; within = omega arith }
-
-pub zeroed-more : (t₀ t : List ℕ) (i : ℕ) → Zeroed t₀ t i → i < length t → Zeroed t₀ (set t i 0) (i + 1)
-zeroed-more t₀ t i h l =
-    let e : length t ≡ length t₀ = h .long in
-    let k : i < length t₀ = omega arith in
-    record {
-      is = ap (λ (x : List ℕ). set x i 0) (h .is) ∙ fill-more i 0 t₀ k;
-      long = length-set t i 0 ∙ e;
-      within = omega arith;
-    }
-
-pub zeroed-all : (t₀ t : List ℕ) (i : ℕ) → Zeroed t₀ t i → length t ≤ i → t ≡ zeros (length t₀)
-unfolding zeros
-zeroed-all t₀ t i h l =
-    let e : length t ≡ length t₀ = h .long in
-    let b : i ≤ length t₀ = h .within in
-    let n : i ≡ length t₀ = omega arith in
-    h .is ∙ ap (λ (k : ℕ). replicate k 0 ++ drop k t₀) n ∙ ap (λ (x : List ℕ). replicate (length t₀) 0 ++ x) (drop-length t₀) ∙ append-nil (replicate (length t₀) 0)
-
--- ---- the search for an entry
 
 module _ (p S : ℕ) where
   entryNumber-found : (l : List Entry) (i : ℕ) (d : Entry) → i < length l → ((j : ℕ) → j < i → isEntry p S (getD l j d) ≡ false)

@@ -8,7 +8,6 @@ ghost use Rattle.words.specs.Order.{less};
 ghost use Rattle.automata.specs.Automaton.{noEdge, entryOf, entrySet};
 ghost use Rattle.automata.specs.Derivation.{resultKey};
 ghost use Rattle.automata.specs.Saturation.{isEntry, entryNumber};
-ghost use Rattle.services.specs.Memory.{zeros};
 ghost use Rattle.tables.specs.Rows.{rowAt, rowsIn, putRow};
 ghost use Rattle.tables.specs.Held.{tableOf, edgesIn, EdgesStand, EntriesStand};
 ghost use Rattle.tables.specs.Pending.{pendingIn, insertWithin, Placed, reachedAt, Opened};
@@ -159,17 +158,6 @@ pub fn put_result(t: &mut [u64], i: usize, x: Outcome)
     t[at + 3] = x.order;
     t[at + 4] = x.b;
     t[at + 5] = x.r;
-}
-
-// Writes zero into every word.
-pub fn zero(t: &mut [u64])
-    ensures { λ _. ⌜ now (t .exit) ≡ zeros (length (now (t .entry))) ⌝ }
-{
-    let mut i: usize = 0;
-    while i < t.len() {
-        t[i] = 0;
-        i += 1;
-    }
 }
 
 // Whether x and y are the same entry.

@@ -6,6 +6,11 @@ use Prim.Native.Nat.{ℕ, suc}
 use mathlib.Core.Bool.{Bool, true, false}
 use mathlib.Core.Option.{Option, none, some}
 use mathlib.Core.List.{List, [], _∷_, _++_, map}
+use lib.ListN.{replicate}
+
+-- n words that are all zero
+unfoldable pub zeros : ℕ → List ℕ
+zeros n = replicate n 0
 
 -- the lists that f gives for the elements, one after another
 unfoldable pub each : {A B : Type 0} → List A → (A → List B) → List B

@@ -17,20 +17,20 @@ mul-at c = search needs
 add-end : tie.Need-add-end
 add-end c = search needs
 
-mul-zero-cells : tie.Need-mul-zero-cells
-mul-zero-cells c = search needs
+mul-zero-u16 : tie.Need-mul-zero-u16
+mul-zero-u16 c = search needs
 
-sub-zero-cells : tie.Need-sub-zero-cells
-sub-zero-cells c = search needs
+sub-zero-u16 : tie.Need-sub-zero-u16
+sub-zero-u16 c = search needs
 
-part-zero-cells-start : tie.Need-part-zero-cells-start
-part-zero-cells-start c = search needs
+part-zero-u16-start : tie.Need-part-zero-u16-start
+part-zero-u16-start c = search needs
 
-part-zero-cells-end : tie.Need-part-zero-cells-end
-part-zero-cells-end c = search needs
+part-zero-u16-end : tie.Need-part-zero-u16-end
+part-zero-u16-end c = search needs
 
-zero-cells-requires : tie.Need-zero-cells-requires
-zero-cells-requires c κs = search needs
+zero-u16-requires : tie.Need-zero-u16-requires
+zero-u16-requires c κs = search needs
 
 enum-told : tie.Need-enum-told
 enum-told c = search needs
@@ -66,7 +66,7 @@ returns c =
     let ws : List ℕ = x .before .before .before .args .cells .now in
     let i : ℕ = x .before .before .before .args .i in
     let size : i * 68 + 68 - i * 68 ≡ 68 = omega arith in
-    put-is ws (x .zero-cells .last .0) (c .before .before .put-fields .last .0) i (i * 68 + 68 - i * 68) Empty1 (search needs) size (x .zero-cells .ensures) (c .before .before .put-fields .ensures)
+    put-is ws (x .zero-u16 .last .0) (c .before .before .put-fields .last .0) i (i * 68 + 68 - i * 68) Empty1 (search needs) size (x .zero-u16 .ensures) (c .before .before .put-fields .ensures)
     ∙ ap (withCell ws i) (sym (c .before .before .before .before .enum-told .given .1))
 
 same-length-2 : tie.Need-same-length-2
@@ -79,7 +79,7 @@ returns-2 c =
     let ws : List ℕ = x .before .before .before .args .cells .now in
     let i : ℕ = x .before .before .before .args .i in
     let size : i * 68 + 68 - i * 68 ≡ 68 = omega arith in
-    put-is ws (x .zero-cells .last .0) (c .before .before .put-fields2 .last .0) i (i * 68 + 68 - i * 68) (Symbol _ _ _) (search needs) size (x .zero-cells .ensures) (c .before .before .put-fields2 .ensures)
+    put-is ws (x .zero-u16 .last .0) (c .before .before .put-fields2 .last .0) i (i * 68 + 68 - i * 68) (Symbol _ _ _) (search needs) size (x .zero-u16 .ensures) (c .before .before .put-fields2 .ensures)
     ∙ ap (withCell ws i) (sym (c .before .before .before .before .before .cell .given .1))
 
 same-length-3 : tie.Need-same-length-3
@@ -92,7 +92,7 @@ returns-3 c =
     let ws : List ℕ = x .before .before .before .args .cells .now in
     let i : ℕ = x .before .before .before .args .i in
     let size : i * 68 + 68 - i * 68 ≡ 68 = omega arith in
-    put-is ws (x .zero-cells .last .0) (c .before .before .put-fields3 .last .0) i (i * 68 + 68 - i * 68) Empty2 (search needs) size (x .zero-cells .ensures) (c .before .before .put-fields3 .ensures)
+    put-is ws (x .zero-u16 .last .0) (c .before .before .put-fields3 .last .0) i (i * 68 + 68 - i * 68) Empty2 (search needs) size (x .zero-u16 .ensures) (c .before .before .put-fields3 .ensures)
     ∙ ap (withCell ws i) (sym (c .before .before .before .before .enum-told2 .given .1))
 
 same-length-4 : tie.Need-same-length-4
@@ -105,7 +105,7 @@ returns-4 c =
     let ws : List ℕ = x .before .before .before .args .cells .now in
     let i : ℕ = x .before .before .before .args .i in
     let size : i * 68 + 68 - i * 68 ≡ 68 = omega arith in
-    put-is ws (x .zero-cells .last .0) (c .before .before .put-fields4 .last .0) i (i * 68 + 68 - i * 68) (Above _ _) (search needs) size (x .zero-cells .ensures) (c .before .before .put-fields4 .ensures)
+    put-is ws (x .zero-u16 .last .0) (c .before .before .put-fields4 .last .0) i (i * 68 + 68 - i * 68) (Above _ _) (search needs) size (x .zero-u16 .ensures) (c .before .before .put-fields4 .ensures)
     ∙ ap (withCell ws i) (sym (c .before .before .before .before .before .cell2 .given .1))
 
 pub put-cell-spec : {M : Type 1} → statement M
@@ -114,11 +114,11 @@ put-cell-spec =
     (tie.spec
     mul-at
     add-end
-    mul-zero-cells
-    sub-zero-cells
-    part-zero-cells-start
-    part-zero-cells-end
-    zero-cells-requires
+    mul-zero-u16
+    sub-zero-u16
+    part-zero-u16-start
+    part-zero-u16-end
+    zero-u16-requires
     enum-told
     put-fields-requires
     enum-known-cell

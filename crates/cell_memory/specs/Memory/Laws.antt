@@ -7,12 +7,12 @@ use mathlib.Core.List.{List, [], _∷_, _++_, append-nil, append-assoc}
 use native.Mathlib.Nat.{add-zero}
 use native.Mathlib.Numerals.{add-one}
 use native.Mathlib.Omega.{arith}
-use lib.ListN.{length, getD, take, drop, set, replicate, length-set, length-append, length-take, length-drop, length-replicate, getD-replicate, replicate-append-replicate, drop-of-length-le, List·getD-append, List·getD-eq-default}
+use lib.ListN.{length, getD, take, drop, set, replicate, length-set, length-append, length-take, length-drop, getD-replicate, replicate-append-replicate, drop-of-length-le, List·getD-append, List·getD-eq-default}
 use lib.Seq.{sets, sets-eq, length-sets, paste, paste-zero, paste-suc, take-length, length-take-le, take-at, drop-at, drop-drop, drop-append-add, getD-set-same, getD-set-other, getD-take, getD-drop, getD-append-add}
 use lib.Dec.{eqb, ltb}
 use borrow.Author.Tests.{ne-eqb, eqb-true, eqb-false, ltb-true, ltb-false}
-use borrow.Author.Fill.{fill-more}
-use Rattle.words.specs.Lists.Laws.{by-test}
+use Rattle.words.specs.Lists.{zeros}
+use Rattle.words.specs.Lists.Laws.{by-test, length-zeros}
 use Rattle.walks.specs.Cell as walks
 use Rattle.walks.specs.Guide.{Guided, noGuided}
 use Rattle.cell_memory.specs.declared.Cell.{Cell}
@@ -145,30 +145,30 @@ fields-read (Symbol a u s) = refl
 fields-read Empty2 = refl
 fields-read (Above w t) = refl
 
-written-length : (c : Cell) → length (fields c ++ replicate 64 0) ≡ 68
-written-length c = length-append (fields c) (replicate 64 0) ∙ ap₂ _+_ (fields-length c) (length-replicate {A = ℕ} 64 0)
+written-length : (c : Cell) → length (fields c ++ zeros 64) ≡ 68
+written-length c = length-append (fields c) (zeros 64) ∙ ap₂ _+_ (fields-length c) (length-zeros 64)
 
 module _ (ws : List ℕ) (i : ℕ) (c : Cell) where
   pub length-withCell : length (withCell ws i c) ≡ length ws
   unfolding withCell
-  length-withCell = length-sets ws (i * 68) (fields c ++ replicate 64 0)
+  length-withCell = length-sets ws (i * 68) (fields c ++ zeros 64)
 
   pub withCell-other : (j : ℕ) → (j ≡ i → ⊥) → guidedCell (withCell ws i c) j ≡ guidedCell ws j
   unfolding withCell
   withCell-other j n =
-      let l : length (fields c ++ replicate 64 0) ≡ 68 = written-length c in
+      let l : length (fields c ++ zeros 64) ≡ 68 = written-length c in
       guidedCell-same (withCell ws i c) ws j λ k h h′. by-test (ltb k (i * 68))
-      (λ e. getD-before (fields c ++ replicate 64 0) ws (i * 68) k (ltb-true k (i * 68) e))
-      (λ e. getD-after (fields c ++ replicate 64 0) ws (i * 68) k (omega (arith, ltb-false k (i * 68) e)))
+      (λ e. getD-before (fields c ++ zeros 64) ws (i * 68) k (ltb-true k (i * 68) e))
+      (λ e. getD-after (fields c ++ zeros 64) ws (i * 68) k (omega (arith, ltb-false k (i * 68) e)))
 
   pub withCell-guided : i * 68 + 68 ≤ length ws → guidedCell (withCell ws i c) i ≡ record { cell = cellOf c; choice = λ q. 0 }
-  unfolding withCell guidedCell cellIn
+  unfolding withCell guidedCell cellIn zeros
   withCell-guided fits =
-      let vs : List ℕ = fields c ++ replicate 64 0 in
-      let l : length (fields c ++ replicate 64 0) ≡ 68 = written-length c in
+      let vs : List ℕ = fields c ++ zeros 64 in
+      let l : length (fields c ++ zeros 64) ≡ 68 = written-length c in
       let f : length (fields c) ≡ 4 = fields-length c in
       let at : (k : ℕ) → k < 4 → getD (sets ws (i * 68) vs) (i * 68 + k) 0 ≡ getD (fields c) k 0 =
-      λ k h. getD-within vs ws (i * 68) k (omega arith) (omega arith) ∙ List·getD-append (fields c) (replicate 64 0) 0 k (omega arith) in
+      λ k h. getD-within vs ws (i * 68) k (omega arith) (omega arith) ∙ List·getD-append (fields c) (zeros 64) 0 k (omega arith) in
       let at₀ : getD (sets ws (i * 68) vs) (i * 68) 0 ≡ getD (fields c) 0 0 =
       ap (λ (k : ℕ). getD (sets ws (i * 68) vs) k 0) (sym (add-zero (i * 68))) ∙ at 0 (omega arith) in
       let cell : cellIn (sets ws (i * 68) vs) i ≡ c =
@@ -179,7 +179,7 @@ module _ (ws : List ℕ) (i : ℕ) (c : Cell) where
       let e : i * 68 + 4 + q ≡ i * 68 + (length (fields c) + q) = omega arith in
       ap (λ (k : ℕ). getD (sets ws (i * 68) vs) k 0) e
       ∙ getD-within vs ws (i * 68) (length (fields c) + q) (omega arith) (omega arith)
-      ∙ getD-append-add (fields c) (replicate 64 0) q 0 ∙ getD-replicate 64 q 0 0 h)
+      ∙ getD-append-add (fields c) (zeros 64) q 0 ∙ getD-replicate 64 q 0 0 h)
       (λ q h. refl) in
       λ k. record { cell = cellOf (cell k); choice = choice k }
 
@@ -270,30 +270,7 @@ module _ (ws : List ℕ) (i : ℕ) where
   unfolding cellIn ofKind
   cellIn-empty1 e f g = rw (ofKind, ne-eqb _ _ e, ne-eqb _ _ f, ne-eqb _ _ g)
 
--- ---- the loop that writes zeros, and the loop that copies choices
-
--- the first i words are zero
-pub record Zeroed (ws₀ : List ℕ) (i : ℕ) (ws : List ℕ) : Type 0 where
-  pub below : i ≤ length ws₀
-  pub written : ws ≡ replicate i 0 ++ drop i ws₀
-  pub long : length ws ≡ length ws₀
-
-pub zeroed-none : (ws : List ℕ) → Zeroed ws 0 ws
-zeroed-none ws = record { below = omega arith; written = refl; long = refl }
-
-pub zeroed-more : {ws₀ ws : List ℕ} {i : ℕ} → Zeroed ws₀ i ws → i < length ws₀ → Zeroed ws₀ (i + 1) (set ws i 0)
-zeroed-more {ws₀} {ws} {i} h l =
-    record {
-      below = omega arith;
-      written = ap (λ (r : List ℕ). set r i 0) (h .written) ∙ fill-more i 0 ws₀ l;
-      long = length-set ws i 0 ∙ h .long;
-    }
-
-pub zeroed-all : {ws₀ ws : List ℕ} {i : ℕ} → Zeroed ws₀ i ws → length ws₀ ≤ i → ws ≡ replicate (length ws₀) 0
-zeroed-all {ws₀} {ws} {i} h l =
-    let z : i ≡ length ws₀ = omega (arith, h .below) in
-    h .written ∙ ap (λ (r : List ℕ). replicate i 0 ++ r) (drop-of-length-le ws₀ l)
-    ∙ append-nil (replicate i 0) ∙ ap (λ (k : ℕ). replicate k 0) z
+-- ---- the loop that copies choices
 
 -- the first q words of ns stand from `at` on
 pub record Copied (ws₀ : List ℕ) (at : ℕ) (ns : List ℕ) (q : ℕ) (ws : List ℕ) : Type 0 where
@@ -324,38 +301,39 @@ copied-all {ws₀} {ws} {ns} {q} i h l fits =
 
 -- ---- a cell is written as 68 zeros, and then its fields
 
-zeros-then : (n m : ℕ) (l : List ℕ) → drop n (replicate (n + m) 0 ++ l) ≡ replicate m 0 ++ l
+zeros-then : (n m : ℕ) (l : List ℕ) → drop n (zeros (n + m) ++ l) ≡ zeros m ++ l
+unfolding zeros
 zeros-then n m l =
     ap (λ (r : List ℕ). drop n (r ++ l)) (sym (replicate-append-replicate n m 0))
-    ∙ ap (drop n) (append-assoc (replicate n 0) (replicate m 0) l)
-    ∙ drop-at (replicate n 0) (replicate m 0 ++ l) n (length-replicate {A = ℕ} n 0)
+    ∙ ap (drop n) (append-assoc (zeros n) (zeros m) l)
+    ∙ drop-at (zeros n) (zeros m ++ l) n (length-zeros n)
 
 -- n zeros written from `at` on, and then fs over the first of them, are fs and the m zeros that are left
-zeros-and : (ws zeros fs out : List ℕ) (at n m : ℕ) → n ≡ length fs + m → at + n ≤ length ws → zeros ≡ replicate (length (take n (drop at ws))) 0
-    → out ≡ sets (take at ws ++ (zeros ++ drop n (drop at ws))) at fs → out ≡ sets ws at (fs ++ replicate m 0)
-zeros-and ws zeros fs out at n m size fits z e =
+zeros-and : (ws blank fs out : List ℕ) (at n m : ℕ) → n ≡ length fs + m → at + n ≤ length ws → blank ≡ zeros (length (take n (drop at ws)))
+    → out ≡ sets (take at ws ++ (blank ++ drop n (drop at ws))) at fs → out ≡ sets ws at (fs ++ zeros m)
+zeros-and ws blank fs out at n m size fits z e =
     let len : length (take at ws) ≡ at = length-take-le at ws (omega arith) in
     let count : length (take n (drop at ws)) ≡ length fs + m = simp (length-take, length-drop) (omega arith) in
     let rest : List ℕ = drop (at + n) ws in
-    let zs : List ℕ = replicate (length fs + m) 0 ++ rest in
-    let mid : take at ws ++ (zeros ++ drop n (drop at ws)) ≡ take at ws ++ zs =
-    ap₂ (λ (x y : List ℕ). take at ws ++ (x ++ y)) (z ∙ ap (λ (k : ℕ). replicate k 0) count) (drop-drop n at ws) in
-    let room : at + length fs ≤ length (take at ws ++ zs) = simp (length-append, length-replicate, length-drop) (omega arith) in
+    let zs : List ℕ = zeros (length fs + m) ++ rest in
+    let mid : take at ws ++ (blank ++ drop n (drop at ws)) ≡ take at ws ++ zs =
+    ap₂ (λ (x y : List ℕ). take at ws ++ (x ++ y)) (z ∙ ap zeros count) (drop-drop n at ws) in
+    let room : at + length fs ≤ length (take at ws ++ zs) = simp (length-append, length-zeros, length-drop) (omega arith) in
     let seam : at + length fs ≡ length (take at ws) + length fs = omega arith in
-    let after : drop (at + length fs) (take at ws ++ zs) ≡ replicate m 0 ++ rest =
+    let after : drop (at + length fs) (take at ws ++ zs) ≡ zeros m ++ rest =
     ap (λ (k : ℕ). drop k (take at ws ++ zs)) seam ∙ drop-append-add (take at ws) zs (length fs) ∙ zeros-then (length fs) m rest in
-    let both : length (fs ++ replicate m 0) ≡ n = length-append fs (replicate m 0) ∙ ap (λ (k : ℕ). length fs + k) (length-replicate {A = ℕ} m 0) ∙ sym size in
+    let both : length (fs ++ zeros m) ≡ n = length-append fs (zeros m) ∙ ap (λ (k : ℕ). length fs + k) (length-zeros m) ∙ sym size in
     e ∙ ap (λ (l : List ℕ). sets l at fs) mid
     ∙ sets-eq fs (take at ws ++ zs) at room
     ∙ ap₂ (λ (x y : List ℕ). x ++ fs ++ y) (take-at (take at ws) zs at len) after
-    ∙ sym (append-assoc (take at ws ++ fs) (replicate m 0) rest)
-    ∙ ap (λ (l : List ℕ). l ++ rest) (append-assoc (take at ws) fs (replicate m 0))
-    ∙ ap (λ (k : ℕ). take at ws ++ (fs ++ replicate m 0) ++ drop (at + k) ws) (sym both)
-    ∙ sym (sets-eq (fs ++ replicate m 0) ws at (omega arith))
+    ∙ sym (append-assoc (take at ws ++ fs) (zeros m) rest)
+    ∙ ap (λ (l : List ℕ). l ++ rest) (append-assoc (take at ws) fs (zeros m))
+    ∙ ap (λ (k : ℕ). take at ws ++ (fs ++ zeros m) ++ drop (at + k) ws) (sym both)
+    ∙ sym (sets-eq (fs ++ zeros m) ws at (omega arith))
 
-pub put-is : (ws zeros out : List ℕ) (i n : ℕ) (c : Cell) → i * 68 + 68 ≤ length ws → n ≡ 68 → zeros ≡ replicate (length (take n (drop (i * 68) ws))) 0
-    → out ≡ sets (take (i * 68) ws ++ (zeros ++ drop n (drop (i * 68) ws))) (i * 68) (fields c) → out ≡ withCell ws i c
+pub put-is : (ws blank out : List ℕ) (i n : ℕ) (c : Cell) → i * 68 + 68 ≤ length ws → n ≡ 68 → blank ≡ zeros (length (take n (drop (i * 68) ws)))
+    → out ≡ sets (take (i * 68) ws ++ (blank ++ drop n (drop (i * 68) ws))) (i * 68) (fields c) → out ≡ withCell ws i c
 unfolding withCell
-put-is ws zeros out i n c fits size z e =
+put-is ws blank out i n c fits size z e =
     let f : length (fields c) ≡ 4 = fields-length c in
-    zeros-and ws zeros (fields c) out (i * 68) n 64 (omega arith) (omega arith) z e
+    zeros-and ws blank (fields c) out (i * 68) n 64 (omega arith) (omega arith) z e

@@ -6,10 +6,10 @@ use mathlib.Core.Option.{some}
 use mathlib.Core.List.{List, [], _∷_, _++_, map, List·Memᴰ, List·Memᴰ·head, List·Memᴰ·tail, Memᴰ·append-left, Memᴰ·append-right}
 use native.Mathlib.Nat.{zero-add, zero-mul, suc-mul, sub-zero}
 use native.Mathlib.Omega.{arith}
-use lib.ListN.{length, length-append, length-replicate, length-map}
+use lib.ListN.{length, length-append, length-map}
 use lib.Dec.{leb}
 use Rattle.words.specs.Lists.{each}
-use Rattle.words.specs.Lists.Laws.{by-test}
+use Rattle.words.specs.Lists.Laws.{by-test, length-zeros}
 use Rattle.automata.specs.Automaton.{Automaton}
 use Rattle.automata.specs.Saturation.{Saturated}
 use Rattle.rounds.specs.Limits.{KeepsLimits, saturate-some, within-keeps}
@@ -53,14 +53,10 @@ start-number f = firstHit-among startTests f
 -- ---- lengths
 
 pub length-padded : (n : ℕ) (ws : List ℕ) → length ws ≤ n → length (padded n ws) ≡ n
-unfolding padded zeros
+unfolding padded
 length-padded n ws h =
-    let e : length (padded n ws) ≡ length ws + (n - length ws) = length-append ws (zeros (n - length ws)) ∙ ap (λ (k : ℕ). length ws + k) (length-replicate (n - length ws) 0) in
+    let e : length (padded n ws) ≡ length ws + (n - length ws) = length-append ws (zeros (n - length ws)) ∙ ap (λ (k : ℕ). length ws + k) (length-zeros (n - length ws)) in
     omega arith
-
-pub length-zeros : (n : ℕ) → length (zeros n) ≡ n
-unfolding zeros
-length-zeros n = length-replicate n 0
 
 -- records of one size, one after another
 pub length-each : {A : Type 0} (k : ℕ) (f : A → List ℕ) (l : List A) → ((x : A) → length (f x) ≡ k) → length (each l f) ≡ length l * k

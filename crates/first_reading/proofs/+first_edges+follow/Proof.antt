@@ -13,7 +13,8 @@ use Rattle.tables.specs.Held.{automatonOf}
 use Rattle.first_reading.specs.Search.{wanted}
 use Rattle.first_reading.specs.Answer.{Passed, Same}
 use Rattle.first_reading.specs.Answer.Laws.{answers-none, answers-is, answers-eq, answers-fails, answers-from, same-refl, same-after, passed-none, passed-more, passed-hit, passed-all}
-use Rattle.first_reading.specs.Words.{joinsOf, followed}
+use Rattle.joins.specs.Joining.{asJoins}
+use Rattle.first_reading.specs.Words.{followed}
 use Rattle.first_reading.specs.Words.Reading.{fewer}
 use Rattle.first_reading.specs.Words.Edges.{base-other, base-answers, followed-other, followed-no-part, followed-yes, followed-no, edges-below, states-edges}
 use borrow.Fn.Kinds.{In}
@@ -55,7 +56,7 @@ follow-below t = and 5 follow-kinds.ps (falls 5 follow-kinds.ps _<_ μ-follow t)
 
 abbrev first-edges-Inv-loop : first-edges-lts.InvT-loop
 first-edges-Inv-loop z inner entries moves a left names s j x edges₀ chosen₀ q others n e₀ edges chosen e =
-    Passed n (followed (automatonOf z inner entries moves) a (wanted (asResult x)) (joinsOf j) (x .s) q (members others) names s) e × Same edges₀ edges × Same chosen₀ chosen
+    Passed n (followed (automatonOf z inner entries moves) a (wanted (asResult x)) (asJoins j) (x .s) q (members others) names s) e × Same edges₀ edges × Same chosen₀ chosen
 
 abbrev first-edges-μ-loop : first-edges-lts.MeasureT-loop
 first-edges-μ-loop z inner entries moves a left names s j x edges₀ chosen₀ q others n e₀ edges chosen e =

@@ -10,7 +10,8 @@ use Rattle.tables.specs.Records.{asResult}
 use Rattle.first_reading.specs.Search.{wanted}
 use Rattle.first_reading.specs.Answer.{Passed, Same}
 use Rattle.first_reading.specs.Answer.Laws.{answer-none, answer-is, answer-eq, answer-fails, answer-from, answer-states, same-refl, same-after, passed-none, passed-more, passed-hit, passed-all}
-use Rattle.first_reading.specs.Words.{joinsIn, joinsWords, movesIn, tried}
+use Rattle.joins.specs.Joining.{theJoins, asJoined}
+use Rattle.first_reading.specs.Words.{movesIn, tried}
 use Rattle.first_reading.specs.Words.Reading.{answer-base, reading-below, fewer, tried-nothing, tried-yes, tried-no}
 use borrow.Fn.Kinds.{In}
 use borrow.Fn.PlainCycle.{Measures, is, falls, and}
@@ -20,9 +21,11 @@ use Rattle.first_reading.proofs.+first_reading+read_with.Lts-first_read
 use Rattle.first_reading.proofs.read_with.Reads as read-with
 use Rattle.first_reading.proofs.read_with.Kinds as read-with-kinds
 use Rattle.first_reading.proofs.+first_reading+read_with.Lts-read_with as read-with-lts
-use Rattle.first_reading.proofs.candidate.Reads as candidate-reads
+use Rattle.first_reading.proofs.parts_within.Reads as parts-within-reads
 use Rattle.first_reading.proofs.is_wanted.Reads as is-wanted-reads
+use Rattle.joins.proofs.candidate.Reads as candidate-reads
 use Rattle.sets.proofs.least_member.Reads as least-member-reads
+use Rattle.tables.proofs.move_at.Reads as move-at-reads
 use Rattle.first_reading.proofs.+first_reading+read_with.{statement}
 use Rattle.first_reading.proofs.+first_reading+read_with.Tie.{close}
 
@@ -51,230 +54,9 @@ abbrev read-with-below : ℕ → In 2 read-with-kinds.ps
 read-with-below t =
     and 2 read-with-kinds.ps (falls 2 read-with-kinds.ps _<_ μ-read-with t) read-with.Pre
 
-abbrev first-reading-Inv-loop : first-reading-lts.InvT-loop
-first-reading-Inv-loop moves n a left order b r x chosen₀ q others i₀ chosen i = Passed n (tried (movesIn n moves) a (wanted (asResult x)) q (members others) (joinsWords order b r)) i × Same chosen₀ chosen
-
-abbrev first-reading-μ-loop : first-reading-lts.MeasureT-loop
-first-reading-μ-loop moves n a left order b r x chosen₀ q others i₀ chosen i = n - i
-
-first-reading-is-wanted-requires : (t : ℕ) → first-reading-lts.Need-is-wanted-requires (
-  is-wanted-reads.Asked,
-  is-wanted-reads.Learnt,
-  least-member-reads.Asked,
-  least-member-reads.Learnt,
-  read-with-below t,
-  read-with.Post,
-) (first-reading-at t) first-reading.Post first-reading-Inv-loop first-reading-μ-loop
-first-reading-is-wanted-requires t c κs = search needs
-
-first-reading-returns : (t : ℕ) → first-reading-lts.Need-returns (
-  is-wanted-reads.Asked,
-  is-wanted-reads.Learnt,
-  least-member-reads.Asked,
-  least-member-reads.Learnt,
-  read-with-below t,
-  read-with.Post,
-) (first-reading-at t) first-reading.Post first-reading-Inv-loop first-reading-μ-loop
-first-reading-returns t c = answer-base _ _ _ _ _ _ _ (c .before .if1 .taken) (c .is-wanted .ensures)
-
-first-reading-least-member-requires : (t : ℕ) → first-reading-lts.Need-least-member-requires (
-  is-wanted-reads.Asked,
-  is-wanted-reads.Learnt,
-  least-member-reads.Asked,
-  least-member-reads.Learnt,
-  read-with-below t,
-  read-with.Post,
-) (first-reading-at t) first-reading.Post first-reading-Inv-loop first-reading-μ-loop
-first-reading-least-member-requires t c κs = search needs
-
-first-reading-loop-holds : (t : ℕ) → first-reading-lts.Need-loop-holds (
-  is-wanted-reads.Asked,
-  is-wanted-reads.Learnt,
-  least-member-reads.Asked,
-  least-member-reads.Learnt,
-  read-with-below t,
-  read-with.Post,
-) (first-reading-at t) first-reading.Post first-reading-Inv-loop first-reading-μ-loop
-first-reading-loop-holds t c = (passed-none, same-refl _)
-
-first-reading-read-with-requires : (t : ℕ) → first-reading-lts.Need-read-with-requires (
-  is-wanted-reads.Asked,
-  is-wanted-reads.Learnt,
-  least-member-reads.Asked,
-  least-member-reads.Learnt,
-  read-with-below t,
-  read-with.Post,
-) (first-reading-at t) first-reading.Post first-reading-Inv-loop first-reading-μ-loop
-first-reading-read-with-requires t c κs = (fewer _ _ _ _ (c .before .before .before .least-member .ensures .0) (c .before .before .before .before .before .before .before .pre .0), search needs)
-
-first-reading-same-length : (t : ℕ) → first-reading-lts.Need-same-length (
-  is-wanted-reads.Asked,
-  is-wanted-reads.Learnt,
-  least-member-reads.Asked,
-  least-member-reads.Learnt,
-  read-with-below t,
-  read-with.Post,
-) (first-reading-at t) first-reading.Post first-reading-Inv-loop first-reading-μ-loop
-first-reading-same-length t c = search needs
-
-first-reading-returns-2 : (t : ℕ) → first-reading-lts.Need-returns-2 (
-  is-wanted-reads.Asked,
-  is-wanted-reads.Learnt,
-  least-member-reads.Asked,
-  least-member-reads.Learnt,
-  read-with-below t,
-  read-with.Post,
-) (first-reading-at t) first-reading.Post first-reading-Inv-loop first-reading-μ-loop
-first-reading-returns-2 t c = answer-from (c .before .before .before .before .before .before .loop .inv .1) (answer-states (c .before .before .before .before .before .before .before .least-member .ensures .0) (answer-eq (reading-below _ _ _ _ _ _ _ _ (c .before .before .before .before .before .before .before .least-member .ensures .0) ∙ passed-hit (c .before .before .before .before .before .before .loop .inv .0) (c .before .before .before .before .before .loop-test .taken) (sym (c .before .before .before .read-with .ensures .success) ∙ c .if2 .taken)) (answer-is (c .if2 .taken) (c .before .before .before .read-with .ensures))))
-
-first-reading-add-i : (t : ℕ) → first-reading-lts.Need-add-i (
-  is-wanted-reads.Asked,
-  is-wanted-reads.Learnt,
-  least-member-reads.Asked,
-  least-member-reads.Learnt,
-  read-with-below t,
-  read-with.Post,
-) (first-reading-at t) first-reading.Post first-reading-Inv-loop first-reading-μ-loop
-first-reading-add-i t c = search needs
-
-first-reading-loop-less : (t : ℕ) → first-reading-lts.Need-loop-less (
-  is-wanted-reads.Asked,
-  is-wanted-reads.Learnt,
-  least-member-reads.Asked,
-  least-member-reads.Learnt,
-  read-with-below t,
-  read-with.Post,
-) (first-reading-at t) first-reading.Post first-reading-Inv-loop first-reading-μ-loop
-first-reading-loop-less t c = search needs
-
-first-reading-loop-again : (t : ℕ) → first-reading-lts.Need-loop-again (
-  is-wanted-reads.Asked,
-  is-wanted-reads.Learnt,
-  least-member-reads.Asked,
-  least-member-reads.Learnt,
-  read-with-below t,
-  read-with.Post,
-) (first-reading-at t) first-reading.Post first-reading-Inv-loop first-reading-μ-loop
-first-reading-loop-again t c = let f = answer-fails (answer-is (c .if2 .left) (c .before .before .before .read-with .ensures)) in (passed-more (c .before .before .before .before .before .before .loop .inv .0) (c .before .before .before .before .before .loop-test .taken) (f .0), same-after (c .before .before .before .before .before .before .loop .inv .1) (f .1))
-
-first-reading-same-length-2 : (t : ℕ) → first-reading-lts.Need-same-length-2 (
-  is-wanted-reads.Asked,
-  is-wanted-reads.Learnt,
-  least-member-reads.Asked,
-  least-member-reads.Learnt,
-  read-with-below t,
-  read-with.Post,
-) (first-reading-at t) first-reading.Post first-reading-Inv-loop first-reading-μ-loop
-first-reading-same-length-2 t c = search needs
-
-first-reading-returns-3 : (t : ℕ) → first-reading-lts.Need-returns-3 (
-  is-wanted-reads.Asked,
-  is-wanted-reads.Learnt,
-  least-member-reads.Asked,
-  least-member-reads.Learnt,
-  read-with-below t,
-  read-with.Post,
-) (first-reading-at t) first-reading.Post first-reading-Inv-loop first-reading-μ-loop
-first-reading-returns-3 t c = answer-from (c .before .loop .inv .1) (answer-none _ (reading-below _ _ _ _ _ _ _ _ (c .before .before .least-member .ensures .0) ∙ passed-all (c .before .loop .inv .0) (c .loop-test .left)))
-
-read-with-candidate-requires : (t : ℕ) → read-with-lts.Need-candidate-requires (
-  candidate-reads.Asked,
-  candidate-reads.Learnt,
-  first-reading-below t,
-  first-reading.Post,
-) (read-with-at t) read-with.Post
-read-with-candidate-requires t c κs = search needs
-
-read-with-enum-known-k : (t : ℕ) → read-with-lts.Need-enum-known-k (
-  candidate-reads.Asked,
-  candidate-reads.Learnt,
-  first-reading-below t,
-  first-reading.Post,
-) (read-with-at t) read-with.Post
-read-with-enum-known-k t c = search needs
-
-read-with-enum-told : (t : ℕ) → read-with-lts.Need-enum-told (
-  candidate-reads.Asked,
-  candidate-reads.Learnt,
-  first-reading-below t,
-  first-reading.Post,
-) (read-with-at t) read-with.Post
-read-with-enum-told t c = search needs
-
-read-with-returns : (t : ℕ) → read-with-lts.Need-returns (
-  candidate-reads.Asked,
-  candidate-reads.Learnt,
-  first-reading-below t,
-  first-reading.Post,
-) (read-with-at t) read-with.Post
-read-with-returns t c = tried-nothing _ _ _ _ _ _ _ _ (c .before .before .before .before .before .pre .1 .2) _ _ (c .enum-told .given .1) (c .before .before .candidate .ensures)
-
-read-with-first-reading-requires : (t : ℕ) → read-with-lts.Need-first-reading-requires (
-  candidate-reads.Asked,
-  candidate-reads.Learnt,
-  first-reading-below t,
-  first-reading.Post,
-) (read-with-at t) read-with.Post
-read-with-first-reading-requires t c κs = search needs
-
-read-with-cast-chosen : (t : ℕ) → read-with-lts.Need-cast-chosen (
-  candidate-reads.Asked,
-  candidate-reads.Learnt,
-  first-reading-below t,
-  first-reading.Post,
-) (read-with-at t) read-with.Post
-read-with-cast-chosen t c = search needs
-
-read-with-mul-chosen : (t : ℕ) → read-with-lts.Need-mul-chosen (
-  candidate-reads.Asked,
-  candidate-reads.Learnt,
-  first-reading-below t,
-  first-reading.Post,
-) (read-with-at t) read-with.Post
-read-with-mul-chosen t c = search needs
-
-read-with-slice-write-chosen : (t : ℕ) → read-with-lts.Need-slice-write-chosen (
-  candidate-reads.Asked,
-  candidate-reads.Learnt,
-  first-reading-below t,
-  first-reading.Post,
-) (read-with-at t) read-with.Post
-read-with-slice-write-chosen t c = search needs
-
-read-with-same-length : (t : ℕ) → read-with-lts.Need-same-length (
-  candidate-reads.Asked,
-  candidate-reads.Learnt,
-  first-reading-below t,
-  first-reading.Post,
-) (read-with-at t) read-with.Post
-read-with-same-length t c = search needs
-
-read-with-returns-2 : (t : ℕ) → read-with-lts.Need-returns-2 (
-  candidate-reads.Asked,
-  candidate-reads.Learnt,
-  first-reading-below t,
-  first-reading.Post,
-) (read-with-at t) read-with.Post
-read-with-returns-2 t c = tried-yes _ _ _ _ _ _ _ _ (c .before .before .before .before .before .before .before .before .before .before .before .pre .1 .2) _ _ (c .before .before .before .before .before .before .before .before .candidate .result) _ (ap joinsIn (c .before .before .before .before .before .before .k .given .1)) (c .before .before .before .before .before .before .before .before .candidate .ensures) (answer-is (c .if1 .taken) (c .before .before .before .first-reading .ensures))
-
-read-with-same-length-2 : (t : ℕ) → read-with-lts.Need-same-length-2 (
-  candidate-reads.Asked,
-  candidate-reads.Learnt,
-  first-reading-below t,
-  first-reading.Post,
-) (read-with-at t) read-with.Post
-read-with-same-length-2 t c = search needs
-
-read-with-returns-3 : (t : ℕ) → read-with-lts.Need-returns-3 (
-  candidate-reads.Asked,
-  candidate-reads.Learnt,
-  first-reading-below t,
-  first-reading.Post,
-) (read-with-at t) read-with.Post
-read-with-returns-3 t c = tried-no _ _ _ _ _ _ _ _ (c .before .before .before .before .before .before .before .before .before .before .before .pre .1 .2) _ _ (c .before .before .before .before .before .before .before .before .candidate .result) _ (ap joinsIn (c .before .before .before .before .before .before .k .given .1)) (c .before .before .before .before .before .before .before .before .candidate .ensures) (answer-is (c .if1 .left) (c .before .before .before .first-reading .ensures))
-
-pub +first-reading+read-with-spec : {M : Type 1} → statement M
-+first-reading+read-with-spec = close μ-first-reading μ-read-with (λ t. first-reading-lts.spec (
+-- what the callees of first_reading require and ensure
+abbrev first-reading-claims : ℕ → first-reading-lts.Claims
+first-reading-claims t = (
   is-wanted-reads.Asked,
   is-wanted-reads.Learnt,
   least-member-reads.Asked,
@@ -282,6 +64,114 @@ pub +first-reading+read-with-spec : {M : Type 1} → statement M
   read-with-below t,
   read-with.Post,
 )
+
+-- what the callees of read_with require and ensure
+abbrev read-with-claims : ℕ → read-with-lts.Claims
+read-with-claims t = (
+  move-at-reads.Asked,
+  move-at-reads.Learnt,
+  candidate-reads.Asked,
+  candidate-reads.Learnt,
+  parts-within-reads.Asked,
+  parts-within-reads.Learnt,
+  first-reading-below t,
+  first-reading.Post,
+)
+
+abbrev first-reading-Inv-loop : first-reading-lts.InvT-loop
+first-reading-Inv-loop moves n a left order b r x chosen₀ q others i₀ chosen i = Passed n (tried (movesIn n moves) a (wanted (asResult x)) q (members others) (theJoins order b r)) i × Same chosen₀ chosen
+
+abbrev first-reading-μ-loop : first-reading-lts.MeasureT-loop
+first-reading-μ-loop moves n a left order b r x chosen₀ q others i₀ chosen i = n - i
+
+first-reading-is-wanted-requires : (t : ℕ) → first-reading-lts.Need-is-wanted-requires (first-reading-claims t) (first-reading-at t) first-reading.Post first-reading-Inv-loop first-reading-μ-loop
+first-reading-is-wanted-requires t c κs = search needs
+
+first-reading-returns : (t : ℕ) → first-reading-lts.Need-returns (first-reading-claims t) (first-reading-at t) first-reading.Post first-reading-Inv-loop first-reading-μ-loop
+first-reading-returns t c = answer-base _ _ _ _ _ _ _ (c .before .if1 .taken) (c .is-wanted .ensures)
+
+first-reading-least-member-requires : (t : ℕ) → first-reading-lts.Need-least-member-requires (first-reading-claims t) (first-reading-at t) first-reading.Post first-reading-Inv-loop first-reading-μ-loop
+first-reading-least-member-requires t c κs = search needs
+
+first-reading-loop-holds : (t : ℕ) → first-reading-lts.Need-loop-holds (first-reading-claims t) (first-reading-at t) first-reading.Post first-reading-Inv-loop first-reading-μ-loop
+first-reading-loop-holds t c = (passed-none, same-refl _)
+
+first-reading-read-with-requires : (t : ℕ) → first-reading-lts.Need-read-with-requires (first-reading-claims t) (first-reading-at t) first-reading.Post first-reading-Inv-loop first-reading-μ-loop
+first-reading-read-with-requires t c κs = (fewer _ _ _ _ (c .before .before .before .least-member .ensures .0) (c .before .before .before .before .before .before .before .pre .0), search needs)
+
+first-reading-same-length : (t : ℕ) → first-reading-lts.Need-same-length (first-reading-claims t) (first-reading-at t) first-reading.Post first-reading-Inv-loop first-reading-μ-loop
+first-reading-same-length t c = search needs
+
+first-reading-returns-2 : (t : ℕ) → first-reading-lts.Need-returns-2 (first-reading-claims t) (first-reading-at t) first-reading.Post first-reading-Inv-loop first-reading-μ-loop
+first-reading-returns-2 t c = answer-from (c .before .before .before .before .before .before .loop .inv .1) (answer-states (c .before .before .before .before .before .before .before .least-member .ensures .0) (answer-eq (reading-below _ _ _ _ _ _ _ _ (c .before .before .before .before .before .before .before .least-member .ensures .0) ∙ passed-hit (c .before .before .before .before .before .before .loop .inv .0) (c .before .before .before .before .before .loop-test .taken) (sym (c .before .before .before .read-with .ensures .success) ∙ c .if2 .taken)) (answer-is (c .if2 .taken) (c .before .before .before .read-with .ensures))))
+
+first-reading-add-i : (t : ℕ) → first-reading-lts.Need-add-i (first-reading-claims t) (first-reading-at t) first-reading.Post first-reading-Inv-loop first-reading-μ-loop
+first-reading-add-i t c = search needs
+
+first-reading-loop-less : (t : ℕ) → first-reading-lts.Need-loop-less (first-reading-claims t) (first-reading-at t) first-reading.Post first-reading-Inv-loop first-reading-μ-loop
+first-reading-loop-less t c = search needs
+
+first-reading-loop-again : (t : ℕ) → first-reading-lts.Need-loop-again (first-reading-claims t) (first-reading-at t) first-reading.Post first-reading-Inv-loop first-reading-μ-loop
+first-reading-loop-again t c = let f = answer-fails (answer-is (c .if2 .left) (c .before .before .before .read-with .ensures)) in (passed-more (c .before .before .before .before .before .before .loop .inv .0) (c .before .before .before .before .before .loop-test .taken) (f .0), same-after (c .before .before .before .before .before .before .loop .inv .1) (f .1))
+
+first-reading-same-length-2 : (t : ℕ) → first-reading-lts.Need-same-length-2 (first-reading-claims t) (first-reading-at t) first-reading.Post first-reading-Inv-loop first-reading-μ-loop
+first-reading-same-length-2 t c = search needs
+
+first-reading-returns-3 : (t : ℕ) → first-reading-lts.Need-returns-3 (first-reading-claims t) (first-reading-at t) first-reading.Post first-reading-Inv-loop first-reading-μ-loop
+first-reading-returns-3 t c = answer-from (c .before .loop .inv .1) (answer-none _ (reading-below _ _ _ _ _ _ _ _ (c .before .before .least-member .ensures .0) ∙ passed-all (c .before .loop .inv .0) (c .loop-test .left)))
+
+read-with-move-at-requires : (t : ℕ) → read-with-lts.Need-move-at-requires (read-with-claims t) (read-with-at t) read-with.Post
+read-with-move-at-requires t c κs = search needs
+
+read-with-candidate-requires : (t : ℕ) → read-with-lts.Need-candidate-requires (read-with-claims t) (read-with-at t) read-with.Post
+read-with-candidate-requires t c κs = search needs
+
+read-with-parts-within-requires : (t : ℕ) → read-with-lts.Need-parts-within-requires (read-with-claims t) (read-with-at t) read-with.Post
+read-with-parts-within-requires t c κs = search needs
+
+read-with-enum-known-k : (t : ℕ) → read-with-lts.Need-enum-known-k (read-with-claims t) (read-with-at t) read-with.Post
+read-with-enum-known-k t c = search needs
+
+read-with-enum-told : (t : ℕ) → read-with-lts.Need-enum-told (read-with-claims t) (read-with-at t) read-with.Post
+read-with-enum-told t c = search needs
+
+read-with-returns : (t : ℕ) → read-with-lts.Need-returns (read-with-claims t) (read-with-at t) read-with.Post
+read-with-returns t c =
+    let x = c .before .before in
+    tried-nothing _ _ _ _ _ _ _ _ (x .before .before .before .before .before .pre .1 .2) _ _ _ (x .before .before .move-at .ensures) (x .before .candidate .ensures) (x .parts-within .ensures) _ (ap asJoined (c .enum-told .given .1))
+
+read-with-first-reading-requires : (t : ℕ) → read-with-lts.Need-first-reading-requires (read-with-claims t) (read-with-at t) read-with.Post
+read-with-first-reading-requires t c κs = search needs
+
+read-with-cast-chosen : (t : ℕ) → read-with-lts.Need-cast-chosen (read-with-claims t) (read-with-at t) read-with.Post
+read-with-cast-chosen t c = search needs
+
+read-with-mul-chosen : (t : ℕ) → read-with-lts.Need-mul-chosen (read-with-claims t) (read-with-at t) read-with.Post
+read-with-mul-chosen t c = search needs
+
+read-with-slice-write-chosen : (t : ℕ) → read-with-lts.Need-slice-write-chosen (read-with-claims t) (read-with-at t) read-with.Post
+read-with-slice-write-chosen t c = search needs
+
+read-with-same-length : (t : ℕ) → read-with-lts.Need-same-length (read-with-claims t) (read-with-at t) read-with.Post
+read-with-same-length t c = search needs
+
+read-with-returns-2 : (t : ℕ) → read-with-lts.Need-returns-2 (read-with-claims t) (read-with-at t) read-with.Post
+read-with-returns-2 t c =
+    let x = c .before .before .before .before .before .before .before .before in
+    tried-yes _ _ _ _ _ _ _ _ (x .before .before .before .before .before .pre .1 .2) _ _ _ (x .before .before .move-at .ensures) (x .before .candidate .ensures) (x .parts-within .ensures) _ _ _ (ap asJoined (c .before .before .before .before .before .before .k .given .1))
+    (answer-is (c .if1 .taken) (c .before .before .before .first-reading .ensures))
+
+read-with-same-length-2 : (t : ℕ) → read-with-lts.Need-same-length-2 (read-with-claims t) (read-with-at t) read-with.Post
+read-with-same-length-2 t c = search needs
+
+read-with-returns-3 : (t : ℕ) → read-with-lts.Need-returns-3 (read-with-claims t) (read-with-at t) read-with.Post
+read-with-returns-3 t c =
+    let x = c .before .before .before .before .before .before .before .before in
+    tried-no _ _ _ _ _ _ _ _ (x .before .before .before .before .before .pre .1 .2) _ _ _ (x .before .before .move-at .ensures) (x .before .candidate .ensures) (x .parts-within .ensures) _ _ _ (ap asJoined (c .before .before .before .before .before .before .k .given .1))
+    (answer-is (c .if1 .left) (c .before .before .before .first-reading .ensures))
+
+pub +first-reading+read-with-spec : {M : Type 1} → statement M
++first-reading+read-with-spec = close μ-first-reading μ-read-with (λ t. first-reading-lts.spec (first-reading-claims t)
     (first-reading-at t)
     first-reading.Post
     first-reading-Inv-loop
@@ -299,10 +189,12 @@ pub +first-reading+read-with-spec : {M : Type 1} → statement M
     (first-reading-same-length-2 t)
     (first-reading-returns-3 t))
     λ t. read-with-lts.spec
-    (candidate-reads.Asked, candidate-reads.Learnt, first-reading-below t, first-reading.Post)
+    (read-with-claims t)
     (read-with-at t)
     read-with.Post
+    (read-with-move-at-requires t)
     (read-with-candidate-requires t)
+    (read-with-parts-within-requires t)
     (read-with-enum-known-k t)
     (read-with-enum-told t)
     (read-with-returns t)

@@ -18,9 +18,8 @@ use Rattle.words.specs.Order.Laws.{same-eq}
 use Rattle.automata.specs.Automaton.{Automaton, edgeAt, edgesOf, movesOf}
 use Rattle.automata.specs.Derivation.{Result, Joins, joinAll}
 use Rattle.automata.specs.Derivation.Joining.{Into, joinAll-into}
-use Rattle.first_reading.specs.First.{onlyIf}
 use Rattle.first_reading.specs.First.Laws.{onlyIf-yes, onlyIf-no, onlyIf-some, firstOf-some}
-use Rattle.first_reading.specs.Search.{joinsKey, wanted, Numbers, withEdge, firstReading, firstEdges}
+use Rattle.first_reading.specs.Search.{joinsKey, wanted, within, Numbers, withEdge, firstReading, firstEdges}
 use Rattle.first_reading.specs.Search.Laws.{reached, readOn, reading-first}
 
 -- ---- readings
@@ -46,11 +45,6 @@ module _ (A : Automaton) (a : ℕ) where
         subst (λ (s : ℕ). partOf (j .B) s ≡ true) (ap (λ (l : List ℕ). getD l 1 0) (r .1)) (r .2 .B-part),
         subst (λ (s : ℕ). partOf (j .R) s ≡ true) (ap (λ (l : List ℕ). getD l 2 0) (r .1)) (r .2 .R-part),
       )
-
--- the joins with one move more, where they are parts of those of x
-unfoldable pub within : Result → Option Joins → Option Joins
-within x none = none
-within x (some k) = onlyIf (partOf (k .B) (x .B) && partOf (k .R) (x .R)) (some k)
 
 module _ (A : Automaton) (a : ℕ) (x : Result) where
   -- a reading goes on the same way with the joins that are parts

@@ -3,29 +3,30 @@
 use Prim.Native.Nat.{ℕ, suc, _+_, _*_, _<_}
 use mathlib.Core.Bool.{Bool, true, false, _&&_}
 use mathlib.Core.Path.{_≡_, refl, ap, sym, _∙_}
-use mathlib.Core.Option.{Option, some, Option·map}
+use mathlib.Core.Option.{Option, none, some, Option·map}
 use mathlib.Core.List.{List, [], _∷_}
 use native.Mathlib.Omega.{arith}
 use lib.ListN.{length, getD, set}
 use lib.Dec.{eqb}
 use Rattle.words.specs.Sets.{members}
 use Rattle.words.specs.Sets.Laws.{members-empty}
+use Rattle.words.specs.Lists.Laws.{by-test}
 use Rattle.words.specs.Order.{same}
 use Rattle.automata.specs.Automaton.{Automaton, Move, noMove, moveAt, movesOf}
 use Rattle.automata.specs.Derivation.{Result, Joins, joinMove}
 use Rattle.tables.specs.Rows.{rowAt, rowsIn}
 use Rattle.tables.specs.Rows.Laws.{length-rowsIn, getD-rowsIn}
 use Rattle.tables.specs.Records.{moveRow}
-use Rattle.first_reading.specs.declared.Joined.{Joined}
-use Rattle.first_reading.specs.declared.Joined.the-variants.{Nothing}
+use Rattle.joins.specs.Joining.{candidateOf}
+use Rattle.joins.specs.Joining.Laws.{candidate-yes, candidate-no}
 use Rattle.first_reading.specs.First.{onlyIf, isSome, firstBelow}
-use Rattle.first_reading.specs.First.Laws.{map-onlyIf, atPlace, firstOf-places}
+use Rattle.first_reading.specs.First.Laws.{onlyIf-yes, onlyIf-no, atPlace, firstOf-places}
 use Rattle.first_reading.specs.Answer.{writtenAll, writtenBy, Answer}
 use Rattle.first_reading.specs.Answer.Laws.{answer-none, answer-eq, answer-yes, answer-no}
-use Rattle.first_reading.specs.Search.{joinsKey, wanted, firstReading}
+use Rattle.first_reading.specs.Search.{joinsKey, wanted, within, firstReading}
 use Rattle.first_reading.specs.Search.Laws.{readOn, firstReading-cons}
-use Rattle.first_reading.specs.Search.Parts.{within, read-within}
-use Rattle.first_reading.specs.Words.{joinsIn, movesIn, tried}
+use Rattle.first_reading.specs.Search.Parts.{read-within}
+use Rattle.first_reading.specs.Words.{movesIn, tried}
 
 -- ---- no state is left
 
@@ -51,45 +52,44 @@ module _ (n : ℕ) (moves : List ℕ) (a : ℕ) (x : Result) (q : ℕ) (qs : Lis
   abbrev triedAt : Option (List ℕ)
   triedAt = tried (movesIn n moves) a (wanted x) q qs j i
 
-  tried-joins : (o : Option Joins)
-      → o ≡ onlyIf (eqb (rowAt moveRow moves i .state) q && eqb (rowAt moveRow moves i .symbol) a) (within x (joinMove j (rowAt moveRow moves i)))
-      → triedAt ≡ Option·map (λ ms. i ∷ ms) (readOn (movesIn n moves) a (wanted x) qs o)
-  unfolding tried moveAt onlyIf readOn
-  tried-joins o e =
-      let A : Automaton = movesIn n moves in
-      let row : Move = rowAt moveRow moves i in
-      let is : getD (rowsIn moveRow n moves) i noMove ≡ row = getD-rowsIn moveRow n moves i noMove below in
-      ap (λ (m : Move). onlyIf (eqb (m .state) q && eqb (m .symbol) a) (Option·map (λ ms. i ∷ ms) (readOn A a (wanted x) qs (joinMove j m)))) is
-      ∙ sym (map-onlyIf (λ ms. i ∷ ms) (eqb (row .state) q && eqb (row .symbol) a) (readOn A a (wanted x) qs (joinMove j row)))
-      ∙ ap (Option·map (λ ms. i ∷ ms))
-      (ap (onlyIf (eqb (row .state) q && eqb (row .symbol) a)) (sym (read-within A a x qs (joinMove j row)))
-      ∙ inside (eqb (row .state) q && eqb (row .symbol) a) (within x (joinMove j row))
-      ∙ ap (readOn A a (wanted x) qs) (sym e))
-    where
-      inside : (t : Bool) (p : Option Joins) → onlyIf t (readOn (movesIn n moves) a (wanted x) qs p) ≡ readOn (movesIn n moves) a (wanted x) qs (onlyIf t p)
-      inside true p = refl
-      inside false p = refl
+  -- m is move i, c the joins with it, and k those of them that are parts of those of x
+  module _ (m : Move) (c k : Option Joins) (row : m ≡ rowAt moveRow moves i) (e : c ≡ candidateOf q a j m) (w : k ≡ within x c) where
+    -- what reading on from joins gives, with move i before the others
+    abbrev readBy : Option Joins → Option (List ℕ)
+    readBy o = Option·map (λ ms. i ∷ ms) (readOn (movesIn n moves) a (wanted x) qs o)
 
-  -- the move gives no joins
-  pub tried-nothing : (ws : List ℕ) (c : Joined) → c ≡ Nothing
-      → joinsIn c ≡ onlyIf (eqb (rowAt moveRow moves i .state) q && eqb (rowAt moveRow moves i .symbol) a) (within x (joinMove j (rowAt moveRow moves i)))
-      → Answer triedAt (writtenAll (q ∷ qs)) false ws ws
-  unfolding readOn
-  tried-nothing ws c z e = answer-none ws (tried-joins (joinsIn c) e ∙ ap (λ (d : Joined). Option·map (λ ms. i ∷ ms) (readOn (movesIn n moves) a (wanted x) qs (joinsIn d))) z)
+    its-joins : onlyIf (eqb (m .state) q && eqb (m .symbol) a) (readBy (joinMove j m)) ≡ readBy (candidateOf q a j m)
+    unfolding readOn
+    its-joins =
+        by-test (eqb (m .state) q && eqb (m .symbol) a)
+        (λ y. onlyIf-yes _ _ y ∙ ap readBy (sym (candidate-yes j m q a y)))
+        (λ y. onlyIf-no _ _ y ∙ ap readBy (sym (candidate-no j m q a y)))
 
-  -- the rest of the reading is searched with the joins k
-  module _ (ws last : List ℕ) (c : Joined) (k : Joins) (z : joinsIn c ≡ some k)
-      (e : joinsIn c ≡ onlyIf (eqb (rowAt moveRow moves i .state) q && eqb (rowAt moveRow moves i .symbol) a) (within x (joinMove j (rowAt moveRow moves i))))
-    where
-      tried-into : triedAt ≡ Option·map (λ ms. i ∷ ms) (firstReading (movesIn n moves) a (wanted x) qs k)
+    tried-joins : triedAt ≡ readBy k
+    unfolding tried moveAt
+    tried-joins =
+        let is : getD (rowsIn moveRow n moves) i noMove ≡ m = getD-rowsIn moveRow n moves i noMove below ∙ sym row in
+        ap (λ (l : Move). onlyIf (eqb (l .state) q && eqb (l .symbol) a) (readBy (joinMove j l))) is
+        ∙ its-joins ∙ ap readBy (sym e)
+        ∙ ap (Option·map (λ ms. i ∷ ms)) (sym (read-within (movesIn n moves) a x qs c))
+        ∙ ap readBy (sym w)
+
+    -- the move gives no joins
+    pub tried-nothing : (ws : List ℕ) → k ≡ none → Answer triedAt (writtenAll (q ∷ qs)) false ws ws
+    unfolding readOn
+    tried-nothing ws z = answer-none ws (tried-joins ∙ ap readBy z)
+
+    -- the rest of the reading is searched with the joins l
+    module _ (ws last : List ℕ) (l : Joins) (z : k ≡ some l) where
+      tried-into : triedAt ≡ Option·map (λ ms. i ∷ ms) (firstReading (movesIn n moves) a (wanted x) qs l)
       unfolding readOn
-      tried-into = tried-joins (joinsIn c) e ∙ ap (λ (o : Option Joins). Option·map (λ ms. i ∷ ms) (readOn (movesIn n moves) a (wanted x) qs o)) z
+      tried-into = tried-joins ∙ ap readBy z
 
-      pub tried-yes : Answer (firstReading (movesIn n moves) a (wanted x) qs k) (writtenAll qs) true ws last → Answer triedAt (writtenAll (q ∷ qs)) true ws (set last q i)
+      pub tried-yes : Answer (firstReading (movesIn n moves) a (wanted x) qs l) (writtenAll qs) true ws last → Answer triedAt (writtenAll (q ∷ qs)) true ws (set last q i)
       unfolding writtenAll
-      tried-yes h = answer-eq tried-into (answer-yes (λ ms. i ∷ ms) (writtenAll qs) (writtenAll (q ∷ qs)) (λ l. set l q i) (λ ms l. refl) h)
+      tried-yes h = answer-eq tried-into (answer-yes (λ ms. i ∷ ms) (writtenAll qs) (writtenAll (q ∷ qs)) (λ ws. set ws q i) (λ ms ws. refl) h)
 
-      pub tried-no : Answer (firstReading (movesIn n moves) a (wanted x) qs k) (writtenAll qs) false ws last → Answer triedAt (writtenAll (q ∷ qs)) false ws last
+      pub tried-no : Answer (firstReading (movesIn n moves) a (wanted x) qs l) (writtenAll qs) false ws last → Answer triedAt (writtenAll (q ∷ qs)) false ws last
       tried-no h = answer-eq tried-into (answer-no (λ ms. i ∷ ms) (writtenAll qs) (writtenAll (q ∷ qs)) h)
 
 -- ---- the loop over the moves

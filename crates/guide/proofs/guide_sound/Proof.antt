@@ -5,7 +5,7 @@ use Rattle.sound_files.specs.Sound.Laws.{start-sound}
 use Rattle.sound_files.specs.Saturated.Laws.{table-there, table-none}
 use Rattle.guided_start.specs.Tables.Laws.{tables-stand}
 use Rattle.guided_start.specs.Run.Laws.{leaves-same, run-tables}
-use Rattle.guide.specs.Service.Left.{zeros-kept, cells-zero, left-exceeded, left-guided}
+use Rattle.guide.specs.Service.Left.{zeros-kept, left-exceeded, left-guided}
 use borrow.Author.Needs.{needs}
 use Rattle.guide.proofs.guide_sound.Statement.{statement}
 use Rattle.guide.proofs.guide_sound.Tie as tie
@@ -62,8 +62,8 @@ guide-start-requires c κs =
 zero-tables-requires-2 : tie.Need-zero-tables-requires-2
 zero-tables-requires-2 c κs = search needs
 
-zero-cells-requires : tie.Need-zero-cells-requires
-zero-cells-requires c κs = search needs
+zero-u16-requires : tie.Need-zero-u16-requires
+zero-u16-requires c κs = search needs
 
 same-length-3 : tie.Need-same-length-3
 same-length-3 c = search needs
@@ -84,7 +84,7 @@ returns-2 c =
     let g = c .before .before .before .before .before .before .before .before .before .before .before .before .before .before .before .guide-start in
     let z = c .before .before .before .before .before .before .before .before .zero-tables2 .ensures in
     left-guided _ (zeros-kept (z .0) (s .kept .1 .1 .1 .0)) (zeros-kept (z .1) (s .kept .1 .1 .0))
-    (zeros-kept (cells-zero _ (c .before .before .zero-cells .ensures)) (g .kept .1 .1 .1 .1 .1 .1 .1 .1 .1 .0)) (e .pre .0) (e .pre .1)
+    (zeros-kept (c .before .before .zero-u16 .ensures) (g .kept .1 .1 .1 .1 .1 .1 .1 .1 .1 .0)) (e .pre .0) (e .pre .1)
     (table-there (s .ensures) (not-false (s .result .fits) (c .before .before .before .before .before .before .before .before .before .before .before .before .before .before .before .before .before .before .before .before .before .before .if1 .left)))
     (leaves-same (run-tables _ _ _ _ _ _ _ _ _ _) (g .ensures))
 
@@ -104,7 +104,7 @@ guide-sound-spec =
     slice-aggregate-guide-start-2
     guide-start-requires
     zero-tables-requires-2
-    zero-cells-requires
+    zero-u16-requires
     same-length-3
     same-length-4
     same-length-5

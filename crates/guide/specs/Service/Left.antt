@@ -4,7 +4,7 @@ use Prim.Native.Nat.{ℕ, _<_}
 use mathlib.Core.Path.{_≡_, refl, ap, sym, _∙_}
 use mathlib.Core.Option.{none, some}
 use mathlib.Core.List.{List}
-use lib.ListN.{length, replicate}
+use lib.ListN.{length}
 use Rattle.automata.specs.Saturation.{Saturated}
 use Rattle.replies.specs.declared.Reply.{Reply}
 use Rattle.replies.specs.declared.Reply.the-variants.{Refused}
@@ -26,10 +26,6 @@ done-same o p q k l = λ i. record { reply = o i; moves = p i; entries = q i; ce
 -- memory that was zeroed, as its lengths were kept
 pub zeros-kept : {n k : ℕ} {l : List ℕ} → l ≡ zeros n → n ≡ k → l ≡ zeros k
 zeros-kept e f = e ∙ ap zeros f
-
-pub cells-zero : (n : ℕ) {l : List ℕ} → l ≡ replicate n 0 → l ≡ zeros n
-unfolding zeros
-cells-zero n e = e
 
 module _ (x : GuideInput) {m e c t : List ℕ} (p : m ≡ zeros (x .moves)) (q : e ≡ zeros (x .entries)) (k : c ≡ zeros (x .cells)) where
   pub left-refused : {n : ℕ} → n ≡ refusedBefore (x .case) (x .start) (x .number) 0 7 → (n ≡ 0 → ⊥) → t ≡ zeros (x .trace)

@@ -47,8 +47,8 @@ returns c =
 enum-told : tie.Need-enum-told Inv-loop μ-loop
 enum-told c = search needs
 
-zero-cells-requires : tie.Need-zero-cells-requires Inv-loop μ-loop
-zero-cells-requires c κs = search needs
+zero-u16-requires : tie.Need-zero-u16-requires Inv-loop μ-loop
+zero-u16-requires c κs = search needs
 
 same-length-3 : tie.Need-same-length-3 Inv-loop μ-loop
 same-length-3 c = search needs
@@ -60,7 +60,7 @@ returns-2 : tie.Need-returns-2 Inv-loop μ-loop
 returns-2 c =
     let a = answers-as _ _ _ _ _ _ _ _ (c .before .before .before .before .enum-told .given .1) (c .before .before .before .before .before .before .before .before .before .before .advance .ensures) in
     let inv = c .before .before .before .before .before .before .before .before .before .before .before .before .before .loop .inv in
-    ends-stuck _ _ _ (inv .0) (c .before .before .before .before .before .before .before .before .before .before .before .before .before .before .before .before .before .before .before .before .before .pre .1 .1) _ a (c .before .before .zero-cells .ensures) (c .before .before .before .before .before .before .before .before .before .before .advance .kept .1 .1 .1 .1 .1 .1 .1 .1 .1 .1 .0 ∙ inv .0 .long)
+    ends-stuck _ _ _ (inv .0) (c .before .before .before .before .before .before .before .before .before .before .before .before .before .before .before .before .before .before .before .before .before .pre .1 .1) _ a (c .before .before .zero-u16 .ensures) (c .before .before .before .before .before .before .before .before .before .before .advance .kept .1 .1 .1 .1 .1 .1 .1 .1 .1 .1 .0 ∙ inv .0 .long)
 
 enum-known-going-2 : tie.Need-enum-known-going-2 Inv-loop μ-loop
 enum-known-going-2 c = search needs
@@ -89,7 +89,7 @@ walk-spec =
     same-length-2
     returns
     enum-told
-    zero-cells-requires
+    zero-u16-requires
     same-length-3
     same-length-4
     returns-2

@@ -4,7 +4,7 @@ use Prim.Native.Nat.{ℕ, _+_, _-_, _≤_}
 use mathlib.Core.Path.{_≡_, refl, ap, sym, _∙_}
 use mathlib.Core.List.{List, [], _++_}
 use native.Mathlib.Omega.{arith}
-use lib.ListN.{length, take, drop, replicate, take-append-drop}
+use lib.ListN.{length, take, drop, take-append-drop}
 use lib.Seq.{length-take-le}
 use Rattle.stacks.specs.System.{Rule}
 use Rattle.automata.specs.Saturation.{Saturated}
@@ -70,13 +70,13 @@ module _ (rules : List Rule) (T : Saturated) (most : ℕ) where
               ∙ ap (λ (x : Outcome). padded (length trace) (x .trace)) (sym o);
         }
 
-    pub ends-stuck : {last : List ℕ} (n : ℕ) → outcomeFrom rules T most v cells′ trace′ ≡ noOutcome → last ≡ replicate n 0 → n ≡ length trace
+    pub ends-stuck : {last : List ℕ} (n : ℕ) → outcomeFrom rules T most v cells′ trace′ ≡ noOutcome → last ≡ zeros n → n ≡ length trace
         → Leaves (guided rules T most (length trace) [] (walkIn w cells)) (length trace) NoRun last
-    unfolding noOutcome padded zeros
+    unfolding noOutcome padded
     ends-stuck n e l k =
         let o = whole-is ∙ e in
         let z : n ≡ length trace - 0 = omega arith in
         record {
           reply-is = sym (ap (λ (x : Outcome). x .reply) o);
-          trace-is = l ∙ ap (λ (j : ℕ). replicate j 0) z ∙ ap (λ (x : Outcome). padded (length trace) (x .trace)) (sym o);
+          trace-is = l ∙ ap zeros z ∙ ap (λ (x : Outcome). padded (length trace) (x .trace)) (sym o);
         }

@@ -7,7 +7,7 @@ use native.Mathlib.Omega.{arith}
 use lib.ListN.{length}
 use Rattle.words.specs.Sets.{members}
 use Rattle.tables.specs.Held.{automatonOf}
-use Rattle.readings.specs.Joining.{asJoins}
+use Rattle.joins.specs.Joining.{asJoins}
 use Rattle.readings.specs.Offers.Laws.{collects-over}
 use Rattle.readings.specs.Edges.{EdgesUpTo, edges-none, edges-yes, edges-no, edges-all, edges-left, edges-end}
 use Rattle.readings.specs.Remembering.{Remembers}

@@ -7,7 +7,7 @@ use native.Mathlib.Omega.{arith}
 use lib.ListN.{length}
 use Rattle.words.specs.Sets.{members}
 use Rattle.tables.specs.Held.{automatonOf}
-use Rattle.readings.specs.Joining.{asJoins}
+use Rattle.joins.specs.Joining.{asJoins, asJoined}
 use Rattle.readings.specs.Offers.Laws.{collects-over}
 use Rattle.readings.specs.Edges.{collects-edges}
 use Rattle.readings.specs.Remembering.{Remembers}
@@ -22,7 +22,7 @@ use Rattle.readings.proofs.+read_from+read_moves.Lts-read_from as read-
 use Rattle.readings.proofs.read_moves.Reads as read-moves
 use Rattle.readings.proofs.read_moves.Kinds as read-moves-kinds
 use Rattle.readings.proofs.+read_from+read_moves.Lts-read_moves as read-moves-lts
-use Rattle.readings.proofs.candidate.Reads as candidate-reads
+use Rattle.joins.proofs.candidate.Reads as candidate-reads
 use Rattle.readings.proofs.offer.Reads as offer-reads
 use Rattle.readings.proofs.outcome.Reads as outcome-reads
 use Rattle.remembered.proofs.read_state.Reads as read-state-reads
@@ -151,8 +151,24 @@ read-moves-move-at-requires t c κs = omega (arith, (c .before .before .before .
 read-moves-candidate-requires : (t : ℕ) → read-moves-lts.Need-candidate-requires (read-moves-claims t) (read-moves-at t) read-moves.Post read-moves-Inv-loop read-moves-μ-loop
 read-moves-candidate-requires t c κs = search needs
 
+read-moves-enum-known-more : (t : ℕ) → read-moves-lts.Need-enum-known-more (read-moves-claims t) (read-moves-at t) read-moves.Post read-moves-Inv-loop read-moves-μ-loop
+read-moves-enum-known-more t c = search needs
+
 read-moves-read-from-requires : (t : ℕ) → read-moves-lts.Need-read-from-requires (read-moves-claims t) (read-moves-at t) read-moves.Post read-moves-Inv-loop read-moves-μ-loop
-read-moves-read-from-requires t c κs = (omega (arith, (c .before .before .before .before .before .before .before .before .before .before .before .before .before .pre .0)), ((c .before .before .before .before .before .before .before .before .before .before .before .before .before .pre .1 .0), (c .before .before .before .before .before .before .before .before .before .before .before .before .before .pre .1 .1), record { room-lent = omega (arith, (c .before .before .before .before .before .before .before .before .before .before .before .before .before .pre .1 .2 .room-lent), (c .before .before .before .before .before .before .before .loop .inv .2)); number = (c .before .before .before .before .before .before .before .loop .inv .1 .offered .number) }, (c .before .before .before .before .before .before .before .loop .inv .3)))
+read-moves-read-from-requires t c κs =
+    let turn = c .before .before .before .before .before .before .before .before in
+    let start = turn .before .before .before .before .before .before in (
+      omega (arith, start .pre .0),
+      (
+        start .pre .1 .0,
+        start .pre .1 .1,
+        record { room-lent = omega (arith, start .pre .1 .2 .room-lent, turn .loop .inv .2); number = turn .loop .inv .1 .offered .number },
+        turn .loop .inv .3,
+      ),
+    )
+
+read-moves-enum-told : (t : ℕ) → read-moves-lts.Need-enum-told (read-moves-claims t) (read-moves-at t) read-moves.Post read-moves-Inv-loop read-moves-μ-loop
+read-moves-enum-told t c = search needs
 
 read-moves-add-i : (t : ℕ) → read-moves-lts.Need-add-i (read-moves-claims t) (read-moves-at t) read-moves.Post read-moves-Inv-loop read-moves-μ-loop
 read-moves-add-i t c = search needs
@@ -161,10 +177,28 @@ read-moves-loop-less : (t : ℕ) → read-moves-lts.Need-loop-less (read-moves-c
 read-moves-loop-less t c = search needs
 
 read-moves-loop-again : (t : ℕ) → read-moves-lts.Need-loop-again (read-moves-claims t) (read-moves-at t) read-moves.Post read-moves-Inv-loop read-moves-μ-loop
-read-moves-loop-again t c = ⊎-elim
-    (λ w. (omega (arith, (c .before .before .before .loop-test .taken)), read-yes (c .before .before .before .before .before .before .before .before .before .before .args .z) _ _ _ _ _ _ _ _ _ _ _ _ _ _ _ _ _ _ (c .before .before .before .before .loop .inv .1) (c .before .before .before .loop-test .taken) (c .before .before .move-at .ensures) (c .before .candidate .ensures) _ _ _ _ (w .0 .taken) (w .4 .ensures .0) (w .4 .kept .1 .1 .1 .1 .1 .1 .1 .1 .1 .1 .1 .0) (w .10) (w .11), ap length (w .10) ∙ (w .4 .kept .1 .1 .1 .1 .1 .1 .1 .1 .1 .1 .1 .0) ∙ (c .before .before .before .before .loop .inv .2), remembers-same (w .4 .ensures .1) (w .9) (w .10) (w .11), ap length (w .9) ∙ (w .4 .kept .1 .1 .1 .1 .1 .1 .1 .1 .1 .1 .0) ∙ (c .before .before .before .before .loop .inv .4)))
-    (λ w. (omega (arith, (c .before .before .before .loop-test .taken)), read-no (c .before .before .before .before .before .before .before .before .before .before .args .z) _ _ _ _ _ _ _ _ _ _ _ _ _ _ _ _ _ _ (c .before .before .before .before .loop .inv .1) (c .before .before .before .loop-test .taken) (c .before .before .move-at .ensures) (c .before .candidate .ensures) _ _ (w .0 .left) (w .2) (w .3), ap length (w .2) ∙ (c .before .before .before .before .loop .inv .2), remembers-same (c .before .before .before .before .loop .inv .3) (w .1) (w .2) (w .3), ap length (w .1) ∙ (c .before .before .before .before .loop .inv .4)))
-    (c .if1 .came)
+read-moves-loop-again t c =
+    let turn = c .before .before .before .before in
+    let z = turn .before .before .before .before .before .before .args .z in
+    let more = turn .loop .inv in
+    let within = c .before .before .before .loop-test .taken in
+    let row = c .before .before .move-at .ensures in
+    let joined = c .before .candidate in ⊎-elim
+    (λ w. (
+      omega (arith, within),
+      read-yes z _ _ _ _ _ _ _ _ _ _ _ _ _ _ _ _ _ (more .1) within row (joined .ensures) _ _ _ _ _ (ap asJoined (w .1 .given .1)) (w .5 .ensures .0) (w .5 .kept .1 .1 .1 .1 .1 .1 .1 .1 .1 .1 .1 .0) (w .11) (w .12),
+      ap length (w .11) ∙ w .5 .kept .1 .1 .1 .1 .1 .1 .1 .1 .1 .1 .1 .0 ∙ more .2,
+      remembers-same (w .5 .ensures .1) (w .10) (w .11) (w .12),
+      ap length (w .10) ∙ w .5 .kept .1 .1 .1 .1 .1 .1 .1 .1 .1 .1 .0 ∙ more .4,
+    ))
+    (λ w. (
+      omega (arith, within),
+      read-no z _ _ _ _ _ _ _ _ _ _ _ _ _ _ _ _ _ (more .1) within row (joined .ensures) _ _ (ap asJoined (w .1 .given .1)) (w .3) (w .4),
+      ap length (w .3) ∙ more .2,
+      remembers-same (more .3) (w .2) (w .3) (w .4),
+      ap length (w .2) ∙ more .4,
+    ))
+    (c .match .came)
 
 read-moves-same-length : (t : ℕ) → read-moves-lts.Need-same-length (read-moves-claims t) (read-moves-at t) read-moves.Post read-moves-Inv-loop read-moves-μ-loop
 read-moves-same-length t c = (c .before .loop .inv .4)
@@ -203,7 +237,9 @@ pub +read-from+read-moves-spec : {M : Type 1} → statement M
     (read-moves-loop-holds t)
     (read-moves-move-at-requires t)
     (read-moves-candidate-requires t)
+    (read-moves-enum-known-more t)
     (read-moves-read-from-requires t)
+    (read-moves-enum-told t)
     (read-moves-add-i t)
     (read-moves-loop-less t)
     (read-moves-loop-again t)

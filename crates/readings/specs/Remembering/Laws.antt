@@ -21,7 +21,7 @@ use Rattle.tables.specs.Rows.Laws.{length-putRow, put-same, put-other}
 use Rattle.tables.specs.Pending.{pendingIn}
 use Rattle.remembered.specs.declared.State.{State}
 use Rattle.remembered.specs.States.{stateWords, stateRow, readState, edgesState, same-states}
-use Rattle.readings.specs.Joining.{theJoins}
+use Rattle.joins.specs.Joining.{theJoins}
 use Rattle.readings.specs.Offers.{offerAll, Collects}
 use Rattle.readings.specs.Offers.Again.{offerAll-both, offerAll-twice}
 use Rattle.readings.specs.Readings.{readResults, edgeResults}

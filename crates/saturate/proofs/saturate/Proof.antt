@@ -9,11 +9,11 @@ use borrow.Author.Needs.{needs}
 use Rattle.saturate.proofs.saturate.Statement.{statement}
 use Rattle.saturate.proofs.saturate.Tie as tie
 
-zero-requires : tie.Need-zero-requires
-zero-requires c κs = search needs
+zero-u64-requires : tie.Need-zero-u64-requires
+zero-u64-requires c κs = search needs
 
-zero-requires-2 : tie.Need-zero-requires-2
-zero-requires-2 c κs = search needs
+zero-u64-requires-2 : tie.Need-zero-u64-requires-2
+zero-u64-requires-2 c κs = search needs
 
 check-case-requires : tie.Need-check-case-requires
 check-case-requires c κs = search needs
@@ -28,7 +28,7 @@ same-length-2 : tie.Need-same-length-2
 same-length-2 c = search needs
 
 returns : tie.Need-returns
-returns c = meets _ _ (ends-refused (c .before .before .before .before .before .before .before .before .before .before .before .before .before .before .args .case .now) (c .before .before .before .before .before .before .before .before .before .before .before .before .before .before .args .moves .now) (c .before .before .before .before .before .before .before .before .before .before .before .before .before .before .args .entries .now) _ _ _ _ (c .refused .ensures) (c .before .before .check-case .ensures) (c .before .if1 .taken) (c .before .before .before .before .before .before .before .before .before .zero .ensures) (c .before .before .before .before .before .zero2 .ensures))
+returns c = meets _ _ (ends-refused (c .before .before .before .before .before .before .before .before .before .before .before .before .before .before .args .case .now) (c .before .before .before .before .before .before .before .before .before .before .before .before .before .before .args .moves .now) (c .before .before .before .before .before .before .before .before .before .before .before .before .before .before .args .entries .now) _ _ _ _ (c .refused .ensures) (c .before .before .check-case .ensures) (c .before .if1 .taken) (c .before .before .before .before .before .before .before .before .before .zero-u64 .ensures) (c .before .before .before .before .before .zero-u642 .ensures))
 
 slice-aggregate-saturate-case : tie.Need-slice-aggregate-saturate-case
 slice-aggregate-saturate-case c = search needs
@@ -40,41 +40,41 @@ slice-aggregate-saturate-case-3 : tie.Need-slice-aggregate-saturate-case-3
 slice-aggregate-saturate-case-3 c = search needs
 
 saturate-case-requires : tie.Need-saturate-case-requires
-saturate-case-requires c κs = (sym (c .before .before .before .before .before .before .check-case .ensures) ∙ (c .before .before .before .before .before .if1 .left), record { entries-zero = zero-self _ _ (c .before .before .before .before .before .before .before .before .before .zero2 .ensures) (c .before .before .before .before .before .before .before .before .before .zero2 .kept .0); moves-zero = zero-self _ _ (c .before .before .before .before .before .before .before .before .before .before .before .before .before .zero .ensures) (c .before .before .before .before .before .before .before .before .before .before .before .before .before .zero .kept .0); inner-room = omega arith; pending-room = omega arith; sizes-room = omega arith })
+saturate-case-requires c κs = (sym (c .before .before .before .before .before .before .check-case .ensures) ∙ (c .before .before .before .before .before .if1 .left), record { entries-zero = zero-self _ _ (c .before .before .before .before .before .before .before .before .before .zero-u642 .ensures) (c .before .before .before .before .before .before .before .before .before .zero-u642 .kept .0); moves-zero = zero-self _ _ (c .before .before .before .before .before .before .before .before .before .before .before .before .before .zero-u64 .ensures) (c .before .before .before .before .before .before .before .before .before .before .before .before .before .zero-u64 .kept .0); inner-room = omega arith; pending-room = omega arith; sizes-room = omega arith })
 
-zero-requires-3 : tie.Need-zero-requires-3
-zero-requires-3 c κs = search needs
+zero-u64-requires-3 : tie.Need-zero-u64-requires-3
+zero-u64-requires-3 c κs = search needs
 
-zero-requires-4 : tie.Need-zero-requires-4
-zero-requires-4 c κs = search needs
+zero-u64-requires-4 : tie.Need-zero-u64-requires-4
+zero-u64-requires-4 c κs = search needs
 
 refused-requires-2 : tie.Need-refused-requires-2
 refused-requires-2 c κs = search needs
 
 same-length-3 : tie.Need-same-length-3
-same-length-3 c = (c .before .before .before .before .before .before .before .zero3 .kept .0) ∙ (c .before .before .before .before .before .before .before .before .before .before .before .before .before .before .before .before .before .before .before .saturate-case .kept .1 .1 .1 .0) ∙ (c .before .before .before .before .before .before .before .before .before .before .before .before .before .before .before .before .before .before .before .before .before .before .before .before .before .before .before .before .before .before .before .before .before .zero .kept .0)
+same-length-3 c = (c .before .before .before .before .before .before .before .zero-u643 .kept .0) ∙ (c .before .before .before .before .before .before .before .before .before .before .before .before .before .before .before .before .before .before .before .saturate-case .kept .1 .1 .1 .0) ∙ (c .before .before .before .before .before .before .before .before .before .before .before .before .before .before .before .before .before .before .before .before .before .before .before .before .before .before .before .before .before .before .before .before .before .zero-u64 .kept .0)
 
 same-length-4 : tie.Need-same-length-4
-same-length-4 c = (c .before .before .before .zero4 .kept .0) ∙ (c .before .before .before .before .before .before .before .before .before .before .before .before .before .before .before .before .before .before .before .saturate-case .kept .1 .1 .0) ∙ (c .before .before .before .before .before .before .before .before .before .before .before .before .before .before .before .before .before .before .before .before .before .before .before .before .before .before .before .before .before .zero2 .kept .0)
+same-length-4 c = (c .before .before .before .zero-u644 .kept .0) ∙ (c .before .before .before .before .before .before .before .before .before .before .before .before .before .before .before .before .before .before .before .saturate-case .kept .1 .1 .0) ∙ (c .before .before .before .before .before .before .before .before .before .before .before .before .before .before .before .before .before .before .before .before .before .before .before .before .before .before .before .before .before .zero-u642 .kept .0)
 
 returns-2 : tie.Need-returns-2
-returns-2 c = meets _ _ (ends-large (c .before .before .before .before .before .before .before .before .before .before .before .before .before .before .before .before .before .before .before .before .before .before .before .before .before .before .before .before .before .before .before .before .before .before .before .before .before .before .args .case .now) (c .before .before .before .before .before .before .before .before .before .before .before .before .before .before .before .before .before .before .before .before .before .before .before .before .before .before .before .before .before .before .before .before .before .before .before .before .before .before .args .moves .now) (c .before .before .before .before .before .before .before .before .before .before .before .before .before .before .before .before .before .before .before .before .before .before .before .before .before .before .before .before .before .before .before .before .before .before .before .before .before .before .args .entries .now) _ (c .before .before .before .before .before .before .before .before .before .before .before .before .before .before .before .before .before .before .before .before .before .before .before .before .before .before .check-case .ensures) (c .before .before .before .before .before .before .before .before .before .before .before .before .before .before .before .before .before .before .before .before .before .before .before .before .before .if1 .left) _ _ (c .before .before .before .before .before .before .before .before .before .before .before .before .before .before .before .before .before .before .before .before .before .before .before .before .before .before .before .before .before .before .before .before .before .zero .kept .0) (c .before .before .before .before .before .before .before .before .before .before .before .before .before .before .before .before .before .before .before .before .before .before .before .before .before .before .before .before .before .zero2 .kept .0) _ _ _ _ _ _ _ (c .before .before .before .before .before .before .before .before .before .before .before .before .before .before .before .before .before .before .before .saturate-case .ensures) _ _ _ (not-true (c .before .before .before .before .before .before .before .before .before .before .before .before .before .before .before .before .before .before .before .saturate-case .result .fits) (c .before .before .before .before .before .before .before .before .before .if2 .taken)) (c .refused2 .ensures) (c .before .before .before .before .before .before .before .zero3 .ensures) (c .before .before .before .zero4 .ensures) ((c .before .before .before .before .before .before .before .before .before .before .before .before .before .before .before .before .before .before .before .saturate-case .kept .1 .1 .1 .0) ∙ (c .before .before .before .before .before .before .before .before .before .before .before .before .before .before .before .before .before .before .before .before .before .before .before .before .before .before .before .before .before .before .before .before .before .zero .kept .0)) ((c .before .before .before .before .before .before .before .before .before .before .before .before .before .before .before .before .before .before .before .saturate-case .kept .1 .1 .0) ∙ (c .before .before .before .before .before .before .before .before .before .before .before .before .before .before .before .before .before .before .before .before .before .before .before .before .before .before .before .before .before .zero2 .kept .0)))
+returns-2 c = meets _ _ (ends-large (c .before .before .before .before .before .before .before .before .before .before .before .before .before .before .before .before .before .before .before .before .before .before .before .before .before .before .before .before .before .before .before .before .before .before .before .before .before .before .args .case .now) (c .before .before .before .before .before .before .before .before .before .before .before .before .before .before .before .before .before .before .before .before .before .before .before .before .before .before .before .before .before .before .before .before .before .before .before .before .before .before .args .moves .now) (c .before .before .before .before .before .before .before .before .before .before .before .before .before .before .before .before .before .before .before .before .before .before .before .before .before .before .before .before .before .before .before .before .before .before .before .before .before .before .args .entries .now) _ (c .before .before .before .before .before .before .before .before .before .before .before .before .before .before .before .before .before .before .before .before .before .before .before .before .before .before .check-case .ensures) (c .before .before .before .before .before .before .before .before .before .before .before .before .before .before .before .before .before .before .before .before .before .before .before .before .before .if1 .left) _ _ (c .before .before .before .before .before .before .before .before .before .before .before .before .before .before .before .before .before .before .before .before .before .before .before .before .before .before .before .before .before .before .before .before .before .zero-u64 .kept .0) (c .before .before .before .before .before .before .before .before .before .before .before .before .before .before .before .before .before .before .before .before .before .before .before .before .before .before .before .before .before .zero-u642 .kept .0) _ _ _ _ _ _ _ (c .before .before .before .before .before .before .before .before .before .before .before .before .before .before .before .before .before .before .before .saturate-case .ensures) _ _ _ (not-true (c .before .before .before .before .before .before .before .before .before .before .before .before .before .before .before .before .before .before .before .saturate-case .result .fits) (c .before .before .before .before .before .before .before .before .before .if2 .taken)) (c .refused2 .ensures) (c .before .before .before .before .before .before .before .zero-u643 .ensures) (c .before .before .before .zero-u644 .ensures) ((c .before .before .before .before .before .before .before .before .before .before .before .before .before .before .before .before .before .before .before .saturate-case .kept .1 .1 .1 .0) ∙ (c .before .before .before .before .before .before .before .before .before .before .before .before .before .before .before .before .before .before .before .before .before .before .before .before .before .before .before .before .before .before .before .before .before .zero-u64 .kept .0)) ((c .before .before .before .before .before .before .before .before .before .before .before .before .before .before .before .before .before .before .before .saturate-case .kept .1 .1 .0) ∙ (c .before .before .before .before .before .before .before .before .before .before .before .before .before .before .before .before .before .before .before .before .before .before .before .before .before .before .before .before .before .zero-u642 .kept .0)))
 
 same-length-5 : tie.Need-same-length-5
-same-length-5 c = (c .before .before .before .before .before .before .before .before .before .before .saturate-case .kept .1 .1 .1 .0) ∙ (c .before .before .before .before .before .before .before .before .before .before .before .before .before .before .before .before .before .before .before .before .before .before .before .before .zero .kept .0)
+same-length-5 c = (c .before .before .before .before .before .before .before .before .before .before .saturate-case .kept .1 .1 .1 .0) ∙ (c .before .before .before .before .before .before .before .before .before .before .before .before .before .before .before .before .before .before .before .before .before .before .before .before .zero-u64 .kept .0)
 
 same-length-6 : tie.Need-same-length-6
-same-length-6 c = (c .before .before .before .before .before .before .before .before .before .before .saturate-case .kept .1 .1 .0) ∙ (c .before .before .before .before .before .before .before .before .before .before .before .before .before .before .before .before .before .before .before .before .zero2 .kept .0)
+same-length-6 c = (c .before .before .before .before .before .before .before .before .before .before .saturate-case .kept .1 .1 .0) ∙ (c .before .before .before .before .before .before .before .before .before .before .before .before .before .before .before .before .before .before .before .before .zero-u642 .kept .0)
 
 returns-3 : tie.Need-returns-3
-returns-3 c = meets _ _ (ends-filled (c .before .before .before .before .before .before .before .before .before .before .before .before .before .before .before .before .before .before .before .before .before .before .before .before .before .before .before .before .before .args .case .now) (c .before .before .before .before .before .before .before .before .before .before .before .before .before .before .before .before .before .before .before .before .before .before .before .before .before .before .before .before .before .args .moves .now) (c .before .before .before .before .before .before .before .before .before .before .before .before .before .before .before .before .before .before .before .before .before .before .before .before .before .before .before .before .before .args .entries .now) _ (c .before .before .before .before .before .before .before .before .before .before .before .before .before .before .before .before .before .check-case .ensures) (c .before .before .before .before .before .before .before .before .before .before .before .before .before .before .before .before .if1 .left) _ _ (c .before .before .before .before .before .before .before .before .before .before .before .before .before .before .before .before .before .before .before .before .before .before .before .before .zero .kept .0) (c .before .before .before .before .before .before .before .before .before .before .before .before .before .before .before .before .before .before .before .before .zero2 .kept .0) _ _ _ _ _ _ _ (c .before .before .before .before .before .before .before .before .before .before .saturate-case .ensures) (not-false (c .before .before .before .before .before .before .before .before .before .before .saturate-case .result .fits) (c .if2 .left)) ((c .before .before .before .before .before .before .before .before .before .before .saturate-case .kept .1 .1 .1 .0) ∙ (c .before .before .before .before .before .before .before .before .before .before .before .before .before .before .before .before .before .before .before .before .before .before .before .before .zero .kept .0)) ((c .before .before .before .before .before .before .before .before .before .before .saturate-case .kept .1 .1 .0) ∙ (c .before .before .before .before .before .before .before .before .before .before .before .before .before .before .before .before .before .before .before .before .zero2 .kept .0)))
+returns-3 c = meets _ _ (ends-filled (c .before .before .before .before .before .before .before .before .before .before .before .before .before .before .before .before .before .before .before .before .before .before .before .before .before .before .before .before .before .args .case .now) (c .before .before .before .before .before .before .before .before .before .before .before .before .before .before .before .before .before .before .before .before .before .before .before .before .before .before .before .before .before .args .moves .now) (c .before .before .before .before .before .before .before .before .before .before .before .before .before .before .before .before .before .before .before .before .before .before .before .before .before .before .before .before .before .args .entries .now) _ (c .before .before .before .before .before .before .before .before .before .before .before .before .before .before .before .before .before .check-case .ensures) (c .before .before .before .before .before .before .before .before .before .before .before .before .before .before .before .before .if1 .left) _ _ (c .before .before .before .before .before .before .before .before .before .before .before .before .before .before .before .before .before .before .before .before .before .before .before .before .zero-u64 .kept .0) (c .before .before .before .before .before .before .before .before .before .before .before .before .before .before .before .before .before .before .before .before .zero-u642 .kept .0) _ _ _ _ _ _ _ (c .before .before .before .before .before .before .before .before .before .before .saturate-case .ensures) (not-false (c .before .before .before .before .before .before .before .before .before .before .saturate-case .result .fits) (c .if2 .left)) ((c .before .before .before .before .before .before .before .before .before .before .saturate-case .kept .1 .1 .1 .0) ∙ (c .before .before .before .before .before .before .before .before .before .before .before .before .before .before .before .before .before .before .before .before .before .before .before .before .zero-u64 .kept .0)) ((c .before .before .before .before .before .before .before .before .before .before .saturate-case .kept .1 .1 .0) ∙ (c .before .before .before .before .before .before .before .before .before .before .before .before .before .before .before .before .before .before .before .before .zero-u642 .kept .0)))
 
 pub saturate-spec : {M : Type 1} → statement M
 saturate-spec =
     tie.close
     (tie.spec
-    zero-requires
-    zero-requires-2
+    zero-u64-requires
+    zero-u64-requires-2
     check-case-requires
     refused-requires
     same-length
@@ -84,8 +84,8 @@ saturate-spec =
     slice-aggregate-saturate-case-2
     slice-aggregate-saturate-case-3
     saturate-case-requires
-    zero-requires-3
-    zero-requires-4
+    zero-u64-requires-3
+    zero-u64-requires-4
     refused-requires-2
     same-length-3
     same-length-4

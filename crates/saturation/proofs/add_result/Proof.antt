@@ -15,20 +15,20 @@ same-length c = search needs
 returns : tie.Need-returns
 returns c = added-over (c .before .before .before .before .before .before .before .args .z) _ _ _ _ _ _ (c .before .before .before .enter .ensures) (c .before .before .before .before .before .before .before .pre .0 .entries-few) (c .if1 .taken)
 
-add-t14 : tie.Need-add-t14
-add-t14 c = search needs
+add-larger : tie.Need-add-larger
+add-larger c = search needs
 
 put-move-requires : tie.Need-put-move-requires
 put-move-requires c κs = search needs
 
-add-larger : tie.Need-add-larger
-add-larger c = search needs
+add-larger-2 : tie.Need-add-larger-2
+add-larger-2 c = search needs
 
 larger-requires : tie.Need-larger-requires
 larger-requires c κs = search needs
 
-add-t20 : tie.Need-add-t20
-add-t20 c = search needs
+add-t21 : tie.Need-add-t21
+add-t21 c = search needs
 
 same-length-2 : tie.Need-same-length-2
 same-length-2 c = search needs
@@ -46,11 +46,11 @@ add-result-spec =
     enter-requires
     same-length
     returns
-    add-t14
-    put-move-requires
     add-larger
+    put-move-requires
+    add-larger-2
     larger-requires
-    add-t20
+    add-t21
     same-length-2
     same-length-3
     returns-2)

@@ -10,14 +10,20 @@ use mathlib.Core.List.{List·Memᴰ, List·Memᴰ·head, List·Memᴰ·tail, Lis
 use mathlib.Core.List.{Memᴰ·append-left, Memᴰ·append-right, Memᴰ·cast}
 use native.Mathlib.Nat.{not-suc-le-zero, le-of-suc-le-suc, zero-add, add-zero}
 use native.Mathlib.Omega.{arith}
-use lib.ListN.{length, getD, getElem?, take, length-append, List·getD-append}
+use lib.ListN.{length, getD, getElem?, take, length-append, length-replicate, List·getD-append}
 use lib.Seq.{take-suc, length-take-le, getD-at}
 use lib.Dec.{ltb}
 use borrow.Author.Tests.{ltb-true, ltb-false}
 use Rattle.words.specs.Order.{rising, risingFrom}
 use Rattle.words.specs.Order.Laws.{less-one, risingFrom-cons, rising-numbers}
 pub use Rattle.words.specs.Tests.{by-test, and-left, and-right}
-use Rattle.words.specs.Lists.{each, when, only, every, some-of, first, placesFrom, places}
+use Rattle.words.specs.Lists.{zeros, each, when, only, every, some-of, first, placesFrom, places}
+
+-- ---- zeros
+
+pub length-zeros : (n : ℕ) → length (zeros n) ≡ n
+unfolding zeros
+length-zeros n = length-replicate n 0
 
 -- ---- each
 

@@ -1,24 +1,28 @@
--- `judge::zero_bytes` meets its contract.
+-- `zeroing::zero_u16` meets its contract.
 -- Assumes nothing.
 use Prim.Native.Nat.{_-_}
 use native.Mathlib.Omega.{arith}
 use lib.ListN.{length}
+use Rattle.zeroing.specs.Zeroed.{Zeroed}
+use Rattle.zeroing.specs.Zeroed.Laws.{zeroed-none, zeroed-more, zeroed-all}
 use borrow.Author.Needs.{needs}
-use Rattle.tables.specs.Searches.{Zeroed, zeroed-none, zeroed-more, zeroed-all}
-use Rattle.judge.proofs.zero_bytes.Statement.{statement}
-use Rattle.judge.proofs.zero_bytes.Tie as tie
+use Rattle.zeroing.proofs.zero_u16.Statement.{statement}
+use Rattle.zeroing.proofs.zero_u16.Tie as tie
 
 abbrev Inv-loop : tie.InvT-loop
-Inv-loop b₀ i₀ b i = Zeroed b₀ b i
+Inv-loop t₀ i₀ t i = Zeroed t₀ t i
 
 abbrev μ-loop : tie.MeasureT-loop
-μ-loop b₀ i₀ b i = length b₀ - i
+μ-loop t₀ i₀ t i = length t₀ - i
 
 loop-holds : tie.Need-loop-holds Inv-loop μ-loop
 loop-holds c = zeroed-none _
 
-slice-write-b : tie.Need-slice-write-b Inv-loop μ-loop
-slice-write-b c = search needs
+mul-t : tie.Need-mul-t Inv-loop μ-loop
+mul-t c = search needs
+
+slice-write-t : tie.Need-slice-write-t Inv-loop μ-loop
+slice-write-t c = search needs
 
 add-i : tie.Need-add-i Inv-loop μ-loop
 add-i c = search needs
@@ -35,14 +39,15 @@ same-length c = c .before .loop .inv .long
 returns : tie.Need-returns Inv-loop μ-loop
 returns c = zeroed-all _ _ _ (c .before .loop .inv) (c .loop-test .left)
 
-pub zero-bytes-spec : {M : Type 1} → statement M
-zero-bytes-spec =
+pub zero-u16-spec : {M : Type 1} → statement M
+zero-u16-spec =
     tie.close
     (tie.spec
     Inv-loop
     μ-loop
     loop-holds
-    slice-write-b
+    mul-t
+    slice-write-t
     add-i
     loop-less
     loop-again

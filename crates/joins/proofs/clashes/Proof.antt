@@ -1,9 +1,9 @@
--- `readings::clashes` meets its contract.
+-- `joins::clashes` meets its contract.
 -- Assumes nothing.
 use borrow.Author.Tests.{eq-eqb, ne-eqb}
 use Rattle.automata.specs.Derivation.{clash}
-use Rattle.readings.proofs.clashes.Statement.{statement}
-use Rattle.readings.proofs.clashes.Tie as tie
+use Rattle.joins.proofs.clashes.Statement.{statement}
+use Rattle.joins.proofs.clashes.Tie as tie
 
 returns : tie.Need-returns
 unfolding clash

@@ -1,18 +1,18 @@
--- `readings::candidate` meets its contract.
+-- `joins::candidate` meets its contract.
 -- Assumes nothing.
 use borrow.Author.Tests.{eq-eqb, ne-eqb}
-use Rattle.readings.specs.Joining.{candidateOf, joinsIf}
 use borrow.Author.Needs.{needs}
-use Rattle.readings.proofs.candidate.Statement.{statement}
-use Rattle.readings.proofs.candidate.Tie as tie
+use Rattle.joins.specs.Joining.{candidateOf}
+use Rattle.joins.proofs.candidate.Statement.{statement}
+use Rattle.joins.proofs.candidate.Tie as tie
 
 returns : tie.Need-returns
-unfolding candidateOf joinsIf
-returns c = rw (ne-eqb _ _ (c .if1 .taken), candidateOf, joinsIf)
+unfolding candidateOf
+returns c = rw (ne-eqb _ _ (c .if1 .taken), candidateOf)
 
 returns-2 : tie.Need-returns-2
-unfolding candidateOf joinsIf
-returns-2 c = rw (eq-eqb _ _ (c .before .before .if1 .left), ne-eqb _ _ (c .if2 .taken), candidateOf, joinsIf)
+unfolding candidateOf
+returns-2 c = rw (eq-eqb _ _ (c .before .before .if1 .left), ne-eqb _ _ (c .if2 .taken), candidateOf)
 
 join-move-requires : tie.Need-join-move-requires
 join-move-requires c κs = search needs
