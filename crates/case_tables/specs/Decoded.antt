@@ -21,8 +21,8 @@ use Rattle.bytes_in.specs.Records.{recordAt, recordsFrom, records-split, from-l
 use Rattle.tables.specs.Rows.{firstOf, rowsIn, putRow}
 use Rattle.tables.specs.Rows.Laws.{length-rowsIn}
 use Rattle.tables.specs.Records.{edgeRow, entryRow, moveRow}
+use Rattle.tables.specs.Insertion.{Inserted}
 use Rattle.case_tables.specs.Written.{written, written-append, written-more, written-whole}
-use Rattle.case_tables.specs.Insertion.{Inserted}
 use Rattle.case_file.specs.Bodies.{entries-append}
 
 -- the inner edge that the bytes of an edge stand for
@@ -62,7 +62,7 @@ pub record MoreInner (h : Head) (x : EdgeBytes) (t t′ : List ℕ) (n r : ℕ) 
 pub more-entry : (h : Head) (x : EdgeBytes) (t : List ℕ) (n : ℕ) → x .state < h .P → MoreInner h x t t n n
 more-entry h x t n e = record { rows = sym (with-entry h x _ e); behind = refl; few = omega arith; kept = omega arith }
 
-pub more-inner : (h : Head) (x : EdgeBytes) (t t′ : List ℕ) (n r : ℕ) → h .P ≤ x .state → Inserted edgeRow choiceKey t t′ n r (innerEdge x)
+pub more-inner : (h : Head) (x : EdgeBytes) (t t′ : List ℕ) (n r : ℕ) → h .P ≤ x .state → Inserted edgeRow t t′ n r (innerEdge x)
     → MoreInner h x t t′ n r
 more-inner h x t t′ n r e i = record { rows = i .rows ∙ sym (with-inner h x _ e); behind = i .behind; few = i .few; kept = i .kept }
 

@@ -1,4 +1,3 @@
 pub mod Written
-pub mod Insertion
 pub mod Decoded
 pub mod Own

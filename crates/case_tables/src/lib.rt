@@ -4,84 +4,16 @@ ghost use mathlib.Core.Bool.{true};
 ghost use mathlib.Core.List.{[], _∷_, map};
 ghost use Prim.Native.Nat.{_<_, _≤_, _+_, _*_};
 ghost use lib.ListN.{length};
-ghost use Rattle.words.specs.Order.{less};
-ghost use Rattle.automata.specs.Automaton.{choiceKey};
 ghost use Rattle.files.specs.Bytes.{placed, records};
 ghost use Rattle.files.specs.Case.{caseBodies, edgeBytes, entriesOf, innerEdges, moveOf, ownOf};
-ghost use Rattle.tables.specs.Records.{asEdge, edgeRow, entryRow, moveRow};
+ghost use Rattle.tables.specs.Records.{edgeRow, entryRow, moveRow};
 ghost use Rattle.tables.specs.Held.{automatonOf};
 ghost use Rattle.case_records.specs.Values.{theHead, theEdge};
 ghost use Rattle.case_tables.specs.Written.{written};
-ghost use Rattle.case_tables.specs.Insertion.{Place, reachedAt, Moved, Inserted};
 ghost use Rattle.case_tables.specs.Decoded.{MoreInner};
 ghost use Rattle.case_tables.specs.Own.{Room};
 use case_records::Head;
 use tables::Table;
-
-// ---- sorted insertion of inner edges
-
-// The inner edge x comes before y by (state, order-1 state, S).
-fn edge_before(x: tables::Edge, y: tables::Edge) -> bool
-    ensures { λ r. ⌜ r ≡ less (choiceKey (asEdge x)) (choiceKey (asEdge y)) ⌝ }
-{
-    let s = case_records::key_before(x.s, y.s, false);
-    let first = case_records::key_before(x.first, y.first, s);
-    case_records::key_before(x.state, y.state, first)
-}
-
-// The number of leading rows, of the first n, that come before x.
-fn edge_place(t: &[u64], n: usize, x: tables::Edge) -> usize
-    requires { ⌜ n * 3 ≤ length (now t) ⌝ }
-    ensures { λ i. ⌜ Place edgeRow choiceKey (now (t .entry)) n (asEdge x) i ⌝ }
-{
-    let mut i: usize = 0;
-    while i < n {
-        if !edge_before(tables::edge_at(t, i), x) {
-            return i;
-        }
-        i += 1;
-    }
-    n
-}
-
-// Row i is one of the first n, and x does not come before it.
-fn edge_reached(t: &[u64], n: usize, i: usize, x: tables::Edge) -> bool
-    requires { ⌜ n * 3 ≤ length (now t) ⌝ }
-    ensures { λ r. ⌜ r ≡ reachedAt edgeRow choiceKey (now (t .entry)) n i (asEdge x) ⌝ }
-{
-    if n <= i {
-        return false;
-    }
-    !edge_before(x, tables::edge_at(t, i))
-}
-
-// Moves rows i and following, of the first n, each to the row after it.
-fn open_edge(t: &mut [u64], i: usize, n: usize)
-    requires { ⌜ (i ≤ n) × (n * 3 + 3 ≤ length (now t)) ⌝ }
-    ensures { λ _. ⌜ Moved edgeRow choiceKey (now (t .entry)) (now (t .exit)) n i ⌝ }
-{
-    let mut j = n;
-    while i < j {
-        let k = j - 1;
-        let x = tables::edge_at(t, k);
-        tables::put_edge(t, j, x);
-        j = k;
-    }
-}
-
-// Inserts x into the first n rows, which are sorted, unless it is there. Answers the number of rows then.
-fn insert_edge(t: &mut [u64], n: usize, x: tables::Edge) -> usize
-    requires { ⌜ n * 3 + 3 ≤ length (now t) ⌝ }
-    ensures { λ r. ⌜ Inserted edgeRow choiceKey (now (t .entry)) (now (t .exit)) n r (asEdge x) ⌝ }
-{
-    let i = edge_place(t, n, x);
-    if edge_reached(t, n, i, x) {
-        return n;
-    }
-    open_edge(t, i, n);
-    tables::put_edge(t, i, x);
-    n + 1
-}
 
 // ---- inner edges
 
@@ -98,7 +30,7 @@ fn add_inner(h: Head, e: case_records::Edge, t: &mut [u64], n: usize) -> usize
         first: e.second,
         s: e.others,
     };
-    insert_edge(t, n, x)
+    tables::insert_edge(t, n, x)
 }
 
 // Writes the inner edges among the n edges of the body, by (state, order-1 state, S). Answers their number.

@@ -1,8 +1,7 @@
--- The table before a move's round, and the entry that an order-1 state is, as the code holds them.
+-- The table before a move's round, as the code holds it.
 -- Assumes nothing.
 pub mod Laws
-use Prim.Native.Nat.{ℕ, min}
-use Rattle.automata.specs.Automaton.{Automaton, Entry, entryControl, entrySet}
+use Prim.Native.Nat.{min}
 use Rattle.automata.specs.Saturation.{Size}
 use Rattle.tables.specs.declared.Table.{Table}
 use Rattle.guided_step.specs.declared.Size.{Size as SizeWords}
@@ -21,7 +20,3 @@ tableUpTo z s =
       entries = min (s .entries) (z .entries);
       moves = min (s .moves) (z .moves);
     }
-
--- the entry that order-1 state r is, or the entry of zeros
-abbrev pub entryFor : Automaton → ℕ → Entry
-entryFor A r = record { control = entryControl A r; S = entrySet A r }

@@ -3,25 +3,24 @@ ghost use mathlib.Core.Path.{_≡_};
 ghost use mathlib.Core.List.{[]};
 ghost use Prim.Native.Nat.{_<_, _≤_, _+_, _*_};
 ghost use lib.ListN.{length, getD, replicate};
-ghost use Rattle.automata.specs.Automaton.{noEdge, noMove, moveAt};
+ghost use Rattle.automata.specs.Automaton.{noEdge, moveAt};
 ghost use Rattle.automata.specs.Derivation.{resultOf};
 ghost use Rattle.automata.specs.Saturation.{ownMoves, lastUpTo, before};
 ghost use Rattle.walks.specs.Guide.{noGuided, guidedAt, topOf, topOn};
 ghost use Rattle.tables.specs.Rows.{rowsIn, rowAt};
-ghost use Rattle.tables.specs.Records.{asMove, asResult, asEntry, moveRow};
-ghost use Rattle.tables.specs.Held.{automatonOf, tableOf, edgesIn, EdgesStand, EntriesStand, MovesStand};
+ghost use Rattle.tables.specs.Records.{asMove, asResult};
+ghost use Rattle.tables.specs.Held.{automatonOf, tableOf, edgesIn, EdgesStand, EntriesStand};
 ghost use Rattle.cell_memory.specs.Memory.{cellOf, guidedIn};
 ghost use Rattle.results.specs.Collecting.{rulesIn};
 ghost use Rattle.first_reading.specs.Words.{Stands};
 ghost use Rattle.first_derivation.specs.Derived.{FindsFirst, StatesSmall};
 ghost use Rattle.saturation.specs.Running.{theSize, sizeRow};
 ghost use Rattle.guided_step.specs.Walks.{walkIn, tipOf};
-ghost use Rattle.guided_step.specs.Earlier.{asSize, tableUpTo, entryFor};
+ghost use Rattle.guided_step.specs.Earlier.{asSize, tableUpTo};
 ghost use Rattle.guided_step.specs.Step.{saturatedIn, AtTop, NextIs};
 use cell_memory::Cell;
 use cell_steps::Top;
 use first_derivation::First;
-use tables::Entry;
 use tables::Move;
 use tables::Outcome;
 use tables::Table;
@@ -208,46 +207,12 @@ fn own_moves(sizes: &[u64], k: usize) -> u64
 
 // ---- the result that a move stands for
 
-// Move i, and the move of zeros where there is none.
-fn move_or_none(z: Table, moves: &[u64], i: u16) -> Move
-    requires { ⌜ MovesStand z (now moves) ⌝ }
-    ensures { λ r. ⌜ asMove r ≡ getD (rowsIn moveRow (z .moves) (now (moves .entry))) i noMove ⌝ }
-{
-    let k = i as usize;
-    if k < z.moves {
-        return tables::move_at(moves, k);
-    }
-    Move {
-        state: 0,
-        symbol: 0,
-        order: 0,
-        b: 0,
-        r: 0,
-    }
-}
-
-// The entry that order-1 state r is, and the entry of zeros where r is none.
-fn entry_for(z: Table, entries: &[u64], r: u64) -> Entry
-    requires { ⌜ EntriesStand z (now entries) ⌝ }
-    ensures { λ e. ⌜ asEntry e ≡ entryFor (tableOf z (now (entries .entry)) []) r ⌝ }
-{
-    let none = Entry { control: 0, s: 0 };
-    if r < z.states {
-        return none;
-    }
-    let k = (r - z.states) as usize;
-    if z.entries <= k {
-        return none;
-    }
-    tables::entry_at(entries, k)
-}
-
 // The result that a move stands for.
 fn result_of(z: Table, entries: &[u64], m: Move) -> Outcome
     requires { ⌜ EntriesStand z (now entries) ⌝ }
     ensures { λ x. ⌜ asResult x ≡ resultOf (tableOf z (now (entries .entry)) []) (asMove m) ⌝ }
 {
-    let e = entry_for(z, entries, m.state);
+    let e = tables::entry_for(z, entries, m.state);
     Outcome {
         control: e.control,
         s: e.s,
@@ -287,7 +252,7 @@ fn first_before(
     ensures small { λ r. ⌜ StatesSmall (before (saturatedIn z (now (inner .entry)) (now (entries .entry)) (now (moves .entry)) k (now (sizes .entry))) i) ⌝ }
 {
     let earlier = table_before(z, sizes, k, i);
-    let m = move_or_none(z, moves, i);
+    let m = tables::move_of(z, moves, i as usize);
     let x = result_of(z, entries, m);
     first_derivation::first_derivation(
         earlier,

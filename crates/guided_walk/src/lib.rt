@@ -28,19 +28,6 @@ use tables::Table;
 
 // ---- a step
 
-// The state of move `premise`, and 0 where there is none.
-fn state_of(z: Table, moves: &[u64], premise: u64) -> u64
-    requires { ⌜ MovesStand z (now moves) ⌝ }
-    ensures { λ r. ⌜ r ≡ moveAt (movesOnly z (now (moves .entry))) premise .state ⌝ }
-{
-    let i = premise as usize;
-    if i < z.moves {
-        let m = tables::move_at(moves, i);
-        return m.state;
-    }
-    0
-}
-
 // The number of entry `entry` as an edge.
 fn entry_edge(z: Table, entry: u64) -> u16
     requires { ⌜ (z .edges ≤ 64) × (entry < 1024) ⌝ }
@@ -64,12 +51,12 @@ fn by_move(z: Table, moves: &[u64], next: u64, premise: u64) -> Choice
     requires { ⌜ MovesStand z (now moves) × (z .edges ≤ 64) × (premise < 1024) × (moveAt (movesOnly z (now moves)) premise .state < 64) ⌝ }
     ensures { λ r. ⌜ r ≡ moveChoice (movesOnly z (now (moves .entry))) next premise ⌝ }
 {
-    let r = state_of(z, moves, premise);
+    let m = tables::move_of(z, moves, premise as usize);
     Choice {
-        state: r,
+        state: m.state,
         number: premise as u16,
         control: next,
-        edge: entry_edge(z, entry_number(z, r)),
+        edge: entry_edge(z, entry_number(z, m.state)),
     }
 }
 

@@ -11,13 +11,14 @@ use borrow.Author.Tests.{eq-eqb, ne-eqb}
 use Rattle.words.specs.Sets.{single}
 use Rattle.words.specs.Lists.{when}
 use Rattle.automata.specs.Automaton.{Entry, noEntry, entrySet}
+use Rattle.automata.specs.Automaton.Laws.{entryAt-set}
 use Rattle.automata.specs.Derivation.{Result, controlEntries}
 use Rattle.tables.specs.declared.Table.{Table}
 use Rattle.tables.specs.Rows.{rowAt, rowsIn}
 use Rattle.tables.specs.Rows.Laws.{length-rowsIn, getD-rowsIn}
 use Rattle.tables.specs.Records.{entryRow}
 use Rattle.tables.specs.Held.{tableOf}
-use Rattle.tables.specs.Held.Laws.{entryAt-there, some-set}
+use Rattle.tables.specs.Held.Laws.{entryAt-there}
 use Rattle.readings.specs.Readings.{resultTo}
 use Rattle.readings.specs.Offers.{Collects}
 use Rattle.readings.specs.Offers.Laws.{Passed, passed-none, passed-more, passed-all, collects-same, collects-none}
@@ -56,7 +57,7 @@ module _ (z : Table) (entries moves : List ℕ) (p a : ℕ) (k : EntryPremise) (
   entry-list i h =
       let back : z .states + i - z .states ≡ i = omega arith in
       let set : entrySet (tableOf z entries moves) (z .states + i) ≡ rowAt entryRow entries i .S =
-      some-set (tableOf z entries moves) (z .states + i) (rowAt entryRow entries i)
+      entryAt-set (tableOf z entries moves) (z .states + i)
       (entryAt-there z entries moves (z .states + i) (rowAt entryRow entries i) (omega arith) (omega arith) (ap (rowAt entryRow entries) (sym back))) in
       ap₂ (λ (e : Entry) (S : ℕ). when (entryTest q e) (entryResult p a k S (z .states + i) ∷ []))
       (sym (getD-rowsIn entryRow (z .entries) entries i noEntry h)) (sym set)

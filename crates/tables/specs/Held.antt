@@ -2,12 +2,15 @@
 -- Assumes nothing.
 pub mod Laws
 use Prim.Native.Nat.{ℕ, _+_, _*_, _≤_, _<_}
+use mathlib.Core.Option.{Option, none, some}
 use mathlib.Core.List.{List, [], _++_}
 use lib.ListN.{length}
-use Rattle.automata.specs.Automaton.{Automaton, Edge, entryEdges}
+use Rattle.automata.specs.Automaton.{Automaton, Edge, Entry, entryEdges, entryControl, entrySet}
 use Rattle.tables.specs.declared.Table.{Table}
+use Rattle.tables.specs.declared.Found.{Found}
+use Rattle.tables.specs.declared.Found.the-variants.{Nothing, At}
 use Rattle.tables.specs.Rows.{rowAt, rowsIn}
-use Rattle.tables.specs.Records.{moveRow, entryRow, edgeRow}
+use Rattle.tables.specs.Records.{moveRow, entryRow, edgeRow, asEntry}
 
 -- the automaton, by the words of its inner edges, entries and moves
 abbrev pub automatonOf : Table → List ℕ → List ℕ → List ℕ → Automaton
@@ -36,6 +39,15 @@ tableOf z entries moves =
 -- all its edges
 abbrev pub edgesIn : Table → List ℕ → List ℕ → List Edge
 edgesIn z inner entries = rowsIn edgeRow (z .edges) inner ++ entryEdges (z .states) (rowsIn entryRow (z .entries) entries)
+
+-- the entry that was found
+abbrev pub foundEntry : Found → Option Entry
+foundEntry Nothing = none
+foundEntry (At e) = some (asEntry e)
+
+-- the entry that order-1 state r is, or the entry of zeros
+abbrev pub entryFor : Automaton → ℕ → Entry
+entryFor A r = record { control = entryControl A r; S = entrySet A r }
 
 -- The inner edges are in the slice, and the order-1 states that they name are below 64.
 pub record EdgesStand (z : Table) (inner : List ℕ) : Type 0 where

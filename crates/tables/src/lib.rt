@@ -1,16 +1,17 @@
 // Tables of records in slices of words: moves (five words each), entries (two), inner edges (three) and the results of a round (six).
 // Nothing else touches the words of a table.
 ghost use mathlib.Core.Path.{_≡_};
-ghost use Prim.Native.Nat.{_<_, _≤_, _+_, _*_};
-ghost use lib.ListN.{length, getD};
+ghost use Prim.Native.Nat.{_<_, _≤_, _+_, _-_, _*_};
+ghost use lib.ListN.{length, getD, drop};
+ghost use lib.Seq.{paste};
 ghost use mathlib.Core.List.{[]};
 ghost use Rattle.words.specs.Order.{less};
-ghost use Rattle.automata.specs.Automaton.{noEdge, entryOf, entrySet};
-ghost use Rattle.automata.specs.Derivation.{resultKey};
+ghost use Rattle.automata.specs.Automaton.{noEdge, noMove, entryAt, entryOf, entrySet};
 ghost use Rattle.automata.specs.Saturation.{isEntry, entryNumber};
 ghost use Rattle.tables.specs.Rows.{rowAt, rowsIn, putRow};
-ghost use Rattle.tables.specs.Held.{tableOf, edgesIn, EdgesStand, EntriesStand};
-ghost use Rattle.tables.specs.Pending.{pendingIn, insertWithin, Placed, reachedAt, Opened};
+ghost use Rattle.tables.specs.Held.{tableOf, edgesIn, foundEntry, entryFor, EdgesStand, EntriesStand, MovesStand};
+ghost use Rattle.tables.specs.Insertion.{rowWords, wordRows, leading, reached, withRow, insertedIn, Inserted};
+ghost use Rattle.tables.specs.Pending.{pendingIn, insertWithin};
 ghost use Rattle.tables.specs.Records.{moveRow, entryRow, edgeRow, resultRow, asMove, asEntry, asEdge, asResult};
 
 // A move of an order-1 state.
@@ -119,17 +120,6 @@ pub fn edge_at(t: &[u64], i: usize) -> Edge
     }
 }
 
-// Writes an edge into row i.
-pub fn put_edge(t: &mut [u64], i: usize, e: Edge)
-    requires { ⌜ i * 3 + 3 ≤ length (now t) ⌝ }
-    ensures { λ _. ⌜ now (t .exit) ≡ putRow edgeRow (now (t .entry)) i (asEdge e) ⌝ }
-{
-    let at = i * 3;
-    t[at] = e.state;
-    t[at + 1] = e.first;
-    t[at + 2] = e.s;
-}
-
 // The result in row i.
 pub fn result_at(t: &[u64], i: usize) -> Outcome
     requires { ⌜ i * 6 + 6 ≤ length (now t) ⌝ }
@@ -144,20 +134,6 @@ pub fn result_at(t: &[u64], i: usize) -> Outcome
         b: t[at + 4],
         r: t[at + 5],
     }
-}
-
-// Writes a result into row i.
-pub fn put_result(t: &mut [u64], i: usize, x: Outcome)
-    requires { ⌜ i * 6 + 6 ≤ length (now t) ⌝ }
-    ensures { λ _. ⌜ now (t .exit) ≡ putRow resultRow (now (t .entry)) i (asResult x) ⌝ }
-{
-    let at = i * 6;
-    t[at] = x.control;
-    t[at + 1] = x.s;
-    t[at + 2] = x.symbol;
-    t[at + 3] = x.order;
-    t[at + 4] = x.b;
-    t[at + 5] = x.r;
 }
 
 // Whether x and y are the same entry.
@@ -185,36 +161,41 @@ pub fn entry_number(t: &[u64], n: usize, e: Entry) -> usize
     n
 }
 
-// Whether result x comes before result y, by (p, S, symbol, order, B, R).
-pub fn comes_before(x: Outcome, y: Outcome) -> bool
-    ensures { λ r. ⌜ r ≡ less (resultKey (asResult x)) (resultKey (asResult y)) ⌝ }
+// ---- sorted insertion
+
+// Whether words x come before words y: the first that differ decide.
+fn words_before(x: &[u64], y: &[u64]) -> bool
+    requires { ⌜ length (now x) ≡ length (now y) ⌝ }
+    ensures { λ r. ⌜ r ≡ less (now (x .entry)) (now (y .entry)) ⌝ }
 {
-    if x.control != y.control {
-        return x.control < y.control;
+    let mut i: usize = 0;
+    while i < y.len() {
+        if x[i] != y[i] {
+            return x[i] < y[i];
+        }
+        i += 1;
     }
-    if x.s != y.s {
-        return x.s < y.s;
-    }
-    if x.symbol != y.symbol {
-        return x.symbol < y.symbol;
-    }
-    if x.order != y.order {
-        return x.order < y.order;
-    }
-    if x.b != y.b {
-        return x.b < y.b;
-    }
-    x.r < y.r
+    false
+}
+
+// The words of row i, where a row has so many.
+fn row_words(t: &[u64], width: usize, i: usize) -> &[u64]
+    requires { ⌜ i * width + width ≤ length (now t) ⌝ }
+    ensures { λ r. ⌜ now r ≡ rowWords width (now (t .entry)) i ⌝ }
+{
+    let at = i * width;
+    let end = at + width;
+    &t[at..end]
 }
 
 // The number of leading rows, of the first n, that come before x.
-fn place(t: &[u64], n: usize, x: Outcome) -> usize
-    requires { ⌜ n * 6 ≤ length (now t) ⌝ }
-    ensures { λ i. ⌜ Placed (now (t .entry)) n (asResult x) i ⌝ }
+fn place(t: &[u64], n: usize, x: &[u64]) -> usize
+    requires { ⌜ n * length (now x) ≤ length (now t) ⌝ }
+    ensures { λ i. ⌜ i ≡ leading (now (x .entry)) (wordRows (length (now (x .entry))) n (now (t .entry))) ⌝ }
 {
     let mut i: usize = 0;
     while i < n {
-        if !comes_before(result_at(t, i), x) {
+        if !words_before(row_words(t, x.len(), i), x) {
             return i;
         }
         i += 1;
@@ -222,33 +203,62 @@ fn place(t: &[u64], n: usize, x: Outcome) -> usize
     n
 }
 
-// Whether row i is one of the first n and does not come after x.
-fn reached(t: &[u64], n: usize, i: usize, x: Outcome) -> bool
-    requires { ⌜ n * 6 ≤ length (now t) ⌝ }
-    ensures { λ r. ⌜ r ≡ reachedAt (now (t .entry)) n i (asResult x) ⌝ }
+// Whether row i, which is the first of n that does not come before x, is x.
+fn holds(t: &[u64], n: usize, i: usize, x: &[u64]) -> bool
+    requires { ⌜ (n * length (now x) ≤ length (now t)) × (i ≡ leading (now x) (wordRows (length (now x)) n (now t))) ⌝ }
+    ensures { λ r. ⌜ r ≡ reached (now (x .entry)) (wordRows (length (now (x .entry))) n (now (t .entry))) ⌝ }
 {
     if n <= i {
         return false;
     }
-    !comes_before(x, result_at(t, i))
+    !words_before(x, row_words(t, x.len(), i))
 }
 
-// Moves rows i and following, of the first n, each to the row after it.
-fn open_row(t: &mut [u64], i: usize, n: usize)
-    requires { ⌜ (i ≤ n) × (n * 6 + 6 ≤ length (now t)) ⌝ }
-    ensures { λ _. ⌜ Opened (now (t .entry)) (now (t .exit)) n i ⌝ }
+// Moves the words from `at` up to `end` so many places further.
+fn open_words(t: &mut [u64], at: usize, end: usize, places: usize)
+    requires { ⌜ (at ≤ end) × (end + places ≤ length (now t)) ⌝ }
+    ensures { λ _. ⌜ now (t .exit) ≡ paste (now (t .entry)) (at + places) (drop at (now (t .entry))) (end - at) ⌝ }
 {
-    let mut j = n;
-    while i < j {
-        let k = j - 1;
-        let x = result_at(t, k);
-        put_result(t, j, x);
-        j = k;
+    let mut j = end;
+    while at < j {
+        j -= 1;
+        t[j + places] = t[j];
     }
 }
 
-// Inserts x into the first n rows, which are sorted, unless it is there. Answers the number of rows then: more than `room` where there is
-// no room for x, and where there was none before.
+// Writes the words x from `at` on.
+fn put_words(t: &mut [u64], at: usize, x: &[u64])
+    requires { ⌜ at + length (now x) ≤ length (now t) ⌝ }
+    ensures { λ _. ⌜ now (t .exit) ≡ paste (now (t .entry)) at (now (x .entry)) (length (now (x .entry))) ⌝ }
+{
+    let mut i: usize = 0;
+    while i < x.len() {
+        t[at + i] = x[i];
+        i += 1;
+    }
+}
+
+// Inserts the row x into the first n rows, which are sorted, unless it is there. Answers the number of rows then. It is more than `room` where
+// there is no room for x.
+fn insert_row(t: &mut [u64], n: usize, room: usize, x: &[u64]) -> usize
+    requires { ⌜ (room * length (now x) ≤ length (now t)) × (n ≤ room) × (1 < length (now x)) ⌝ }
+    ensures { λ r. ⌜ r ≡ length (withRow n (now (x .entry)) (now (t .entry))) ⌝ }
+    ensures { λ r. ⌜ now (t .exit) ≡ insertedIn room n (now (x .entry)) (now (t .entry)) ⌝ }
+{
+    let i = place(t, n, x);
+    if holds(t, n, i, x) {
+        return n;
+    }
+    if n == room {
+        return n + 1;
+    }
+    let width = x.len();
+    open_words(t, i * width, n * width, width);
+    put_words(t, i * width, x);
+    n + 1
+}
+
+// Inserts a result into the first n rows, as `insert_row` does. Where there was no room before, there is none now.
 pub fn insert_result(t: &mut [u64], n: usize, room: usize, x: Outcome) -> usize
     requires { ⌜ (room * 6 ≤ length (now t)) × (n ≤ room + 1) ⌝ }
     ensures { λ r. ⌜ pendingIn room r (now (t .exit)) ≡ insertWithin room (asResult x) (pendingIn room n (now (t .entry))) ⌝ }
@@ -257,16 +267,17 @@ pub fn insert_result(t: &mut [u64], n: usize, room: usize, x: Outcome) -> usize
     if room < n {
         return n;
     }
-    let i = place(t, n, x);
-    if reached(t, n, i, x) {
-        return n;
-    }
-    if n == room {
-        return n + 1;
-    }
-    open_row(t, i, n);
-    put_result(t, i, x);
-    n + 1
+    let words = [x.control, x.s, x.symbol, x.order, x.b, x.r];
+    insert_row(t, n, room, &words)
+}
+
+// Inserts an edge into the first n rows, which are sorted, unless it is there. Answers the number of rows then.
+pub fn insert_edge(t: &mut [u64], n: usize, e: Edge) -> usize
+    requires { ⌜ n * 3 + 3 ≤ length (now t) ⌝ }
+    ensures { λ r. ⌜ Inserted edgeRow (now (t .entry)) (now (t .exit)) n r (asEdge e) ⌝ }
+{
+    let words = [e.state, e.first, e.s];
+    insert_row(t, n, n + 1, &words)
 }
 
 // ---- the automaton in its slices
@@ -290,20 +301,49 @@ pub fn edge_of(z: Table, inner: &[u64], entries: &[u64], n: usize) -> Edge
     }
 }
 
+// The entry that an order-1 state is, or that it is none.
+pub enum Found {
+    Nothing,
+    At(Entry),
+}
+
+// The entry that order-1 state r is.
+fn find_entry(z: Table, entries: &[u64], r: u64) -> Found
+    requires { ⌜ EntriesStand z (now entries) ⌝ }
+    ensures { λ f. ⌜ foundEntry f ≡ entryAt (tableOf z (now (entries .entry)) []) r ⌝ }
+{
+    if r < z.states {
+        return Found::Nothing;
+    }
+    let k = (r - z.states) as usize;
+    if z.entries <= k {
+        return Found::Nothing;
+    }
+    Found::At(entry_at(entries, k))
+}
+
 // Whether order-1 state r is an entry of control p.
 pub fn entry_of(z: Table, entries: &[u64], p: u64, r: u64) -> bool
     requires { ⌜ EntriesStand z (now entries) ⌝ }
     ensures { λ b. ⌜ b ≡ entryOf (tableOf z (now (entries .entry)) []) p r ⌝ }
 {
-    if r < z.states {
-        return false;
+    let found = find_entry(z, entries, r);
+    match found {
+        Found::Nothing => false,
+        Found::At(e) => e.control == p,
     }
-    let k = (r - z.states) as usize;
-    if z.entries <= k {
-        return false;
+}
+
+// The entry that order-1 state r is, and the entry of zeros where r is none.
+pub fn entry_for(z: Table, entries: &[u64], r: u64) -> Entry
+    requires { ⌜ EntriesStand z (now entries) ⌝ }
+    ensures { λ e. ⌜ asEntry e ≡ entryFor (tableOf z (now (entries .entry)) []) r ⌝ }
+{
+    let found = find_entry(z, entries, r);
+    match found {
+        Found::Nothing => Entry { control: 0, s: 0 },
+        Found::At(e) => e,
     }
-    let e = entry_at(entries, k);
-    e.control == p
 }
 
 // The set S of the entry that order-1 state r is, and the empty set where r is none.
@@ -311,13 +351,23 @@ pub fn entry_set(z: Table, entries: &[u64], r: u64) -> u64
     requires { ⌜ EntriesStand z (now entries) ⌝ }
     ensures { λ s. ⌜ s ≡ entrySet (tableOf z (now (entries .entry)) []) r ⌝ }
 {
-    if r < z.states {
-        return 0;
-    }
-    let k = (r - z.states) as usize;
-    if z.entries <= k {
-        return 0;
-    }
-    let e = entry_at(entries, k);
+    let e = entry_for(z, entries, r);
     e.s
+}
+
+// Move i, and the move of zeros where there is none.
+pub fn move_of(z: Table, moves: &[u64], i: usize) -> Move
+    requires { ⌜ MovesStand z (now moves) ⌝ }
+    ensures { λ m. ⌜ asMove m ≡ getD (rowsIn moveRow (z .moves) (now (moves .entry))) i noMove ⌝ }
+{
+    if i < z.moves {
+        return move_at(moves, i);
+    }
+    Move {
+        state: 0,
+        symbol: 0,
+        order: 0,
+        b: 0,
+        r: 0,
+    }
 }

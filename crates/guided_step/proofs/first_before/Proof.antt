@@ -8,8 +8,8 @@ use Rattle.guided_step.proofs.first_before.Tie as tie
 table-before-requires : tie.Need-table-before-requires
 table-before-requires c κs = search needs
 
-move-or-none-requires : tie.Need-move-or-none-requires
-move-or-none-requires c κs = search needs
+move-of-requires : tie.Need-move-of-requires
+move-of-requires c κs = search needs
 
 result-of-requires : tie.Need-result-of-requires
 result-of-requires c κs = search needs
@@ -24,14 +24,14 @@ same-length-2 : tie.Need-same-length-2
 same-length-2 c = search needs
 
 returns : tie.Need-returns
-returns c = (finds-before (c .before .before .before .before .before .before .before .before .before .before .before .before .before .before .before .before .before .args .z) _ _ _ _ _ _ (c .before .before .before .before .before .before .before .before .before .table-before .ensures) (c .before .before .before .before .before .before .before .before .move-or-none .ensures) (c .before .before .before .before .before .before .before .result-of .ensures) (c .before .before .before .before .first-derivation .ensures .0), before-small (c .before .before .before .before .before .before .before .before .before .before .before .before .before .before .before .before .before .args .z) _ _ _ _ _ _ (c .before .before .before .before .before .before .before .before .before .table-before .ensures) (c .before .before .before .before .first-derivation .ensures .1))
+returns c = (finds-before (c .before .before .before .before .before .before .before .before .before .before .before .before .before .before .before .before .before .args .z) _ _ _ _ _ _ (c .before .before .before .before .before .before .before .before .before .table-before .ensures) (c .before .before .before .before .before .before .before .before .move-of .ensures) (c .before .before .before .before .before .before .before .result-of .ensures) (c .before .before .before .before .first-derivation .ensures .0), before-small (c .before .before .before .before .before .before .before .before .before .before .before .before .before .before .before .before .before .args .z) _ _ _ _ _ _ (c .before .before .before .before .before .before .before .before .before .table-before .ensures) (c .before .before .before .before .first-derivation .ensures .1))
 
 pub first-before-spec : {M : Type 1} → statement M
 first-before-spec =
     tie.close
     (tie.spec
     table-before-requires
-    move-or-none-requires
+    move-of-requires
     result-of-requires
     first-derivation-requires
     same-length

@@ -2,14 +2,12 @@
 -- Assumes nothing.
 use Prim.Native.Nat.{ℕ, suc, _+_, _≤_, _<_, min}
 use mathlib.Core.Path.{_≡_, refl, ap, sym, _∙_}
-use mathlib.Core.Option.{Option, none, some}
 use mathlib.Core.List.{List, [], _∷_}
 use native.Mathlib.Numerals.{add-one}
 use native.Mathlib.Omega.{arith}
-use lib.ListN.{length, getD, take, drop, drop-of-length-le, length-take, List·getD-eq-default}
+use lib.ListN.{length, getD, take, drop, drop-of-length-le, length-take}
 use lib.Seq.{drop-cons, getD-take}
-use Rattle.automata.specs.Automaton.{Automaton, Move, Entry, noMove, noEntry, entryAt, entryControl, entrySet}
-use Rattle.automata.specs.Automaton.Laws.{entryAt-control, entryAt-set}
+use Rattle.automata.specs.Automaton.{Automaton, Move, Entry, entryAt, entryControl, entrySet}
 use Rattle.automata.specs.Derivation.{resultOf}
 use Rattle.automata.specs.Saturation.{Size, upTo, lastUpTo, ownMoves}
 use Rattle.automata.specs.Saturation.Laws.{lastUpTo-yes, lastUpTo-no}
@@ -17,10 +15,10 @@ use Rattle.tables.specs.declared.Table.{Table}
 use Rattle.tables.specs.Rows.{firstOf, Layout, rowAt, rowsIn}
 use Rattle.tables.specs.Rows.Laws.{length-rowsIn, getD-rowsIn, rowsIn-list}
 use Rattle.tables.specs.Records.{moveRow, entryRow, edgeRow}
-use Rattle.tables.specs.Held.{automatonOf, tableOf}
+use Rattle.tables.specs.Held.{automatonOf, tableOf, entryFor}
 use Rattle.first_reading.specs.Words.{Stands}
 use Rattle.saturation.specs.Running.{theSize, sizeRow}
-use Rattle.guided_step.specs.Earlier.{tableUpTo, entryFor}
+use Rattle.guided_step.specs.Earlier.{tableUpTo}
 
 -- ---- the last size that has no more than i moves
 
@@ -113,23 +111,6 @@ upTo-stands {z} s h =
     }
 
 -- ---- the result that a move stands for
-
-module _ (n : ℕ) (moves : List ℕ) (i : ℕ) where
-  pub move-there : {m : Move} → i < n → m ≡ rowAt moveRow moves i → m ≡ getD (rowsIn moveRow n moves) i noMove
-  move-there h e = e ∙ sym (getD-rowsIn moveRow n moves i noMove h)
-
-  pub move-past : n ≤ i → noMove ≡ getD (rowsIn moveRow n moves) i noMove
-  move-past h =
-      let l : length (rowsIn moveRow n moves) ≡ n = length-rowsIn moveRow n moves in
-      sym (List·getD-eq-default (rowsIn moveRow n moves) noMove (omega arith))
-
-module _ (A : Automaton) (r : ℕ) where
-  pub for-none : entryAt A r ≡ Option.none → noEntry ≡ entryFor A r
-  unfolding entryControl entrySet
-  for-none e = rw (entryControl, entrySet, e)
-
-  pub for-some : {x : Entry} → entryAt A r ≡ some x → x ≡ entryFor A r
-  for-some {x} e = λ i. record { control = sym (entryAt-control A r e) i; S = sym (entryAt-set A r e) i }
 
 pub result-is : (A : Automaton) (m : Move) {e : Entry} → e ≡ entryFor A (m .state)
     → record { control = e .control; S = e .S; symbol = m .symbol; order = m .order; B = m .B; R = m .R } ≡ resultOf A m

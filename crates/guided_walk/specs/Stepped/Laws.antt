@@ -4,15 +4,15 @@ use Prim.Native.Nat.{ℕ, _+_, _-_, _≤_, _<_, _^_}
 use mathlib.Core.Path.{_≡_, refl, ap, sym, _∙_, subst}
 use mathlib.Core.List.{List, [], _++_}
 use native.Mathlib.Omega.{arith}
-use lib.ListN.{length}
+use lib.ListN.{length, getD}
 use Rattle.stacks.specs.Stack.{Operation, rewrite, push1, push2, copy, pop1, pop2, collapse1, collapse2, newCells}
 use Rattle.stacks.specs.System.{Rule}
-use Rattle.automata.specs.Automaton.{Automaton, Move, moveAt, entryEdge}
+use Rattle.automata.specs.Automaton.{Automaton, Move, noMove, moveAt, entryEdge}
 use Rattle.automata.specs.Saturation.{Saturated}
 use Rattle.walks.specs.Cell.{cellsAfter, rootAfter}
 use Rattle.walks.specs.Guide as walks
 use Rattle.tables.specs.declared.Table.{Table}
-use Rattle.tables.specs.Rows.{rowAt}
+use Rattle.tables.specs.Rows.{rowsIn}
 use Rattle.tables.specs.Rows.Laws.{length-rowsIn}
 use Rattle.tables.specs.Records.{moveRow, edgeRow}
 use Rattle.tables.specs.Held.{automatonOf}
@@ -24,30 +24,22 @@ use Rattle.cell_steps.specs.Steps.{stepChoices, guidedBy}
 use Rattle.cell_steps.specs.Steps.Choices.{topState, rootEdge, step-choices}
 use Rattle.guided_step.specs.declared.Walk.{Walk}
 use Rattle.guided_step.specs.Walks.{walkIn, topBy}
-use Rattle.guided_step.specs.Earlier.Laws.{move-there, move-past}
 use Rattle.guided_step.specs.Step.{Taken}
 use Rattle.guided_walk.specs.Stepped.{movesOnly, moveChoice, entryChoice, choiceBy, stepped, Steps}
 
 -- ---- numbers by the tables
 
 module _ (z : Table) (moves : List ℕ) where
-  pub state-there : {i : ℕ} {m : Move} → i < z .moves → m ≡ rowAt moveRow moves i → m .state ≡ moveAt (movesOnly z moves) i .state
-  unfolding moveAt
-  state-there {i} l e = ap (λ (m : Move). m .state) (move-there (z .moves) moves i l e)
-
-  pub state-past : (i : ℕ) → z .moves ≤ i → 0 ≡ moveAt (movesOnly z moves) i .state
-  unfolding moveAt
-  state-past i l = ap (λ (m : Move). m .state) (move-past (z .moves) moves i l)
-
   pub edge-is : (e : ℕ) → z .edges + e ≡ entryEdge (movesOnly z moves) e
   unfolding entryEdge
   edge-is e = ap (λ (k : ℕ). k + e) (sym (length-rowsIn edgeRow (z .edges) []))
 
-  pub move-choice : {p′ p r n e : ℕ} → r ≡ moveAt (movesOnly z moves) p .state → n ≡ r - z .states → e ≡ entryEdge (movesOnly z []) n
-      → record { state = r; number = p; control = p′; edge = e } ≡ moveChoice (movesOnly z moves) p′ p
-  unfolding entryEdge
+  pub move-choice : {p′ p n e : ℕ} {m : Move} → m ≡ getD (rowsIn moveRow (z .moves) moves) p noMove → n ≡ m .state - z .states
+      → e ≡ entryEdge (movesOnly z []) n
+      → record { state = m .state; number = p; control = p′; edge = e } ≡ moveChoice (movesOnly z moves) p′ p
+  unfolding moveAt entryEdge
   move-choice {p′} {p} f g h =
-      λ i. record { state = f i; number = p; control = p′; edge = (h ∙ ap (entryEdge (movesOnly z moves)) (g ∙ ap (λ (s : ℕ). s - z .states) f)) i }
+      λ i. record { state = f i .state; number = p; control = p′; edge = (h ∙ ap (entryEdge (movesOnly z moves)) (g ∙ ap (λ (x : Move). x .state - z .states) f)) i }
 
 pub entry-choice : (z : Table) {p′ p e : ℕ} → e ≡ entryEdge (movesOnly z []) p
     → record { state = 0; number = p; control = p′; edge = e } ≡ entryChoice (movesOnly z []) p′ p

@@ -14,10 +14,11 @@ use Rattle.words.specs.Order.{less, insert}
 use Rattle.words.specs.Order.Laws.{less-transitive, by-place, insert-before, insert-after, insert-held}
 use Rattle.automata.specs.Derivation.{Result, resultKey}
 use Rattle.automata.specs.Derivation.Laws.{resultKey-eq}
+use Rattle.tables.specs.Insertion.Laws.{length-insert}
 use Rattle.tables.specs.Pending.{limited, insertWithin}
 use Rattle.tables.specs.Pending.Laws.{limited-fits, limited-over}
 use Rattle.readings.specs.Offers.{offer, offerAll}
-use Rattle.readings.specs.Offers.Laws.{offer-left, offer-kept, length-insert}
+use Rattle.readings.specs.Offers.Laws.{offer-left, offer-kept}
 
 -- ---- a list with elements inserted, also where it is not sorted
 
@@ -67,7 +68,7 @@ module _ (room : ℕ) where
       (λ e. ap (insertWithin room x) (limited-fits room (insert resultKey y l) (leb-true (length (insert resultKey y l)) room e)))
       (λ e.
       let b : room < length (insert resultKey y l) = leb-false (length (insert resultKey y l)) room e in
-      let k : length (insert resultKey y l) ≤ length (insert resultKey x (insert resultKey y l)) = length-insert x (insert resultKey y l) in
+      let k : length (insert resultKey y l) ≤ length (insert resultKey x (insert resultKey y l)) = length-insert resultKey x (insert resultKey y l) in
       ap (insertWithin room x) (limited-over room (insert resultKey y l) b)
       ∙ sym (limited-over room (insert resultKey x (insert resultKey y l)) (omega arith)))
 

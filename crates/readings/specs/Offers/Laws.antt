@@ -17,11 +17,12 @@ use native.Mathlib.Numerals.{add-one}
 use Rattle.words.specs.Lists.{each, when, only, places, placesFrom}
 use Rattle.words.specs.Lists.Laws.{by-test, only-yes, only-no, each-append, each-one, places-take}
 use Rattle.words.specs.Order.{insert, sorted, rising}
-use Rattle.words.specs.Order.Laws.{by-place, insert-before, insert-after, insert-held, insert-out, insert-in, insert-key, insert-rising, sorted-unique}
+use Rattle.words.specs.Order.Laws.{insert-out, insert-in, insert-key, insert-rising, sorted-unique}
 use Rattle.automata.specs.Automaton.{Automaton}
 use Rattle.automata.specs.Derivation.{Result, resultKey}
 use Rattle.automata.specs.Derivation.Laws.{resultKey-eq}
 use Rattle.automata.specs.Saturation.{held}
+use Rattle.tables.specs.Insertion.Laws.{length-insert}
 use Rattle.tables.specs.Pending.{limited, insertWithin, pendingIn}
 use Rattle.tables.specs.Pending.Laws.{limited-fits, limited-over, pending-over}
 use Rattle.readings.specs.Offers.{offer, offerAll, Collects}
@@ -58,18 +59,10 @@ insertAll : List Result → List Result → List Result
 insertAll l [] = l
 insertAll l (x ∷ xs) = insertAll (insert resultKey x l) xs
 
-pub length-insert : (x : Result) (l : List Result) → length l ≤ length (insert resultKey x l)
-unfolding insert
-length-insert x [] = omega arith
-length-insert x (y ∷ l) = by-place resultKey x y
-    (λ h. rw (insert-before resultKey x y l h) (omega arith))
-    (λ h. rw (insert-held resultKey x y l h) (omega arith))
-    (λ h. let k : length l ≤ length (insert resultKey x l) = length-insert x l in rw (insert-after resultKey x y l h) (omega arith))
-
 length-insertAll : (l xs : List Result) → length l ≤ length (insertAll l xs)
 unfolding insertAll
 length-insertAll l [] = omega arith
-length-insertAll l (x ∷ xs) = le-trans (length-insert x l) (length-insertAll (insert resultKey x l) xs)
+length-insertAll l (x ∷ xs) = le-trans (length-insert resultKey x l) (length-insertAll (insert resultKey x l) xs)
 
 insertAll-rising : (l xs : List Result) → rising resultKey l ≡ true → rising resultKey (insertAll l xs) ≡ true
 unfolding insertAll

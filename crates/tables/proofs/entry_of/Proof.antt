@@ -1,23 +1,28 @@
 -- `tables::entry_of` meets its contract.
 -- Assumes nothing.
-use mathlib.Core.Path.{sym}
-use native.Mathlib.Omega.{arith}
-use Rattle.tables.specs.Held.Laws.{entryAt-inner, entryAt-past, entryAt-there, none-of, some-of-entry}
+use mathlib.Core.Path.{ap, sym, _∙_}
+use Rattle.automata.specs.Automaton.Laws.{entryAt-of}
+use Rattle.tables.specs.Held.{foundEntry}
+use Rattle.tables.specs.Held.Laws.{none-of}
 use borrow.Author.Needs.{needs}
 use Rattle.tables.proofs.entry_of.Statement.{statement}
 use Rattle.tables.proofs.entry_of.Tie as tie
 
+find-entry-requires : tie.Need-find-entry-requires
+find-entry-requires c κs = search needs
+
+enum-told : tie.Need-enum-told
+enum-told c = search needs
+
+enum-known-found : tie.Need-enum-known-found
+enum-known-found c = search needs
+
 returns : tie.Need-returns
-returns c = sym (none-of _ _ _ (entryAt-inner (c .before .before .before .args .z) _ _ _ (c .if1 .taken)))
+returns c = sym (none-of _ _ _ (sym (c .before .before .find-entry .ensures) ∙ ap foundEntry (c .enum-told .given .1)))
 
 returns-2 : tie.Need-returns-2
-returns-2 c = sym (none-of _ _ _ (entryAt-past (c .before .before .before .before .before .before .args .z) _ _ _ (c .before .before .before .if1 .left) (c .if2 .taken)))
-
-entry-at-requires : tie.Need-entry-at-requires
-entry-at-requires c κs = search needs
-
-returns-3 : tie.Need-returns-3
-returns-3 c = sym (some-of-entry _ _ _ _ (entryAt-there (c .before .before .before .before .before .before .before .before .args .z) _ _ _ _ (c .before .before .before .before .before .if1 .left) (omega arith) (c .before .entry-at .ensures)))
+returns-2 c = sym (entryAt-of _ _ _ (sym (c .before .before .before .before .find-entry .ensures) ∙ ap foundEntry (c .before .before .found .given .1)))
 
 pub entry-of-spec : {M : Type 1} → statement M
-entry-of-spec = tie.close (tie.spec returns returns-2 entry-at-requires returns-3)
+entry-of-spec =
+    tie.close (tie.spec find-entry-requires enum-told enum-known-found returns returns-2)

@@ -1,23 +1,16 @@
 -- `tables::entry_set` meets its contract.
 -- Assumes nothing.
-use mathlib.Core.Path.{sym}
-use native.Mathlib.Omega.{arith}
-use Rattle.tables.specs.Held.Laws.{entryAt-inner, entryAt-past, entryAt-there, none-set, some-set}
+use mathlib.Core.Path.{ap}
+use Rattle.automata.specs.Automaton.{Entry}
 use borrow.Author.Needs.{needs}
 use Rattle.tables.proofs.entry_set.Statement.{statement}
 use Rattle.tables.proofs.entry_set.Tie as tie
 
+entry-for-requires : tie.Need-entry-for-requires
+entry-for-requires c κs = search needs
+
 returns : tie.Need-returns
-returns c = sym (none-set _ _ (entryAt-inner (c .before .before .before .args .z) _ _ _ (c .if1 .taken)))
-
-returns-2 : tie.Need-returns-2
-returns-2 c = sym (none-set _ _ (entryAt-past (c .before .before .before .before .before .before .args .z) _ _ _ (c .before .before .before .if1 .left) (c .if2 .taken)))
-
-entry-at-requires : tie.Need-entry-at-requires
-entry-at-requires c κs = search needs
-
-returns-3 : tie.Need-returns-3
-returns-3 c = sym (some-set _ _ _ (entryAt-there (c .before .before .before .before .before .before .before .args .z) _ _ _ _ (c .before .before .before .before .if1 .left) (omega arith) (c .entry-at .ensures)))
+returns c = ap (λ (e : Entry). e .S) (c .entry-for .ensures)
 
 pub entry-set-spec : {M : Type 1} → statement M
-entry-set-spec = tie.close (tie.spec returns returns-2 entry-at-requires returns-3)
+entry-set-spec = tie.close (tie.spec entry-for-requires returns)

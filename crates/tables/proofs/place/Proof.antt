@@ -1,22 +1,22 @@
--- `tables::place` meets its contract.
+-- `tables::place` meets its contract. The invariant: the first i rows come before x.
 -- Assumes nothing.
-use borrow.Author.Tests.{not-true, not-false}
 use Prim.Native.Nat.{ℕ, _-_, _≤_, _<_}
-use mathlib.Core.Path.{_≡_, sym, _∙_, ap}
-use native.Mathlib.Omega.{arith}
 use mathlib.Core.Bool.{true}
-use Rattle.words.specs.Order.{less}
-use Rattle.automata.specs.Derivation.{Result, resultKey}
-use Rattle.tables.specs.Rows.{rowAt}
-use Rattle.tables.specs.Records.{asResult, resultRow}
+use mathlib.Core.Path.{_≡_, ap, sym, _∙_}
+use mathlib.Core.List.{List}
+use native.Mathlib.Omega.{arith}
+use lib.ListN.{length}
 use borrow.Author.Count.{below-none, below-more}
-use Rattle.tables.specs.Pending.Laws.{}
+use borrow.Author.Tests.{not-true, not-false}
+use Rattle.words.specs.Order.{less}
+use Rattle.tables.specs.Insertion.{rowWords}
+use Rattle.tables.specs.Insertion.Laws.{row-fits, length-row, placed-at}
 use borrow.Author.Needs.{needs}
 use Rattle.tables.proofs.place.Statement.{statement}
 use Rattle.tables.proofs.place.Tie as tie
 
 abbrev Inv-loop : tie.InvT-loop
-Inv-loop t n x i₀ i = (i ≤ n) × ((j : ℕ) → j < i → less (resultKey (rowAt resultRow t j)) (resultKey (asResult x)) ≡ true)
+Inv-loop t n x i₀ i = (i ≤ n) × ((j : ℕ) → j < i → less (rowWords (length x) t j) x ≡ true)
 
 abbrev μ-loop : tie.MeasureT-loop
 μ-loop t n x i₀ i = n - i
@@ -24,14 +24,14 @@ abbrev μ-loop : tie.MeasureT-loop
 loop-holds : tie.Need-loop-holds Inv-loop μ-loop
 loop-holds c = (search needs, below-none _)
 
-result-at-requires : tie.Need-result-at-requires Inv-loop μ-loop
-result-at-requires c κs = search needs
+row-words-requires : tie.Need-row-words-requires Inv-loop μ-loop
+row-words-requires c κs = row-fits (c .before .before .before .before .args .x .now) (c .before .before .before .before .args .t .now) _ _ (c .loop-test .taken) (c .before .before .before .before .pre)
 
-comes-before-requires : tie.Need-comes-before-requires Inv-loop μ-loop
-comes-before-requires c κs = search needs
+words-before-requires : tie.Need-words-before-requires Inv-loop μ-loop
+words-before-requires c κs = ap length (c .row-words .ensures) ∙ length-row (c .before .before .before .before .before .args .x .now) (c .before .before .before .before .before .args .t .now) _ _ (c .before .loop-test .taken) (c .before .before .before .before .before .pre)
 
 returns : tie.Need-returns Inv-loop μ-loop
-returns c = record { within = search needs; before = (c .before .before .before .before .loop .inv .1); reaches = λ h. sym (ap (λ (y : Result). less (resultKey y) (resultKey (asResult ((c .before .before .before .before .before .before .args .x))))) (c .before .before .result-at .ensures)) ∙ sym (c .before .comes-before .ensures) ∙ not-true (c .before .comes-before .result) (c .if1 .taken) }
+returns c = placed-at _ _ _ _ (c .before .before .before .before .loop .inv .0) (c .before .before .before .before .loop .inv .1) (λ h. sym (ap (λ (y : List ℕ). less y (c .before .before .before .before .before .before .before .args .x .now)) (c .before .before .row-words .ensures)) ∙ sym (c .before .words-before .ensures) ∙ not-true _ (c .if1 .taken))
 
 add-i : tie.Need-add-i Inv-loop μ-loop
 add-i c = search needs
@@ -40,10 +40,10 @@ loop-less : tie.Need-loop-less Inv-loop μ-loop
 loop-less c = search needs
 
 loop-again : tie.Need-loop-again Inv-loop μ-loop
-loop-again c = (search needs, below-more _ _ (c .before .before .before .before .loop .inv .1) (sym (ap (λ (y : Result). less (resultKey y) (resultKey (asResult ((c .before .before .before .before .before .before .args .x))))) (c .before .before .result-at .ensures)) ∙ sym (c .before .comes-before .ensures) ∙ not-false (c .before .comes-before .result) (c .if1 .left)))
+loop-again c = (search needs, below-more _ _ (c .before .before .before .before .loop .inv .1) (sym (ap (λ (y : List ℕ). less y (c .before .before .before .before .before .before .before .args .x .now)) (c .before .before .row-words .ensures)) ∙ sym (c .before .words-before .ensures) ∙ not-false _ (c .if1 .left)))
 
 returns-2 : tie.Need-returns-2 Inv-loop μ-loop
-returns-2 c = record { within = search needs; before = λ j h. (c .before .loop .inv .1) j (omega arith); reaches = λ h. absurd (omega arith) }
+returns-2 c = placed-at _ _ _ _ (search needs) (λ j h. c .before .loop .inv .1 j (omega arith)) (λ h. absurd (omega arith))
 
 pub place-spec : {M : Type 1} → statement M
 place-spec =
@@ -52,8 +52,8 @@ place-spec =
     Inv-loop
     μ-loop
     loop-holds
-    result-at-requires
-    comes-before-requires
+    row-words-requires
+    words-before-requires
     returns
     add-i
     loop-less

@@ -1,23 +1,23 @@
 -- What holds of the automaton that three tables hold.
 -- Assumes nothing.
-use Prim.Native.Nat.{ℕ, zero, suc, _+_, _-_, _*_, _≤_, _<_}
-use mathlib.Core.Bool.{Bool, true, false}
-use mathlib.Core.Path.{_≡_, refl, ap, sym, _∙_, subst}
+use Prim.Native.Nat.{ℕ, zero, suc, _+_, _-_, _≤_, _<_}
+use mathlib.Core.Bool.{false}
+use mathlib.Core.Path.{_≡_, ap, sym, _∙_, subst}
 use mathlib.Core.Option.{Option, none, some}
-use mathlib.Core.List.{List, [], _∷_, _++_}
+use mathlib.Core.List.{List, [], _∷_}
 use native.Mathlib.Nat.{add-zero}
 use native.Mathlib.Omega.{arith}
-use lib.ListN.{length, getD, getElem?, List·getD-append}
-use lib.Dec.{eqb, leb}
+use lib.ListN.{length, getD, List·getD-append, List·getD-eq-default}
 use lib.Seq.{getD-append-add}
 use borrow.Author.Tests.{le-leb, lt-leb}
 use Rattle.words.specs.Lists.Laws.{getElem?-below, getElem?-past}
-use Rattle.automata.specs.Automaton.{Automaton, Edge, Entry, noEdge, noEntry, entryEdges, entryAt, entryOf, entrySet}
+use Rattle.automata.specs.Automaton.{Automaton, Move, Edge, Entry, noMove, noEdge, noEntry, entryEdges, entryAt, entryOf, entryControl, entrySet}
+use Rattle.automata.specs.Automaton.Laws.{entryAt-control, entryAt-set}
 use Rattle.tables.specs.declared.Table.{Table}
 use Rattle.tables.specs.Rows.{rowAt, rowsIn}
 use Rattle.tables.specs.Rows.Laws.{length-rowsIn, getD-rowsIn}
 use Rattle.tables.specs.Records.{moveRow, entryRow, edgeRow}
-use Rattle.tables.specs.Held.{automatonOf, tableOf, edgesIn, EdgesStand, EntriesStand}
+use Rattle.tables.specs.Held.{tableOf, edgesIn, entryFor, EdgesStand}
 
 -- ---- edges by number
 
@@ -84,14 +84,24 @@ module _ (A : Automaton) (r : ℕ) where
   unfolding entryOf
   none-of p h = rw (entryOf, h)
 
-  pub some-of-entry : (p : ℕ) (e : Entry) → entryAt A r ≡ some e → entryOf A p r ≡ eqb (e .control) p
-  unfolding entryOf
-  some-of-entry p e h = rw (entryOf, h)
-
   pub none-set : entryAt A r ≡ Option.none → entrySet A r ≡ 0
   unfolding entrySet
   none-set h = rw (entrySet, h)
 
-  pub some-set : (e : Entry) → entryAt A r ≡ some e → entrySet A r ≡ e .S
-  unfolding entrySet
-  some-set e h = rw (entrySet, h)
+  pub for-none : entryAt A r ≡ Option.none → noEntry ≡ entryFor A r
+  unfolding entryControl entrySet
+  for-none e = rw (entryControl, entrySet, e)
+
+  pub for-some : {x : Entry} → entryAt A r ≡ some x → x ≡ entryFor A r
+  for-some {x} e = λ i. record { control = sym (entryAt-control A r e) i; S = sym (entryAt-set A r e) i }
+
+-- ---- moves by number
+
+module _ (n : ℕ) (moves : List ℕ) (i : ℕ) where
+  pub move-there : {m : Move} → i < n → m ≡ rowAt moveRow moves i → m ≡ getD (rowsIn moveRow n moves) i noMove
+  move-there h e = e ∙ sym (getD-rowsIn moveRow n moves i noMove h)
+
+  pub move-past : n ≤ i → noMove ≡ getD (rowsIn moveRow n moves) i noMove
+  move-past h =
+      let l : length (rowsIn moveRow n moves) ≡ n = length-rowsIn moveRow n moves in
+      sym (List·getD-eq-default (rowsIn moveRow n moves) noMove (omega arith))
