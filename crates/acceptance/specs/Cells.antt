@@ -1,24 +1,17 @@
 -- The states that accept each cell, one word a cell, by one left-to-right pass over the cells. Cell n's word is that of the stack that cell
 -- n stands for.
 -- Assumes nothing.
-pub mod Turns
 pub mod Body
-use Prim.Native.Nat.{ℕ, zero, suc, _<_}
-use mathlib.Core.Path.{_≡_, refl, ap, sym, _∙_}
+pub mod Laws
+pub mod Turns
+use Prim.Native.Nat.{ℕ}
 use mathlib.Core.List.{List, []}
-use native.Mathlib.Nat.{zero-add}
-use native.Mathlib.Omega.{arith}
-use lib.ListN.{length, getD, take}
-use lib.Seq.{getD-take}
-use Rattle.words.specs.Sets.{member}
-use Rattle.stacks.specs.Stack.{Annotation, of1, of2}
+use lib.ListN.{getD}
 use Rattle.automata.specs.Automaton.{Automaton, edges}
-use Rattle.automata.specs.Acceptance.{accepts1, accepts2}
-use Rattle.walks.specs.Cell.{Cell, empty1, symbol, empty2, above, stacks, stackAt, stackOf, order1, order2}
-use Rattle.walks.specs.Cell.Formed.{Formed, Refers, cellAt, orderAt}
-use Rattle.walks.specs.Cell.Laws.{pass, length-pass, pass-at, noteOrder, stack-at, stack-order}
-use Rattle.acceptance.specs.Words.{moveMet, edgeMet, statesMet, word1, word2, wordNote}
-use Rattle.acceptance.specs.Words.Laws.{word1-member, word2-member}
+use Rattle.walks.specs.Cell.{Cell, empty1, symbol, empty2, above}
+use Rattle.walks.specs.Cell.Formed.{orderAt}
+use Rattle.walks.specs.Cell.Values.{pass}
+use Rattle.acceptance.specs.Words.{moveMet, edgeMet, statesMet}
 
 -- the states that accept a cell, by the words of the cells before it
 unfoldable pub cellWord : Automaton → List Cell → List ℕ → Cell → ℕ
@@ -28,11 +21,11 @@ cellWord A cells ws empty2 = A .final2
 cellWord A cells ws (above w t) = statesMet (λ e. e .state) (edgeMet (getD ws w 0) (getD ws t 0)) (edges A)
 
 -- the order of the annotation of a symbol
-unfoldable pub annotationOrder : List Cell → Cell → ℕ
-annotationOrder cells empty1 = 0
-annotationOrder cells (symbol a u s) = orderAt cells u
-annotationOrder cells empty2 = 0
-annotationOrder cells (above w t) = 0
+unfoldable pub annotationOrderAt : List Cell → Cell → ℕ
+annotationOrderAt cells empty1 = 0
+annotationOrderAt cells (symbol a u s) = orderAt cells u
+annotationOrderAt cells empty2 = 0
+annotationOrderAt cells (above w t) = 0
 
 -- the states that accept a cell, by the words of the cells before it, where a symbol's annotation is of order k
 unfoldable pub wordBy : Automaton → ℕ → List ℕ → Cell → ℕ
@@ -41,87 +34,6 @@ wordBy A k ws (symbol a u s) = statesMet (λ m. m .state) (moveMet a k (getD ws 
 wordBy A k ws empty2 = A .final2
 wordBy A k ws (above w t) = statesMet (λ e. e .state) (edgeMet (getD ws w 0) (getD ws t 0)) (edges A)
 
-pub cellWord-by : (A : Automaton) (cells : List Cell) (ws : List ℕ) (c : Cell)
-    → cellWord A cells ws c ≡ wordBy A (annotationOrder cells c) ws c
-unfolding cellWord wordBy annotationOrder
-cellWord-by A cells ws empty1 = refl
-cellWord-by A cells ws (symbol a u s) = refl
-cellWord-by A cells ws empty2 = refl
-cellWord-by A cells ws (above w t) = refl
-
 -- the words of all cells
 unfoldable pub cellWords : Automaton → List Cell → List ℕ
 cellWords A cells = pass (cellWord A cells) [] cells
-
-pub length-cellWords : (A : Automaton) (cells : List Cell) → length (cellWords A cells) ≡ length cells
-unfolding cellWords
-length-cellWords A cells = length-pass (cellWord A cells) [] cells ∙ zero-add (length cells)
-
-pub cellWords-at : (A : Automaton) (cells : List Cell) (n : ℕ) → n < length cells
-    → getD (cellWords A cells) n 0 ≡ cellWord A cells (take n (cellWords A cells)) (cellAt cells n)
-unfolding cellWords
-cellWords-at A cells n h = pass-at (cellWord A cells) [] cells 0 empty1 n n h (zero-add n)
-
-module _ (A : Automaton) (cells : List Cell) (F : Formed cells) where
-  -- cell n's word is that of its stack
-  Right : ℕ → Type 0
-  Right n = getD (cellWords A cells) n 0 ≡ wordNote A (stackAt (stacks cells) n)
-
-  -- a cell whose parts have the right words has the right word
-  part : (n k : ℕ) → k < n → Right k → getD (take n (cellWords A cells)) k 0 ≡ wordNote A (stackAt (stacks cells) k)
-  unfolding Right
-  part n k l h = getD-take n (cellWords A cells) k 0 l ∙ h
-
-  word-of1 : (v : Annotation) → noteOrder v ≡ 1 → wordNote A v ≡ word1 A (order1 v)
-  unfolding noteOrder order1 word1
-  word-of1 (of1 s) e = refl
-  word-of1 (of2 t) e = absurd (omega arith)
-
-  word-of2 : (v : Annotation) → noteOrder v ≡ 2 → wordNote A v ≡ word2 A (order2 v)
-  unfolding noteOrder order2 word1
-  word-of2 (of1 s) e = absurd (omega arith)
-  word-of2 (of2 t) e = refl
-
-  turn : (n : ℕ) → n < length cells → ((k : ℕ) → k < n → Right k) → (c : Cell) → Refers cells n c
-      → cellWord A cells (take n (cellWords A cells)) c ≡ wordNote A (stackOf (stacks cells) c)
-  unfolding cellWord stackOf word1
-  turn n l h empty1 x = refl
-  turn n l h (symbol a u s) x =
-      rw (
-        sym (stack-order cells u (omega (arith, x .0))),
-        part n u (x .0) (h u (x .0)),
-        part n s (x .1) (h s (x .1)),
-        word-of1 (stackAt (stacks cells) s) (stack-order cells s (omega (arith, x .1)) ∙ x .2),
-      )
-  turn n l h empty2 x = refl
-  turn n l h (above w t) x =
-      rw (
-        part n w (x .0) (h w (x .0)),
-        part n t (x .1) (h t (x .1)),
-        word-of1 (stackAt (stacks cells) w) (stack-order cells w (omega (arith, x .0)) ∙ x .2),
-        word-of2 (stackAt (stacks cells) t) (stack-order cells t (omega (arith, x .1)) ∙ x .3),
-      )
-
-  below-right : (b n : ℕ) → n < b → n < length cells → Right n
-  unfolding Right
-  below-right zero n l h = absurd (omega arith)
-  below-right (suc b) n l h =
-      cellWords-at A cells n h
-      ∙ turn n h (λ k i. below-right b k (omega arith) (omega arith)) (cellAt cells n) (F .refers n)
-      ∙ ap (wordNote A) (sym (stack-at F n h))
-
-  -- an order-1 cell's word has the order-1 states that accept its stack
-  pub cell-accepts1 : (n r : ℕ) → n < length cells → orderAt cells n ≡ 1
-      → member (getD (cellWords A cells) n 0) r ≡ accepts1 A (order1 (stackAt (stacks cells) n)) r
-  unfolding Right
-  cell-accepts1 n r h e =
-      ap (λ (w : ℕ). member w r) (below-right (suc n) n (omega arith) h ∙ word-of1 (stackAt (stacks cells) n) (stack-order cells n h ∙ e))
-      ∙ word1-member A (order1 (stackAt (stacks cells) n)) r
-
-  -- an order-2 cell's word has the order-2 states that accept its stack
-  pub cell-accepts2 : (n q : ℕ) → n < length cells → orderAt cells n ≡ 2
-      → member (getD (cellWords A cells) n 0) q ≡ accepts2 A (order2 (stackAt (stacks cells) n)) q
-  unfolding Right
-  cell-accepts2 n q h e =
-      ap (λ (w : ℕ). member w q) (below-right (suc n) n (omega arith) h ∙ word-of2 (stackAt (stacks cells) n) (stack-order cells n h ∙ e))
-      ∙ word2-member A (order2 (stackAt (stacks cells) n)) q

@@ -1,6 +1,6 @@
 pub mod Words
 pub mod Cells
 pub mod Named
-pub mod Written
+pub mod WrittenBelow
 pub mod Starts
 pub mod Table

@@ -10,8 +10,10 @@ use Rattle.walks.specs.Cell.Formed.{Formed, orderAt}
 use Rattle.files.specs.Bytes.{countOf, recordsOf}
 use Rattle.files.specs.Start.{Start, cellBytes, cellOf, cellRecords, cellsOf, configurationOf}
 use Rattle.services.specs.Judge.{accepted}
-use Rattle.bytes_in.specs.Records.{bodyOf, body-records}
-use Rattle.acceptance.specs.Cells.{cellWords, cell-accepts2}
+use Rattle.bytes_in.specs.Records.{bodyOf}
+use Rattle.bytes_in.specs.Records.Laws.{body-records}
+use Rattle.acceptance.specs.Cells.{cellWords}
+use Rattle.acceptance.specs.Cells.Laws.{cell-accepts2}
 use Rattle.acceptance.specs.Cells.Body.{cellRead, cellsIn}
 
 -- the cells of the file are those of its second body

@@ -10,17 +10,17 @@ use lib.Dec.{eqb}
 use Rattle.words.specs.Sets.{member, join, single, partOf}
 use Rattle.stacks.specs.Stack.{Stack1, nil1, cons1, Stack2, nil2, cons2, Annotation, of1, of2}
 use Rattle.automata.specs.Automaton.{Automaton, Move, Edge, edges}
-use Rattle.walks.specs.Cell.Laws.{noteOrder}
+use Rattle.walks.specs.Cell.Laws.{annotationOrder}
 
 -- an annotation of order k whose accepting states are `note` is as a move of this order and annotation set asks
-unfoldable pub noteMet : ℕ → ℕ → ℕ → ℕ → Bool
-noteMet k note zero B = true
-noteMet k note (suc zero) B = eqb k 1 && partOf B note
-noteMet k note (suc (suc o)) B = eqb k 2 && partOf B note
+unfoldable pub annotationMet : ℕ → ℕ → ℕ → ℕ → Bool
+annotationMet k annotation zero B = true
+annotationMet k annotation (suc zero) B = eqb k 1 && partOf B annotation
+annotationMet k annotation (suc (suc o)) B = eqb k 2 && partOf B annotation
 
 -- the move reads symbol a, where the annotation is of order k and accepted by `note`, and the rest by `rest`
 unfoldable pub moveMet : ℕ → ℕ → ℕ → ℕ → Move → Bool
-moveMet a k note rest m = eqb (m .symbol) a && noteMet k note (m .order) (m .B) && partOf (m .R) rest
+moveMet a k annotation rest m = eqb (m .symbol) a && annotationMet k annotation (m .order) (m .B) && partOf (m .R) rest
 
 -- the edge is met by a top accepted by `top` on a rest accepted by `rest`
 unfoldable pub edgeMet : ℕ → ℕ → Edge → Bool
@@ -43,13 +43,13 @@ unfoldable mutual
   -- the order-1 states that accept an order-1 stack
   pub word1 : Automaton → Stack1 → ℕ
   word1 A nil1 = A .final1
-  word1 A (cons1 a u s) = statesMet (λ m. m .state) (moveMet a (noteOrder u) (wordNote A u) (word1 A s)) (A .moves)
+  word1 A (cons1 a u s) = statesMet (λ m. m .state) (moveMet a (annotationOrder u) (wordAnnotation A u) (word1 A s)) (A .moves)
 
   -- the order-2 states that accept an order-2 stack
   pub word2 : Automaton → Stack2 → ℕ
   word2 A nil2 = A .final2
   word2 A (cons2 w t) = statesMet (λ e. e .state) (edgeMet (word1 A w) (word2 A t)) (edges A)
 
-  pub wordNote : Automaton → Annotation → ℕ
-  wordNote A (of1 u) = word1 A u
-  wordNote A (of2 u) = word2 A u
+  pub wordAnnotation : Automaton → Annotation → ℕ
+  wordAnnotation A (of1 u) = word1 A u
+  wordAnnotation A (of2 u) = word2 A u

@@ -9,9 +9,9 @@ ghost use Rattle.tables.specs.Records.{moveRow, asMove, asEdge};
 ghost use Rattle.tables.specs.Held.{automatonOf, edgesIn, EdgesStand, EntriesStand};
 ghost use Rattle.walks.specs.Cell.Formed.{cellOrder, cellAt, orderAt};
 ghost use Rattle.cell_memory.specs.Memory.{cellOf};
-ghost use Rattle.acceptance.specs.Words.{noteMet, moveMet, edgeMet, statesMet, withState};
-ghost use Rattle.acceptance.specs.Named.{MovesNamed, EdgesNamed, Stands};
-ghost use Rattle.acceptance.specs.Cells.{cellWord, cellWords, annotationOrder, wordBy};
+ghost use Rattle.acceptance.specs.Words.{annotationMet, moveMet, edgeMet, statesMet, withState};
+ghost use Rattle.acceptance.specs.Named.{MovesNamed, EdgesNamed, TablesNamed};
+ghost use Rattle.acceptance.specs.Cells.{cellWord, cellWords, annotationOrderAt, wordBy};
 ghost use Rattle.acceptance.specs.Cells.Body.{cellsIn};
 use cell_memory::Cell;
 use tables::Edge;
@@ -19,8 +19,8 @@ use tables::Move;
 use tables::Table;
 
 // Whether an annotation of order k whose accepting states are `note` is as a move of this order and annotation set b asks.
-pub fn note_met(k: u64, note: u64, order: u64, b: u64) -> bool
-    ensures { λ r. ⌜ r ≡ noteMet k note order b ⌝ }
+pub fn annotation_met(k: u64, annotation: u64, order: u64, b: u64) -> bool
+    ensures { λ r. ⌜ r ≡ annotationMet k annotation order b ⌝ }
 {
     if order == 0 {
         return true;
@@ -29,22 +29,22 @@ pub fn note_met(k: u64, note: u64, order: u64, b: u64) -> bool
         if k != 1 {
             return false;
         }
-        return sets::part_of(b, note);
+        return sets::part_of(b, annotation);
     }
     if k != 2 {
         return false;
     }
-    sets::part_of(b, note)
+    sets::part_of(b, annotation)
 }
 
 // Whether a move reads symbol a, where the annotation is of order k and accepted by `note`, and the rest is accepted by `rest`.
-pub fn move_met(m: Move, a: u64, k: u64, note: u64, rest: u64) -> bool
-    ensures { λ r. ⌜ r ≡ moveMet a k note rest (asMove m) ⌝ }
+pub fn move_met(m: Move, a: u64, k: u64, annotation: u64, rest: u64) -> bool
+    ensures { λ r. ⌜ r ≡ moveMet a k annotation rest (asMove m) ⌝ }
 {
     if m.symbol != a {
         return false;
     }
-    if note_met(k, note, m.order, m.b) {
+    if annotation_met(k, annotation, m.order, m.b) {
         return sets::part_of(m.r, rest);
     }
     false
@@ -74,16 +74,16 @@ fn with_state(met: bool, state: u64, word: u64) -> u64
 
 // The order-1 states that accept symbol a annotated by a stack of order k that the states `note` accept, on a rest that the states `rest`
 // accept.
-pub fn symbol_word(z: Table, moves: &[u64], a: u64, k: u64, note: u64, rest: u64) -> u64
+pub fn symbol_word(z: Table, moves: &[u64], a: u64, k: u64, annotation: u64, rest: u64) -> u64
     requires { ⌜ MovesNamed z (now moves) ⌝ }
-    ensures { λ r. ⌜ r ≡ statesMet (λ m. m .state) (moveMet a k note rest) (rowsIn moveRow (z .moves) (now (moves .entry))) ⌝ }
+    ensures { λ r. ⌜ r ≡ statesMet (λ m. m .state) (moveMet a k annotation rest) (rowsIn moveRow (z .moves) (now (moves .entry))) ⌝ }
 {
     let n = z.moves;
     let mut word: u64 = 0;
     let mut i: usize = 0;
     while i < n {
         let m = tables::move_at(moves, i);
-        word = with_state(move_met(m, a, k, note, rest), m.state, word);
+        word = with_state(move_met(m, a, k, annotation, rest), m.state, word);
         i += 1;
     }
     word
@@ -142,15 +142,15 @@ pub fn cell_word(
     cell: Cell,
     k: u64,
 ) -> u64
-    requires { ⌜ Stands z (now inner) (now entries) (now moves) × (n ≤ length (now words)) ⌝ }
+    requires { ⌜ TablesNamed z (now inner) (now entries) (now moves) × (n ≤ length (now words)) ⌝ }
     ensures { λ r. ⌜ r ≡ wordBy (automatonOf z (now (inner .entry)) (now (entries .entry)) (now (moves .entry))) k (take n (now (words .entry))) (cellOf cell) ⌝ }
 {
     match cell {
         Cell::Empty1 => z.final1,
         Cell::Symbol(a, u, s) => {
-            let note = word_before(words, n, u as usize);
+            let annotation = word_before(words, n, u as usize);
             let rest = word_before(words, n, s as usize);
-            symbol_word(z, moves, a as u64, k, note, rest)
+            symbol_word(z, moves, a as u64, k, annotation, rest)
         }
         Cell::Empty2 => z.final2,
         Cell::Above(w, t) => {
@@ -189,7 +189,7 @@ fn order_at(body: &[u8], n: usize, i: usize) -> u64
 // The order of the annotation of a symbol.
 pub fn annotation_order(body: &[u8], n: usize, cell: Cell) -> u64
     requires { ⌜ n * 6 ≤ length (now body) ⌝ }
-    ensures { λ r. ⌜ r ≡ annotationOrder (cellsIn n (now (body .entry))) (cellOf cell) ⌝ }
+    ensures { λ r. ⌜ r ≡ annotationOrderAt (cellsIn n (now (body .entry))) (cellOf cell) ⌝ }
 {
     match cell {
         Cell::Empty1 => 0,
@@ -210,7 +210,7 @@ fn put_word(
     words: &mut [u64],
     i: usize,
 )
-    requires { ⌜ Stands z (now inner) (now entries) (now moves) × (n * 6 ≤ length (now body)) × (i < n) × (n ≤ length (now words)) ⌝ }
+    requires { ⌜ TablesNamed z (now inner) (now entries) (now moves) × (n * 6 ≤ length (now body)) × (i < n) × (n ≤ length (now words)) ⌝ }
     ensures { λ _. ⌜ now (words .exit) ≡ set (now (words .entry)) i (cellWord (automatonOf z (now (inner .entry)) (now (entries .entry)) (now (moves .entry))) (cellsIn n (now (body .entry))) (take i (now (words .entry))) (cellAt (cellsIn n (now (body .entry))) i)) ⌝ }
 {
     let cell = start_records::cell_at(body, i);
@@ -228,7 +228,7 @@ pub fn fill_words(
     n: usize,
     words: &mut [u64],
 )
-    requires { ⌜ Stands z (now inner) (now entries) (now moves) × (n * 6 ≤ length (now body)) × (n ≤ length (now words)) ⌝ }
+    requires { ⌜ TablesNamed z (now inner) (now entries) (now moves) × (n * 6 ≤ length (now body)) × (n ≤ length (now words)) ⌝ }
     ensures { λ _. ⌜ now (words .exit) ≡ cellWords (automatonOf z (now (inner .entry)) (now (entries .entry)) (now (moves .entry))) (cellsIn n (now (body .entry))) ++ drop n (now (words .entry)) ⌝ }
 {
     let mut i: usize = 0;

@@ -17,7 +17,7 @@ module _ (A : Automaton) where
     pub accepts1 : Stack1 → ℕ → Bool
     accepts1 nil1 r = member (A .final1) r
     accepts1 (cons1 a u s) r =
-        some-of (λ m. acceptsNote u (m .order) (m .B) && every (λ q. accepts1 s q) (members (m .R)))
+        some-of (λ m. acceptsAnnotation u (m .order) (m .B) && every (λ q. accepts1 s q) (members (m .R)))
         (only (λ m. eqb (m .state) r && eqb (m .symbol) a) (A .moves))
 
     -- "An order-2 state accepts a nonempty stack if one of its edges (r,S) has r accepting the top and S the rest."
@@ -28,17 +28,17 @@ module _ (A : Automaton) where
 
     -- The annotation is as a move of this order and annotation set asks: anything at order 0, else of that order and accepted by
     -- the set. "A set accepts what all its members accept; the empty set accepts every stack."
-    pub acceptsNote : Annotation → ℕ → ℕ → Bool
-    acceptsNote (of1 u) zero B = true
-    acceptsNote (of1 u) (suc zero) B = every (λ q. accepts1 u q) (members B)
-    acceptsNote (of1 u) (suc (suc k)) B = false
-    acceptsNote (of2 u) zero B = true
-    acceptsNote (of2 u) (suc zero) B = false
-    acceptsNote (of2 u) (suc (suc k)) B = every (λ q. accepts2 u q) (members B)
+    pub acceptsAnnotation : Annotation → ℕ → ℕ → Bool
+    acceptsAnnotation (of1 u) zero B = true
+    acceptsAnnotation (of1 u) (suc zero) B = every (λ q. accepts1 u q) (members B)
+    acceptsAnnotation (of1 u) (suc (suc k)) B = false
+    acceptsAnnotation (of2 u) zero B = true
+    acceptsAnnotation (of2 u) (suc zero) B = false
+    acceptsAnnotation (of2 u) (suc (suc k)) B = every (λ q. accepts2 u q) (members B)
 
   -- the annotation and the rest of a top symbol are as move m asks
   unfoldable pub moveFits : Annotation → Stack1 → Move → Bool
-  moveFits u s m = acceptsNote u (m .order) (m .B) && every (λ q. accepts1 s q) (members (m .R))
+  moveFits u s m = acceptsAnnotation u (m .order) (m .B) && every (λ q. accepts1 s q) (members (m .R))
 
   -- the top and the rest of an order-2 stack are as edge e asks
   unfoldable pub edgeFits : Stack1 → Stack2 → Edge → Bool

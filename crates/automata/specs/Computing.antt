@@ -33,7 +33,7 @@ unfolding System.entered System.stepOn System.step
 open-system = 0
 
 unfoldable pub open-acceptance : ℕ
-unfolding Acceptance.moveFits Acceptance.edgeFits Acceptance.inTarget Acceptance.accepts1 Acceptance.accepts2 Acceptance.acceptsNote
+unfolding Acceptance.moveFits Acceptance.edgeFits Acceptance.inTarget Acceptance.accepts1 Acceptance.accepts2 Acceptance.acceptsAnnotation
 open-acceptance = 0
 
 unfoldable pub open-automaton : ℕ

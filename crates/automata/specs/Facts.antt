@@ -54,8 +54,8 @@ pub record TableFacts (P : ℕ) (A : Automaton) : Type 0 where
 pub record OwnFacts (P : ℕ) (A : Automaton) : Type 0 where
   pub entry-inner : (e : Entry) → List·Memᴰ e (A .entries) → All (e .S) (λ q. P ≤ q)
   pub rest-inner : (m : Move) → List·Memᴰ m (A .moves) → All (m .R) (λ r. r < A .J)
-  pub note1-inner : (m : Move) → List·Memᴰ m (A .moves) → m .order ≡ 1 → All (m .B) (λ r. r < A .J)
-  pub note2-inner : (m : Move) → List·Memᴰ m (A .moves) → m .order ≡ 2 → All (m .B) (λ q. P ≤ q)
+  pub annotation1-inner : (m : Move) → List·Memᴰ m (A .moves) → m .order ≡ 1 → All (m .B) (λ r. r < A .J)
+  pub annotation2-inner : (m : Move) → List·Memᴰ m (A .moves) → m .order ≡ 2 → All (m .B) (λ q. P ≤ q)
 
 -- A has all that `own` has, under the same numbers, and more entries and moves after it.
 pub record Extends (own A : Automaton) : Type 0 where

@@ -67,7 +67,7 @@ pub struct Body {
 }
 
 // Where the body after this one begins, or that this one's line is wrong.
-pub enum Next {
+pub enum NextBody {
     At(usize),
     Wrong,
 }
@@ -109,16 +109,16 @@ fn line_right(file: &[u8], n: usize, offset: usize, b: Body) -> bool
 }
 
 // Where the body after that of line n begins, which itself begins at the offset.
-fn next_body(file: &[u8], n: usize, offset: usize, b: Body) -> Next
+fn next_body(file: &[u8], n: usize, offset: usize, b: Body) -> NextBody
     requires { ⌜ (9 + 8 * n ≤ length (now file)) × (b .size < 2 ^ 16) ⌝ }
     ensures { λ r. ⌜ r ≡ nextBody (now (file .entry)) n offset (theBody b) ⌝ }
 {
     if line_right(file, n, offset, b) {
         let size = b.size as usize;
         let records = count_of(file, n) * size;
-        Next::At(offset_of(file, n) + records)
+        NextBody::At(offset_of(file, n) + records)
     } else {
-        Next::Wrong
+        NextBody::Wrong
     }
 }
 
@@ -153,7 +153,7 @@ fn bodies_placed(file: &[u8], table: &[u16], n: usize, first: usize) -> bool
     let mut offset = first;
     while i < n {
         let b = body_at(table, i);
-        let Next::At(next) = next_body(file, i, offset, b) else {
+        let NextBody::At(next) = next_body(file, i, offset, b) else {
             return false;
         };
         offset = next;

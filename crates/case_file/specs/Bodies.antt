@@ -12,7 +12,8 @@ use Rattle.words.specs.Lists.Laws.{only-append}
 use Rattle.files.specs.Bytes.{countOf, offsetOf, records}
 use Rattle.files.specs.Case.{Head, headOf, head, EdgeBytes, edgeBytes, entriesOf}
 use Rattle.files.specs.Case.Laws.{CasePlaces}
-use Rattle.bytes_in.specs.Records.{recordAt, bodyOf, length-body, records-here, map-more}
+use Rattle.bytes_in.specs.Records.{recordAt, bodyOf}
+use Rattle.bytes_in.specs.Records.Laws.{length-body, records-here, map-more}
 
 -- ---- the head
 

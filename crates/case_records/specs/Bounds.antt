@@ -1,67 +1,15 @@
 -- The bounds of records, part by part.
 -- Assumes nothing.
-use Prim.Native.Nat.{ℕ, zero, suc, _+_, _/_, _%_, _^_, _≤_}
-use mathlib.Core.Bool.{Bool, true, false, _&&_}
-use mathlib.Core.Path.{_≡_, refl}
-use lib.Dec.{eqb, ltb, leb}
-use borrow.Author.Tests.{eq-eqb, ne-eqb}
-use native.Mathlib.Omega.{arith}
-use Rattle.files.specs.Case.{Head, inner1, inner2, RuleBytes, ruleRight, EdgeBytes, edgeRight, noteRight}
-use Rattle.case_records.specs.Inner.{every-below, every-between}
+pub mod Laws
+use Prim.Native.Nat.{ℕ}
+use mathlib.Core.Bool.{Bool, true, false}
+use lib.Dec.{eqb, ltb}
+use Rattle.files.specs.Case.{Head, EdgeBytes}
 
 -- b is right for the code
 unfoldable pub operandRight : Head → ℕ → ℕ → Bool
 operandRight h code b = elim (ltb code 4) [ true ↦ ltb b (h .A) | false ↦ eqb b 0 ]
 
 -- the second byte is right for the state
-unfoldable pub secondRight : Head → EdgeBytes → Bool
-secondRight h x = elim (ltb (x .state) (h .P)) [ true ↦ eqb (x .second) 255 | false ↦ ltb (x .second) (h .J) ]
-
--- ---- the tests by their parts
-
-pub inner1-is : (h : Head) (s : ℕ) → inner1 h s ≡ eqb (s / 2 ^ h .J) 0
-unfolding inner1
-inner1-is h s = every-below (h .J) s
-
-pub inner2-is : (h : Head) (s : ℕ) → inner2 h s ≡ eqb (s % 2 ^ h .P) 0 && eqb (s / 2 ^ (h .P + h .I)) 0
-unfolding inner2
-inner2-is h s = every-between (h .P) (h .P + h .I) s
-
-pub rule-parts : (h : Head) (x : RuleBytes)
-    → ruleRight h x
-    ≡ ltb (x .p) (h .P)
-    && ltb (x .a) (h .A)
-    && leb 1 (x .code)
-    && leb (x .code) 8
-    && ltb (x .next) (h .P)
-    && operandRight h (x .code) (x .b)
-unfolding ruleRight operandRight
-rule-parts h x = refl
-
-pub edge-parts : (h : Head) (x : EdgeBytes) → edgeRight h x ≡ secondRight h x && ltb (x .state) (h .P + h .I) && inner2 h (x .S)
-unfolding edgeRight secondRight
-edge-parts h x = refl
-
--- ---- annotations, by their order
-
-pub note-empty : (h : Head) (order B : ℕ) → (order ≡ 0 → ⊥) → B ≡ 0 → noteRight h order B ≡ false
-unfolding noteRight
-note-empty h zero B n e = absurd (n refl)
-note-empty h (suc zero) B n e = rw (eq-eqb B 0 e)
-note-empty h (suc (suc zero)) B n e = rw (eq-eqb B 0 e)
-note-empty h (suc (suc (suc k))) B n e = refl
-
-pub note-one : (h : Head) (order B : ℕ) → order ≡ 1 → (B ≡ 0 → ⊥) → noteRight h order B ≡ inner1 h B
-unfolding noteRight
-note-one h order B e n = rw (e, ne-eqb B 0 n)
-
-pub note-two : (h : Head) (order B : ℕ) → order ≡ 2 → (B ≡ 0 → ⊥) → noteRight h order B ≡ inner2 h B
-unfolding noteRight
-note-two h order B e n = rw (e, ne-eqb B 0 n)
-
-pub note-more : (h : Head) (order B : ℕ) → 3 ≤ order → noteRight h order B ≡ false
-unfolding noteRight
-note-more h zero B n = absurd (omega arith)
-note-more h (suc zero) B n = absurd (omega arith)
-note-more h (suc (suc zero)) B n = absurd (omega arith)
-note-more h (suc (suc (suc k))) B n = refl
+unfoldable pub firstRight : Head → EdgeBytes → Bool
+firstRight h x = elim (ltb (x .state) (h .P)) [ true ↦ eqb (x .first) 255 | false ↦ ltb (x .first) (h .J) ]

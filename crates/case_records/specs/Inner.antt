@@ -12,7 +12,8 @@ use borrow.Author.Tests.{eqb-true, eq-eqb, ltb-true, ltb-false, lt-ltb, leb-true
 use Rattle.words.specs.Sets.{member, members}
 use Rattle.words.specs.Sets.Laws.{Has, has-below, has-empty, has-in, in-has, zero-or-member}
 use Rattle.words.specs.Lists.{every}
-use Rattle.words.specs.Lists.Laws.{by-test, and-left, and-right, in-every, every-in}
+use Rattle.words.specs.Lists.Laws.{in-every, every-in}
+use Rattle.words.specs.Tests.{by-test, and-left, and-right}
 
 -- ---- members of the high and of the low part of a word
 

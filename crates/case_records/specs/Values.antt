@@ -1,12 +1,9 @@
 -- What the values of the code stand for: heads, operations, rules and edges.
 -- Assumes nothing.
-use Prim.Native.Nat.{ℕ, zero, suc, _≤_, _<_}
-use mathlib.Core.Path.{_≡_, refl}
-use native.Mathlib.Omega.{arith}
+pub mod Laws
 use Rattle.stacks.specs.Stack as Stack
 use Rattle.stacks.specs.System as System
 use Rattle.files.specs.Case as Case
-use Rattle.files.specs.Case.{operationOf}
 use Rattle.case_records.specs.declared.Head.{Head}
 use Rattle.case_records.specs.declared.Operation.{Operation}
 use Rattle.case_records.specs.declared.Operation.the-variants.{Rewrite, Push1, Push2, Copy, Pop1, Pop2, Collapse1, Collapse2}
@@ -39,23 +36,4 @@ theRule ρ =
     record { control = ρ .control; symbol = ρ .symbol; operation = theOperation (ρ .operation); next = ρ .next }
 
 abbrev pub theEdge : Edge → Case.EdgeBytes
-theEdge e = record { state = e .state; second = e .second; S = e .others }
-
--- Code 0 is read as 1 and codes above 8 as 8; a sound case has neither.
-pub operation-first : (code b : ℕ) → code < 2 → operationOf code b ≡ Stack.rewrite b
-unfolding operationOf
-operation-first zero b h = refl
-operation-first (suc zero) b h = refl
-operation-first (suc (suc k)) b h = absurd (omega arith)
-
-pub operation-last : (code b : ℕ) → 8 ≤ code → operationOf code b ≡ Stack.collapse2
-unfolding operationOf
-operation-last zero b h = absurd (omega arith)
-operation-last (suc zero) b h = absurd (omega arith)
-operation-last (suc (suc zero)) b h = absurd (omega arith)
-operation-last (suc (suc (suc zero))) b h = absurd (omega arith)
-operation-last (suc (suc (suc (suc zero)))) b h = absurd (omega arith)
-operation-last (suc (suc (suc (suc (suc zero))))) b h = absurd (omega arith)
-operation-last (suc (suc (suc (suc (suc (suc zero)))))) b h = absurd (omega arith)
-operation-last (suc (suc (suc (suc (suc (suc (suc zero))))))) b h = absurd (omega arith)
-operation-last (suc (suc (suc (suc (suc (suc (suc (suc k)))))))) b h = refl
+theEdge e = record { state = e .state; first = e .first; S = e .s }

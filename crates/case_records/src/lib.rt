@@ -4,12 +4,12 @@ ghost use mathlib.Core.Bool.{true};
 ghost use Prim.Native.Nat.{_<_, _≤_, _+_, _*_};
 ghost use lib.ListN.{length};
 ghost use Rattle.files.specs.Case;
-ghost use Rattle.files.specs.Case.{headOf, headRight, ruleBytes, ruleRight, operationOf, ruleOf, edgeBytes, edgeRight, moveOf, noteRight, moveRight, edgeKey, moveKey};
+ghost use Rattle.files.specs.Case.{headOf, headRight, ruleBytes, ruleRight, operationOf, ruleOf, edgeBytes, edgeRight, moveOf, annotationRight, moveRight, edgeKey, moveKey};
 ghost use Rattle.words.specs.Order.{less};
 ghost use Rattle.bytes_in.specs.Records.{recordAt};
 ghost use Rattle.case_records.specs.Values.{theHead, theOperation, theRule, theEdge};
 ghost use Rattle.tables.specs.Records.{asMove};
-ghost use Rattle.case_records.specs.Bounds.{operandRight, secondRight};
+ghost use Rattle.case_records.specs.Bounds.{operandRight, firstRight};
 ghost use Rattle.case_records.specs.Keys.{lessThen};
 use tables::Move;
 
@@ -48,8 +48,8 @@ pub struct Rule {
 // An edge's order-2 state, its second byte and its set S.
 pub struct Edge {
     pub state: u64,
-    pub second: u64,
-    pub others: u64,
+    pub first: u64,
+    pub s: u64,
 }
 
 // ---- readers
@@ -108,8 +108,8 @@ pub fn read_edge(b: &[u8]) -> Edge
 {
     Edge {
         state: bytes_in::byte_at(b, 0),
-        second: bytes_in::byte_at(b, 1),
-        others: bytes_in::number2(b, 2),
+        first: bytes_in::byte_at(b, 1),
+        s: bytes_in::number2(b, 2),
     }
 }
 
@@ -241,13 +241,13 @@ pub fn rule_right(h: Head, b: &[u8]) -> bool
 }
 
 // Whether the second byte is right for the state: 255 for a control, and an inner order-1 state for an inner state.
-fn second_right(h: Head, e: Edge) -> bool
-    ensures { λ r. ⌜ r ≡ secondRight (theHead h) (theEdge e) ⌝ }
+fn first_right(h: Head, e: Edge) -> bool
+    ensures { λ r. ⌜ r ≡ firstRight (theHead h) (theEdge e) ⌝ }
 {
     if e.state < h.controls {
-        return e.second == 255;
+        return e.first == 255;
     }
-    e.second < h.inner1
+    e.first < h.inner1
 }
 
 // The edge names a state, a right second byte and inner order-2 states.
@@ -255,19 +255,19 @@ pub fn edge_right(h: Head, e: Edge) -> bool
     requires { ⌜ headRight (theHead h) ≡ true ⌝ }
     ensures { λ r. ⌜ r ≡ edgeRight (theHead h) (theEdge e) ⌝ }
 {
-    if second_right(h, e) {
+    if first_right(h, e) {
         if h.controls + h.inner2 <= e.state {
             return false;
         }
-        return inner2(h, e.others);
+        return inner2(h, e.s);
     }
     false
 }
 
 // B is empty exactly at order 0, and names inner states of the annotation's order.
-fn note_right(h: Head, order: u64, b: u64) -> bool
+fn annotation_right(h: Head, order: u64, b: u64) -> bool
     requires { ⌜ headRight (theHead h) ≡ true ⌝ }
-    ensures { λ r. ⌜ r ≡ noteRight (theHead h) order b ⌝ }
+    ensures { λ r. ⌜ r ≡ annotationRight (theHead h) order b ⌝ }
 {
     if order == 0 {
         return b == 0;
@@ -293,7 +293,7 @@ pub fn move_right(h: Head, n: u64, m: Move) -> bool
     if h.symbols <= m.symbol {
         return false;
     }
-    if note_right(h, m.order, m.b) {
+    if annotation_right(h, m.order, m.b) {
         return inner1(h, m.r);
     }
     false
@@ -318,9 +318,9 @@ pub fn key_before(x: u64, y: u64, rest: bool) -> bool
 pub fn edge_before(x: Edge, y: Edge) -> bool
     ensures { λ r. ⌜ r ≡ less (edgeKey (theEdge x)) (edgeKey (theEdge y)) ⌝ }
 {
-    let second = key_before(x.second, y.second, false);
-    let others = key_before(x.others, y.others, second);
-    key_before(x.state, y.state, others)
+    let first = key_before(x.first, y.first, false);
+    let s = key_before(x.s, y.s, first);
+    key_before(x.state, y.state, s)
 }
 
 // The move x comes before y by (state, symbol, order, B, R).

@@ -1,3 +1,3 @@
-pub mod Written
+pub mod WrittenRows
 pub mod Decoded
 pub mod Own

@@ -1,99 +1,25 @@
 -- The case's own automaton in three tables.
 -- Assumes nothing.
+pub mod Laws
 use Prim.Native.Nat.{ℕ, _*_, _≤_}
-use mathlib.Core.Path.{_≡_, ap, ap₂, sym, _∙_}
-use mathlib.Core.List.{List, map}
-use lib.ListN.{length, length-map}
-use native.Mathlib.Omega.{arith}
-use Rattle.files.specs.Bytes.{countOf, records, recordsOf}
-use Rattle.files.specs.Bytes.Laws.{length-recordsOf}
-use Rattle.files.specs.Case.{Head, head, edgeBytes, edgeRecords, entriesOf, innerEdges, moveOf, moveRecords, ownOf}
-use Rattle.tables.specs.declared.Table.{Table}
-use Rattle.tables.specs.Rows.{Layout, rowsIn}
-use Rattle.tables.specs.Records.{edgeRow, entryRow, moveRow}
-use Rattle.tables.specs.Held.{automatonOf}
-use Rattle.bytes_in.specs.Records.{bodyOf, records-here}
-use Rattle.case_tables.specs.Written.{written, rows-written}
+use mathlib.Core.Path.{_≡_}
+use mathlib.Core.List.{List}
+use lib.ListN.{length}
+use Rattle.files.specs.Bytes.{countOf}
+use Rattle.files.specs.Case.{ownOf}
+use Rattle.tables.specs.Rows.{Layout}
+use Rattle.case_tables.specs.WrittenRows.{written}
 
 -- The tables lent hold as many inner edges as the file has edges, its entries and its moves.
-pub record Room (file inner entries moves : List ℕ) : Type 0 where
+pub record RoomForOwn (file inner entries moves : List ℕ) : Type 0 where
   pub inner-room : countOf file 2 * 3 ≤ length inner
   pub entry-room : length (ownOf file .entries) * 2 ≤ length entries
   pub move-room : countOf file 3 * 5 ≤ length moves
 
--- ---- the lists of the automaton, by the bodies that are read
-
-edges-here : (file body : List ℕ) (n : ℕ) → body ≡ bodyOf file 2 4 → n ≡ countOf file 2 → map edgeBytes (records n 4 body) ≡ edgeRecords file
-unfolding edgeRecords
-edges-here file body n e f = ap (map edgeBytes) (records-here file 2 4 body n e f)
-
-pub own-inner : (file body : List ℕ) (n : ℕ) (h : Head) → h ≡ head file → body ≡ bodyOf file 2 4 → n ≡ countOf file 2
-    → innerEdges h (map edgeBytes (records n 4 body)) ≡ ownOf file .inner
-unfolding ownOf
-own-inner file body n h g e f = ap₂ innerEdges g (edges-here file body n e f)
-
-pub own-entries : (file body : List ℕ) (n : ℕ) (h : Head) → h ≡ head file → body ≡ bodyOf file 2 4 → n ≡ countOf file 2
-    → entriesOf h (map edgeBytes (records n 4 body)) ≡ ownOf file .entries
-unfolding ownOf
-own-entries file body n h g e f = ap₂ entriesOf g (edges-here file body n e f)
-
-pub own-moves : (file body : List ℕ) (n : ℕ) → body ≡ bodyOf file 3 19 → n ≡ countOf file 3
-    → map moveOf (records n 19 body) ≡ ownOf file .moves
-unfolding ownOf moveRecords
-own-moves file body n e f = ap (map moveOf) (records-here file 3 19 body n e f)
-
 -- ---- the automaton that the tables hold
 
 -- a table that was written, with its number of rows
-pub record Holds {A : Type 0} (L : Layout A) (l : List A) (t₀ t : List ℕ) (n : ℕ) : Type 0 where
+pub record HoldsOwn {A : Type 0} (L : Layout A) (l : List A) (t₀ t : List ℕ) (n : ℕ) : Type 0 where
   pub is : t ≡ written L t₀ 0 l
   pub count : n ≡ length l
   pub room : n * L .width ≤ length t₀
-
-holds-rows : {A : Type 0} (L : Layout A) (l : List A) (t₀ t : List ℕ) (n : ℕ) → Holds L l t₀ t n → rowsIn L n t ≡ l
-holds-rows L l t₀ t n h =
-    let e : n * L .width ≡ length l * L .width = ap (λ (k : ℕ). k * L .width) (h .count) in
-    let r : n * L .width ≤ length t₀ = h .room in
-    ap₂ (rowsIn L) (h .count) (h .is) ∙ rows-written L t₀ l (omega arith)
-
-pub own-loaded : (file : List ℕ) (z : Table) (i₀ i e₀ e m₀ m : List ℕ) (h : Head) → h ≡ head file
-    → z .states ≡ h .J → z .final1 ≡ h .final1 → z .final2 ≡ h .final2
-    → Holds edgeRow (ownOf file .inner) i₀ i (z .edges)
-    → Holds entryRow (ownOf file .entries) e₀ e (z .entries)
-    → Holds moveRow (ownOf file .moves) m₀ m (z .moves)
-    → automatonOf z i e m ≡ ownOf file
-unfolding ownOf
-own-loaded file z i₀ i e₀ e m₀ m h g j f₁ f₂ hi he hm =
-    let j′ : z .states ≡ head file .J = j ∙ ap (λ (x : Head). x .J) g in
-    let f₁′ : z .final1 ≡ head file .final1 = f₁ ∙ ap (λ (x : Head). x .final1) g in
-    let f₂′ : z .final2 ≡ head file .final2 = f₂ ∙ ap (λ (x : Head). x .final2) g in
-    let ri : rowsIn edgeRow (z .edges) i ≡ ownOf file .inner = holds-rows edgeRow (ownOf file .inner) i₀ i (z .edges) hi in
-    let re : rowsIn entryRow (z .entries) e ≡ ownOf file .entries = holds-rows entryRow (ownOf file .entries) e₀ e (z .entries) he in
-    let rm : rowsIn moveRow (z .moves) m ≡ ownOf file .moves = holds-rows moveRow (ownOf file .moves) m₀ m (z .moves) hm in
-    λ k. record { J = j′ k; final1 = f₁′ k; final2 = f₂′ k; inner = ri k; entries = re k; moves = rm k }
-
-length-moves : (file : List ℕ) → length (ownOf file .moves) ≡ countOf file 3
-unfolding ownOf moveRecords
-length-moves file = length-map (recordsOf file 3 19) moveOf ∙ length-recordsOf file 3 19
-
--- ---- the calls
-
-pub holds-inner : (file body i₀ i : List ℕ) (n k : ℕ) (h : Head) → h ≡ head file → body ≡ bodyOf file 2 4 → n ≡ countOf file 2
-    → i ≡ written edgeRow i₀ 0 (innerEdges h (map edgeBytes (records n 4 body))) → k ≡ length (innerEdges h (map edgeBytes (records n 4 body)))
-    → k ≤ n → countOf file 2 * 3 ≤ length i₀ → Holds edgeRow (ownOf file .inner) i₀ i k
-holds-inner file body i₀ i n k h g e f p q l r =
-    let own : innerEdges h (map edgeBytes (records n 4 body)) ≡ ownOf file .inner = own-inner file body n h g e f in
-    record { is = p ∙ ap (written edgeRow i₀ 0) own; count = q ∙ ap length own; room = omega arith }
-
-pub holds-entries : (file body e₀ e : List ℕ) (n k : ℕ) (h : Head) → h ≡ head file → body ≡ bodyOf file 2 4 → n ≡ countOf file 2
-    → e ≡ written entryRow e₀ 0 (entriesOf h (map edgeBytes (records n 4 body))) → k ≡ length (entriesOf h (map edgeBytes (records n 4 body)))
-    → length (ownOf file .entries) * 2 ≤ length e₀ → Holds entryRow (ownOf file .entries) e₀ e k
-holds-entries file body e₀ e n k h g d f p q r =
-    let own : entriesOf h (map edgeBytes (records n 4 body)) ≡ ownOf file .entries = own-entries file body n h g d f in
-    let count : k ≡ length (ownOf file .entries) = q ∙ ap length own in
-    record { is = p ∙ ap (written entryRow e₀ 0) own; count = count; room = omega arith }
-
-pub holds-moves : (file body m₀ m : List ℕ) (n : ℕ) → body ≡ bodyOf file 3 19 → n ≡ countOf file 3
-    → m ≡ written moveRow m₀ 0 (map moveOf (records n 19 body)) → countOf file 3 * 5 ≤ length m₀ → Holds moveRow (ownOf file .moves) m₀ m n
-holds-moves file body m₀ m n e f p r =
-    record { is = p ∙ ap (written moveRow m₀ 0) (own-moves file body n e f); count = f ∙ sym (length-moves file); room = omega arith }

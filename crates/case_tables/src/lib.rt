@@ -9,9 +9,9 @@ ghost use Rattle.files.specs.Case.{caseBodies, edgeBytes, entriesOf, innerEdges
 ghost use Rattle.tables.specs.Records.{edgeRow, entryRow, moveRow};
 ghost use Rattle.tables.specs.Held.{automatonOf};
 ghost use Rattle.case_records.specs.Values.{theHead, theEdge};
-ghost use Rattle.case_tables.specs.Written.{written};
+ghost use Rattle.case_tables.specs.WrittenRows.{written};
 ghost use Rattle.case_tables.specs.Decoded.{MoreInner};
-ghost use Rattle.case_tables.specs.Own.{Room};
+ghost use Rattle.case_tables.specs.Own.{RoomForOwn};
 use case_records::Head;
 use tables::Table;
 
@@ -27,8 +27,8 @@ fn add_inner(h: Head, e: case_records::Edge, t: &mut [u64], n: usize) -> usize
     }
     let x = tables::Edge {
         state: e.state,
-        first: e.second,
-        s: e.others,
+        first: e.first,
+        s: e.s,
     };
     tables::insert_edge(t, n, x)
 }
@@ -61,7 +61,7 @@ fn add_entry(h: Head, e: case_records::Edge, t: &mut [u64], k: usize) -> usize
     if e.state < h.controls {
         let x = tables::Entry {
             control: e.state,
-            s: e.others,
+            s: e.s,
         };
         tables::put_entry(t, k, x);
         return k + 1;
@@ -102,7 +102,7 @@ pub fn load_moves(body: &[u8], n: usize, t: &mut [u64])
 
 // Decodes the automaton of a file whose bodies are in place.
 pub fn load_case(file: &[u8], inner: &mut [u64], entries: &mut [u64], moves: &mut [u64]) -> Table
-    requires { ⌜ (placed caseBodies (now file) ≡ true) × Room (now file) (now inner) (now entries) (now moves) ⌝ }
+    requires { ⌜ (placed caseBodies (now file) ≡ true) × RoomForOwn (now file) (now inner) (now entries) (now moves) ⌝ }
     ensures { λ z. ⌜ automatonOf z (now (inner .exit)) (now (entries .exit)) (now (moves .exit)) ≡ ownOf (now (file .entry)) ⌝ }
     ensures { λ z. ⌜ now (inner .exit) ≡ written edgeRow (now (inner .entry)) 0 (ownOf (now (file .entry)) .inner) ⌝ }
     ensures { λ z. ⌜ now (entries .exit) ≡ written entryRow (now (entries .entry)) 0 (ownOf (now (file .entry)) .entries) ⌝ }
@@ -115,7 +115,7 @@ pub fn load_case(file: &[u8], inner: &mut [u64], entries: &mut [u64], moves: &mu
     let entry_count = load_entries(h, case_file::edge_body(file), n, entries);
     load_moves(case_file::move_body(file), m, moves);
     Table {
-        states: h.inner1,
+        inner1: h.inner1,
         final1: h.final1,
         final2: h.final2,
         edges: inner_count,

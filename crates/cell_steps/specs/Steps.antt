@@ -38,27 +38,27 @@ symbolOf collapse2 = 0
 -- ---- choices
 
 -- the choices of a cell as words: one number for one state, or a number for each state
-pub data Chosen : Type 0 where
-  one : ℕ → ℕ → Chosen
-  all : List ℕ → Chosen
+pub data CellChoices : Type 0 where
+  one : ℕ → ℕ → CellChoices
+  all : List ℕ → CellChoices
 
-unfoldable pub choiceOf : Chosen → ℕ → ℕ
+unfoldable pub choiceOf : CellChoices → ℕ → ℕ
 choiceOf (one q n) = chooses q n
 choiceOf (all ns) = λ q. getD ns q 0
 
 -- the words where cell n, which had no choices, has these
-unfoldable pub withChosen : List ℕ → ℕ → Chosen → List ℕ
+unfoldable pub withChosen : List ℕ → ℕ → CellChoices → List ℕ
 withChosen ws n (one q k) = withChoice ws n q k
 withChosen ws n (all ns) = withChoices ws n ns
 
 -- the words where the cells from number n on, which had no choices, have these
-abbrev pub withAllChosen : List ℕ → ℕ → List Chosen → List ℕ
+abbrev pub withAllChosen : List ℕ → ℕ → List CellChoices → List ℕ
 withAllChosen = putFrom withChosen
 
 -- The new top symbol chooses `number` for order-1 state r and the new root chooses `edge` for p′. The symbol that stays below chooses the
 -- numbers ms, and the order-2 stack below a copy the numbers es. In the order of `cellsAfter`.
 module _ (r number p′ edge : ℕ) (es ms : List ℕ) where
-  unfoldable pub stepChosen : Operation → List Chosen
+  unfoldable pub stepChosen : Operation → List CellChoices
   stepChosen (rewrite b) = one r number ∷ one p′ edge ∷ []
   stepChosen (push1 b) = all ms ∷ one r number ∷ one p′ edge ∷ []
   stepChosen (push2 b) = all ms ∷ one r number ∷ one p′ edge ∷ []

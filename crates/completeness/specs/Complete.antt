@@ -19,7 +19,7 @@ use Rattle.automata.specs.Derivation.Laws.{conclusion, derivations-in}
 use Rattle.automata.specs.Saturation.{held}
 use Rattle.automata.specs.Saturation.Laws.{held-stands}
 use Rattle.automata.specs.Facts.{TableFacts, RuleFacts, Extends, Closed}
-use Rattle.completeness.specs.Reading.{Meets, note-in}
+use Rattle.completeness.specs.Reading.{Meets, annotation-in}
 use Rattle.completeness.specs.Turn.{LeavesAccepted, turn}
 
 -- ---- a result that is held
@@ -36,7 +36,7 @@ held-accepts A x u s t h y z =
     let top : Accepts1 A (cons1 (x .symbol) u s) (A .J + e) = record {
       number = i;
       move = entryMove-of A (k .move);
-      note = rw (k .order-is, k .B-is) (note-in A u (x .order) (x .B) (y .fits) (y .note));
+      annotation = rw (k .order-is, k .B-is) (annotation-in A u (x .order) (x .B) (y .fits) (y .annotation));
       rest = rw (k .R-is) (y .rest);
     } in
     record {

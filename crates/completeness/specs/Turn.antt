@@ -70,7 +70,7 @@ module _ {P : ℕ} (A : Automaton) (F : TableFacts P A) where
           state-is = m .move .state-is;
           entry-is = y .entry-is;
         };
-        meets = move-meets A u s F (m .number) (m .move .below) (m .note) (m .rest);
+        meets = move-meets A u s F (m .number) (m .move .below) (m .annotation) (m .rest);
         rest = y .rest;
       }
 
@@ -161,10 +161,10 @@ module _ {P : ℕ} (A : Automaton) (F : TableFacts P A) where
         }
     turn (push1 b) u s t x =
         let m = at-move next b (of1 s) (cons1 (ρ .symbol) u s) t x in
-        push-turn b (of1 s) u s t _ _ m (record { fits = inl refl; note = all-empty _; rest = m .meets .note }) (m .rest)
+        push-turn b (of1 s) u s t _ _ m (record { fits = inl refl; annotation = all-empty _; rest = m .meets .annotation }) (m .rest)
     turn (push2 b) u s t x =
         let m = at-move next b (of2 t) (cons1 (ρ .symbol) u s) t x in
-        push-turn b (of2 t) u s t _ _ m (record { fits = inl refl; note = all-empty _; rest = all-empty _ }) (all-join (m .rest) (m .meets .note))
+        push-turn b (of2 t) u s t _ _ m (record { fits = inl refl; annotation = all-empty _; rest = all-empty _ }) (all-join (m .rest) (m .meets .annotation))
     turn copy u s t x =
         let w : Stack1 = cons1 (ρ .symbol) u s in
         let m = at-move next (ρ .symbol) u s (cons2 w t) x in
@@ -191,11 +191,11 @@ module _ {P : ℕ} (A : Automaton) (F : TableFacts P A) where
         }
     turn pop1 u s t x =
         let e = at-entry next s t x in
-        entry-turn u s t _ e (record { fits = inl refl; note = all-empty _; rest = all-single _ _ (e .top) })
-    turn pop2 u s t x = free-turn u s t _ _ (record { fits = inl refl; note = all-empty _; rest = all-empty _ }) (all-single _ _ x)
+        entry-turn u s t _ e (record { fits = inl refl; annotation = all-empty _; rest = all-single _ _ (e .top) })
+    turn pop2 u s t x = free-turn u s t _ _ (record { fits = inl refl; annotation = all-empty _; rest = all-empty _ }) (all-single _ _ x)
     turn collapse1 (of1 v) s t x =
         let e = at-entry next v t x in
-        entry-turn (of1 v) s t _ e (record { fits = inr refl; note = all-single _ _ (e .top); rest = all-empty _ })
+        entry-turn (of1 v) s t _ e (record { fits = inr refl; annotation = all-single _ _ (e .top); rest = all-empty _ })
     turn collapse1 (of2 v) s t x = absurd x
     turn collapse2 (of1 v) s t x = absurd x
-    turn collapse2 (of2 v) s t x = free-turn (of2 v) s t _ _ (record { fits = inr refl; note = all-single _ _ x; rest = all-empty _ }) (all-empty _)
+    turn collapse2 (of2 v) s t x = free-turn (of2 v) s t _ _ (record { fits = inr refl; annotation = all-single _ _ x; rest = all-empty _ }) (all-empty _)

@@ -7,7 +7,7 @@ use mathlib.Core.Path.{_≡_}
 use mathlib.Core.List.{[], _∷_, List·Memᴰ}
 use lib.ListN.{length}
 use Rattle.replies.specs.Numbers.{refusalOf}
-use Rattle.services.specs.Memory.{zeros}
+use Rattle.words.specs.Lists.{zeros}
 use Rattle.services.specs.Saturate.{Lent, SaturateDone, saturateService}
 use Rattle.services.specs.Judge.{JudgeInput, JudgeDone, judgeService}
 use Rattle.services.specs.Guide.{GuideInput, GuideDone, guideService}

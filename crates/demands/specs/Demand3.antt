@@ -16,7 +16,8 @@ use Rattle.replies.specs.declared.Reply.the-variants.{Walked}
 use Rattle.replies.specs.declared.Halt.the-variants.{CellsShort}
 use Rattle.files.specs.Case.{ownOf, rulesOf}
 use Rattle.files.specs.Start.{startsOf, cellsOf}
-use Rattle.services.specs.Memory.{zeros, padded}
+use Rattle.services.specs.Memory.{padded}
+use Rattle.words.specs.Lists.{zeros}
 use Rattle.services.specs.Judge.{JudgeInput, judgeService}
 use Rattle.services.specs.Guide.{GuideInput, GuideDone, cellsLent, guideService}
 use Rattle.guidance.specs.Prefix.{haltBy, isArrival}

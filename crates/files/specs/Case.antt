@@ -3,7 +3,7 @@
 pub mod Records
 pub mod Laws
 use Prim.Native.Nat.{ℕ, zero, suc, _+_}
-use mathlib.Core.Bool.{Bool, true, false, not, _&&_, _||_}
+use mathlib.Core.Bool.{Bool, true, false, not, _&&_}
 use mathlib.Core.List.{List, [], _∷_, map}
 use lib.ListN.{length, getD}
 use lib.Dec.{eqb, ltb, leb}
@@ -95,22 +95,22 @@ ruleRecords file = map ruleBytes (recordsOf file 1 5)
 -- an edge's four bytes: order-2 state, order-1 state, S
 pub record EdgeBytes : Type 0 where
   pub state : ℕ
-  pub second : ℕ
+  pub first : ℕ
   pub S : ℕ
 
 unfoldable pub edgeBytes : List ℕ → EdgeBytes
-edgeBytes x = record { state = getD x 0 0; second = getD x 1 0; S = field 2 2 x }
+edgeBytes x = record { state = getD x 0 0; first = getD x 1 0; S = field 2 2 x }
 
 -- "For an inner state the second byte is an inner order-1 state. For a control it is 255 and the edge is an entry."
 unfoldable pub edgeRight : Head → EdgeBytes → Bool
 edgeRight h x =
-    elim (ltb (x .state) (h .P)) [ true ↦ eqb (x .second) 255 | false ↦ ltb (x .second) (h .J) ]
+    elim (ltb (x .state) (h .P)) [ true ↦ eqb (x .first) 255 | false ↦ ltb (x .first) (h .J) ]
     && ltb (x .state) (h .P + h .I)
     && inner2 h (x .S)
 
 -- (state, S, second byte)
 unfoldable pub edgeKey : EdgeBytes → List ℕ
-edgeKey x = x .state ∷ x .S ∷ x .second ∷ []
+edgeKey x = x .state ∷ x .S ∷ x .first ∷ []
 
 unfoldable pub edgeRecords : List ℕ → List EdgeBytes
 edgeRecords file = map edgeBytes (recordsOf file 2 4)
@@ -123,7 +123,7 @@ entriesOf h xs = map (λ x. record { control = x .state; S = x .S }) (only (λ x
 unfoldable pub innerEdges : Head → List EdgeBytes → List Edge
 innerEdges h xs =
     sorted choiceKey
-    (map (λ x. record { state = x .state; first = x .second; S = x .S }) (only (λ x. not (ltb (x .state) (h .P))) xs))
+    (map (λ x. record { state = x .state; first = x .first; S = x .S }) (only (λ x. not (ltb (x .state) (h .P))) xs))
 
 -- ---- body 4
 
@@ -132,15 +132,15 @@ unfoldable pub moveOf : List ℕ → Move
 moveOf x = record { state = getD x 0 0; symbol = getD x 1 0; order = getD x 2 0; B = field 3 8 x; R = field 11 8 x }
 
 -- "B is empty exactly at order 0." B names states of the annotation's order.
-unfoldable pub noteRight : Head → ℕ → ℕ → Bool
-noteRight h zero B = eqb B 0
-noteRight h (suc zero) B = not (eqb B 0) && inner1 h B
-noteRight h (suc (suc zero)) B = not (eqb B 0) && inner2 h B
-noteRight h (suc (suc (suc k))) B = false
+unfoldable pub annotationRight : Head → ℕ → ℕ → Bool
+annotationRight h zero B = eqb B 0
+annotationRight h (suc zero) B = not (eqb B 0) && inner1 h B
+annotationRight h (suc (suc zero)) B = not (eqb B 0) && inner2 h B
+annotationRight h (suc (suc (suc k))) B = false
 
 -- the move, where there are n order-1 states
 unfoldable pub moveRight : Head → ℕ → Move → Bool
-moveRight h n m = ltb (m .state) n && ltb (m .symbol) (h .A) && noteRight h (m .order) (m .B) && inner1 h (m .R)
+moveRight h n m = ltb (m .state) n && ltb (m .symbol) (h .A) && annotationRight h (m .order) (m .B) && inner1 h (m .R)
 
 -- (state, symbol, order, B, R)
 unfoldable pub moveKey : Move → List ℕ

@@ -1,7 +1,7 @@
 -- Start files.
 -- Assumes nothing.
 pub mod Laws
-use Prim.Native.Nat.{ℕ, zero, suc}
+use Prim.Native.Nat.{ℕ, suc}
 use mathlib.Core.Bool.{Bool, true, false, not, _&&_}
 use mathlib.Core.List.{List, [], _∷_, map}
 use lib.ListN.{length, getD}
@@ -10,7 +10,7 @@ use Rattle.words.specs.Lists.{every}
 use Rattle.stacks.specs.System.{Configuration}
 use Rattle.walks.specs.Cell.{Cell, empty1, symbol, empty2, above, stacks, stackAt, order2}
 use Rattle.files.specs.Bytes.{field, Body, placed, recordsOf, Test, firstHit}
-use Rattle.files.specs.Case.{Head, head}
+use Rattle.files.specs.Case.{head}
 
 unfoldable pub startBodies : List Body
 startBodies = record { kind = 1; least = 1; most = 64; size = 3 } ∷ record { kind = 2; least = 1; most = 256; size = 6 } ∷ []

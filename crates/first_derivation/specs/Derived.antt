@@ -12,7 +12,7 @@ use Rattle.stacks.specs.Stack.{Operation, pop2}
 use Rattle.stacks.specs.System.{Rule}
 use Rattle.automata.specs.Automaton.{Automaton, moveAt, edgeAt, entrySet}
 use Rattle.automata.specs.Derivation.{Result, Derivation, firstDerivation}
-use Rattle.walks.specs.Guide.{least}
+use Rattle.walks.specs.Guide.{firstOrZero}
 use Rattle.results.specs.Collecting.{ruleIn}
 use Rattle.first_reading.specs.First.{isSome}
 use Rattle.first_reading.specs.Answer.{writtenAll, Answers}
@@ -27,10 +27,10 @@ operationBy rules n = elim (getElem? rules n) [ none ↦ pop2 | some ρ ↦ ρ .
 
 -- how the edges and the moves of a derivation are written
 unfoldable pub derivationEdges : Automaton → List Rule → Derivation → List ℕ → List ℕ
-derivationEdges A rules d ws = writtenAll (edgeStates A (operationBy rules (d .rule)) (least (d .premise))) (d .edges) ws
+derivationEdges A rules d ws = writtenAll (edgeStates A (operationBy rules (d .rule)) (firstOrZero (d .premise))) (d .edges) ws
 
 unfoldable pub derivationMoves : Automaton → List Rule → Derivation → List ℕ → List ℕ
-derivationMoves A rules d ws = writtenAll (readStates A (operationBy rules (d .rule)) (least (d .premise)) (d .edges)) (d .moves) ws
+derivationMoves A rules d ws = writtenAll (readStates A (operationBy rules (d .rule)) (firstOrZero (d .premise)) (d .edges)) (d .moves) ws
 
 -- the numbers of a rule and of a premise (0 where there is none)
 pub record Step : Type 0 where
@@ -42,7 +42,7 @@ foundIn Missing = none
 foundIn (Found n i) = some (record { rule = n; premise = i })
 
 abbrev pub stepOf : Derivation → Step
-stepOf d = record { rule = d .rule; premise = least (d .premise) }
+stepOf d = record { rule = d .rule; premise = firstOrZero (d .premise) }
 
 -- The search for the first derivation of x answers r, and writes what it chose.
 pub record FindsFirst (A : Automaton) (rules : List Rule) (x : Result) (r : First) (es₀ es ms₀ ms : List ℕ) : Type 0 where

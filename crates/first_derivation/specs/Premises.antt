@@ -16,12 +16,12 @@ use Rattle.words.specs.Order.{same}
 use Rattle.stacks.specs.Stack.{Operation, rewrite, push1, push2, copy, pop1, pop2, collapse1, collapse2}
 use Rattle.automata.specs.Automaton.{Automaton, Move, noEntry, moveAt, entryOf, entrySet}
 use Rattle.automata.specs.Derivation.{Result, Joins, joinsOf, named}
-use Rattle.walks.specs.Guide.{least}
+use Rattle.walks.specs.Guide.{firstOrZero}
 use Rattle.first_reading.specs.First.{onlyIf, isSome}
 use Rattle.first_reading.specs.Answer.{writtenAll, Answers}
 use Rattle.first_reading.specs.Search.{joinsKey, wanted, Numbers, onlyMoves, firstReading}
-use Rattle.first_derivation.specs.declared.Premise.{Premise}
-use Rattle.first_derivation.specs.declared.Premise.the-variants.{Nothing, By}
+use Rattle.first_derivation.specs.declared.PremiseFound.{PremiseFound}
+use Rattle.first_derivation.specs.declared.PremiseFound.the-variants.{Nothing, By}
 use Rattle.first_derivation.specs.Search.{Step, withPremise, byMove, byEntry}
 
 -- a move of an entry with set S gives x by a rewrite
@@ -67,17 +67,17 @@ unfoldable pub writesMoves : Automaton → Operation → ℕ → Numbers → Lis
 writesMoves A op i n ws = writtenAll (readStates A op i (n .edges)) (n .moves) ws
 
 -- a search for a derivation by the operation from premise i answers t, and writes what it chose
-abbrev pub Derives : Automaton → Operation → ℕ → Option Numbers → Bool → List ℕ → List ℕ → List ℕ → List ℕ → Type 0
-Derives A op i o t es₀ es ms₀ ms = Answers o (writesEdges A op i) (writesMoves A op i) t es₀ es ms₀ ms
+abbrev pub FindsDerivation : Automaton → Operation → ℕ → Option Numbers → Bool → List ℕ → List ℕ → List ℕ → List ℕ → Type 0
+FindsDerivation A op i o t es₀ es ms₀ ms = Answers o (writesEdges A op i) (writesMoves A op i) t es₀ es ms₀ ms
 
 -- ---- steps, which name their premise
 
 -- how the edges and the moves of a step by the operation are written
 unfoldable pub stepEdges : Automaton → Operation → Step → List ℕ → List ℕ
-stepEdges A op s ws = writesEdges A op (least (s .premise)) (s .numbers) ws
+stepEdges A op s ws = writesEdges A op (firstOrZero (s .premise)) (s .numbers) ws
 
 unfoldable pub stepMoves : Automaton → Operation → Step → List ℕ → List ℕ
-stepMoves A op s ws = writesMoves A op (least (s .premise)) (s .numbers) ws
+stepMoves A op s ws = writesMoves A op (firstOrZero (s .premise)) (s .numbers) ws
 
 -- what move i gives as the premise of a rule to control p′ that reads b
 unfoldable pub moveGives : Automaton → ℕ → Result → Operation → ℕ → ℕ → ℕ → Option Step
@@ -87,11 +87,11 @@ moveGives A a x op p′ b i = onlyIf (eqb (moveAt A i .symbol) b && entryOf A p�
 unfoldable pub entryGives : Automaton → Result → (ℕ → Joins) → ℕ → ℕ → Option Step
 entryGives A x joins p′ e = onlyIf (eqb (getD (A .entries) e noEntry .control) p′) (Option·map (withPremise e) (byEntry A x joins e))
 
-abbrev pub premiseIn : Premise → Option ℕ
+abbrev pub premiseIn : PremiseFound → Option ℕ
 premiseIn Nothing = none
 premiseIn (By i) = some i
 
 -- A search for a step by the operation answers r: the number of the step's premise, or nothing; and it writes what it chose.
-pub record Finds (A : Automaton) (op : Operation) (o : Option Step) (r : Premise) (es₀ es ms₀ ms : List ℕ) : Type 0 where
-  pub number : premiseIn r ≡ Option·map (λ s. least (s .premise)) o
+pub record Finds (A : Automaton) (op : Operation) (o : Option Step) (r : PremiseFound) (es₀ es ms₀ ms : List ℕ) : Type 0 where
+  pub number : premiseIn r ≡ Option·map (λ s. firstOrZero (s .premise)) o
   pub written : Answers o (stepEdges A op) (stepMoves A op) (isSome (premiseIn r)) es₀ es ms₀ ms

@@ -10,27 +10,27 @@ ghost use Rattle.words.specs.Order.{same};
 ghost use Rattle.automata.specs.Derivation.{noJoins};
 ghost use Rattle.tables.specs.Records.{asMove, asResult};
 ghost use Rattle.tables.specs.Held.{automatonOf, tableOf, EntriesStand};
-ghost use Rattle.walks.specs.Guide.{least};
+ghost use Rattle.walks.specs.Guide.{firstOrZero};
 ghost use Rattle.first_reading.specs.First.{isSome};
 ghost use Rattle.first_reading.specs.Search.{joinsKey, wanted};
 ghost use Rattle.first_reading.specs.Answer.{Answer, Answers};
-ghost use Rattle.first_reading.specs.Words.{movesIn, Stands};
+ghost use Rattle.first_reading.specs.Words.{movesIn, TablesWithin};
 ghost use Rattle.case_records.specs.Values.{theOperation, theRule};
 ghost use Rattle.results.specs.Collecting.{rulesIn};
 ghost use Rattle.first_derivation.specs.Search.{byMove, firstMove, firstEntry, entryJoins, byNone, firstStep, byRule};
-ghost use Rattle.first_derivation.specs.Premises.{rewritten, pushed, readsMoves, Derives, stepEdges, stepMoves, moveGives, entryGives, premiseIn, Finds};
+ghost use Rattle.first_derivation.specs.Premises.{rewritten, pushed, readsMoves, FindsDerivation, stepEdges, stepMoves, moveGives, entryGives, premiseIn, Finds};
 ghost use Rattle.first_derivation.specs.Derived.{FindsFirst, StatesSmall};
 use case_records::Operation;
 use case_records::Rule;
 use joins::Joins;
 use tables::Move;
-use tables::Outcome;
+use tables::Result;
 use tables::Table;
 
 // ---- a move as the premise
 
 // Whether a move m of an entry with set s gives x by a rewrite.
-fn by_rewrite(s: u64, m: Move, x: Outcome) -> bool
+fn by_rewrite(s: u64, m: Move, x: Result) -> bool
     ensures { λ t. ⌜ t ≡ rewritten s (asMove m) (asResult x) ⌝ }
 {
     if s != x.s {
@@ -49,7 +49,7 @@ fn by_push(
     s: u64,
     r: u64,
     m: Move,
-    x: Outcome,
+    x: Result,
     chosen: &mut [u16],
 ) -> bool
     requires { ⌜ (n * 5 ≤ length (now moves)) × (n ≤ 1024) × (length (now chosen) ≡ 64) ⌝ }
@@ -74,12 +74,12 @@ fn by_move(
     a: u64,
     op: Operation,
     i: usize,
-    x: Outcome,
+    x: Result,
     edges: &mut [u16],
     chosen: &mut [u16],
 ) -> bool
-    requires { ⌜ Stands z (now inner) (now entries) (now moves) × (i < z .moves) × (length (now edges) ≡ 64) × (length (now chosen) ≡ 64) ⌝ }
-    ensures { λ t. ⌜ Derives (automatonOf z (now (inner .entry)) (now (entries .entry)) (now (moves .entry))) (theOperation op) i (byMove (automatonOf z (now (inner .entry)) (now (entries .entry)) (now (moves .entry))) a (asResult x) (theOperation op) i) t (now (edges .entry)) (now (edges .exit)) (now (chosen .entry)) (now (chosen .exit)) ⌝ }
+    requires { ⌜ TablesWithin z (now inner) (now entries) (now moves) × (i < z .moves) × (length (now edges) ≡ 64) × (length (now chosen) ≡ 64) ⌝ }
+    ensures { λ t. ⌜ FindsDerivation (automatonOf z (now (inner .entry)) (now (entries .entry)) (now (moves .entry))) (theOperation op) i (byMove (automatonOf z (now (inner .entry)) (now (entries .entry)) (now (moves .entry))) a (asResult x) (theOperation op) i) t (now (edges .entry)) (now (edges .exit)) (now (chosen .entry)) (now (chosen .exit)) ⌝ }
 {
     let n = z.moves;
     let m = tables::move_at(moves, i);
@@ -114,7 +114,7 @@ fn by_move(
 }
 
 // The number of a premise (0 where the rule has none), or that there is no derivation.
-pub enum Premise {
+pub enum PremiseFound {
     Nothing,
     By(u64),
 }
@@ -130,11 +130,11 @@ fn try_move(
     p: u64,
     b: u64,
     i: usize,
-    x: Outcome,
+    x: Result,
     edges: &mut [u16],
     chosen: &mut [u16],
 ) -> bool
-    requires { ⌜ Stands z (now inner) (now entries) (now moves) × (i < z .moves) × (length (now edges) ≡ 64) × (length (now chosen) ≡ 64) ⌝ }
+    requires { ⌜ TablesWithin z (now inner) (now entries) (now moves) × (i < z .moves) × (length (now edges) ≡ 64) × (length (now chosen) ≡ 64) ⌝ }
     ensures { λ t. ⌜ Answers (moveGives (automatonOf z (now (inner .entry)) (now (entries .entry)) (now (moves .entry))) a (asResult x) (theOperation op) p b i) (stepEdges (automatonOf z (now (inner .entry)) (now (entries .entry)) (now (moves .entry))) (theOperation op)) (stepMoves (automatonOf z (now (inner .entry)) (now (entries .entry)) (now (moves .entry))) (theOperation op)) t (now (edges .entry)) (now (edges .exit)) (now (chosen .entry)) (now (chosen .exit)) ⌝ }
 {
     let m = tables::move_at(moves, i);
@@ -157,22 +157,22 @@ fn first_move(
     op: Operation,
     p: u64,
     b: u64,
-    x: Outcome,
+    x: Result,
     edges: &mut [u16],
     chosen: &mut [u16],
-) -> Premise
-    requires { ⌜ Stands z (now inner) (now entries) (now moves) × (length (now edges) ≡ 64) × (length (now chosen) ≡ 64) ⌝ }
+) -> PremiseFound
+    requires { ⌜ TablesWithin z (now inner) (now entries) (now moves) × (length (now edges) ≡ 64) × (length (now chosen) ≡ 64) ⌝ }
     ensures { λ r. ⌜ Finds (automatonOf z (now (inner .entry)) (now (entries .entry)) (now (moves .entry))) (theOperation op) (firstMove (automatonOf z (now (inner .entry)) (now (entries .entry)) (now (moves .entry))) a (asResult x) (theOperation op) p b) r (now (edges .entry)) (now (edges .exit)) (now (chosen .entry)) (now (chosen .exit)) ⌝ }
 {
     let n = z.moves;
     let mut i: usize = 0;
     while i < n {
         if try_move(z, inner, entries, moves, a, op, p, b, i, x, edges, chosen) {
-            return Premise::By(i as u64);
+            return PremiseFound::By(i as u64);
         }
         i += 1;
     }
-    Premise::Nothing
+    PremiseFound::Nothing
 }
 
 // ---- an entry as the premise, and no premise
@@ -188,7 +188,7 @@ fn is_single(n: u64, s: u64) -> bool
 }
 
 // Whether x has no annotation set and the rest set whose only member is r.
-fn rest_is(r: u64, x: Outcome) -> bool
+fn rest_is(r: u64, x: Result) -> bool
     ensures { λ t. ⌜ t ≡ same (joinsKey (record { order = 0; B = 0; R = single r })) (wanted (asResult x)) ⌝ }
 {
     if x.order != 0 {
@@ -201,7 +201,7 @@ fn rest_is(r: u64, x: Outcome) -> bool
 }
 
 // Whether x has the annotation set of order k whose only member is r, and no rest set.
-fn annotation_is(k: u64, r: u64, x: Outcome) -> bool
+fn annotation_is(k: u64, r: u64, x: Result) -> bool
     ensures { λ t. ⌜ t ≡ same (joinsKey (record { order = k; B = single r; R = 0 })) (wanted (asResult x)) ⌝ }
 {
     if x.order != k {
@@ -214,7 +214,7 @@ fn annotation_is(k: u64, r: u64, x: Outcome) -> bool
 }
 
 // Whether order-1 state r as the premise gives the sets of x, by pop 1 or by collapse 1.
-fn entry_joins(collapse: bool, r: u64, x: Outcome) -> bool
+fn entry_joins(collapse: bool, r: u64, x: Result) -> bool
     ensures { λ t. ⌜ t ≡ same (joinsKey (entryJoins collapse r)) (wanted (asResult x)) ⌝ }
 {
     if collapse {
@@ -224,7 +224,7 @@ fn entry_joins(collapse: bool, r: u64, x: Outcome) -> bool
 }
 
 // Whether entry e is a premise of a rule to control p by pop 1 or by collapse 1, and gives x.
-fn try_entry(z: Table, entries: &[u64], collapse: bool, p: u64, e: usize, x: Outcome) -> bool
+fn try_entry(z: Table, entries: &[u64], collapse: bool, p: u64, e: usize, x: Result) -> bool
     requires { ⌜ EntriesStand z (now entries) × (e < z .entries) ⌝ }
     ensures { λ t. ⌜ t ≡ isSome (entryGives (tableOf z (now (entries .entry)) []) (asResult x) (entryJoins collapse) p e) ⌝ }
 {
@@ -235,49 +235,49 @@ fn try_entry(z: Table, entries: &[u64], collapse: bool, p: u64, e: usize, x: Out
     if g.s != x.s {
         return false;
     }
-    entry_joins(collapse, z.states + e as u64, x)
+    entry_joins(collapse, z.inner1 + e as u64, x)
 }
 
 // The first entry that is a premise of a rule to control p by pop 1 or by collapse 1, and gives x.
-fn first_entry(z: Table, entries: &[u64], collapse: bool, p: u64, x: Outcome) -> Premise
+fn first_entry(z: Table, entries: &[u64], collapse: bool, p: u64, x: Result) -> PremiseFound
     requires { ⌜ EntriesStand z (now entries) ⌝ }
-    ensures { λ r. ⌜ premiseIn r ≡ Option·map (λ s. least (s .premise)) (firstEntry (tableOf z (now (entries .entry)) []) (asResult x) (entryJoins collapse) p) ⌝ }
+    ensures { λ r. ⌜ premiseIn r ≡ Option·map (λ s. firstOrZero (s .premise)) (firstEntry (tableOf z (now (entries .entry)) []) (asResult x) (entryJoins collapse) p) ⌝ }
 {
     let n = z.entries;
     let mut e: usize = 0;
     while e < n {
         if try_entry(z, entries, collapse, p, e, x) {
-            return Premise::By(e as u64);
+            return PremiseFound::By(e as u64);
         }
         e += 1;
     }
-    Premise::Nothing
+    PremiseFound::Nothing
 }
 
 // Pop 2, to control p.
-fn by_pop2(p: u64, x: Outcome) -> Premise
-    ensures { λ r. ⌜ premiseIn r ≡ Option·map (λ s. least (s .premise)) (byNone (asResult x) (single p) noJoins) ⌝ }
+fn by_pop2(p: u64, x: Result) -> PremiseFound
+    ensures { λ r. ⌜ premiseIn r ≡ Option·map (λ s. firstOrZero (s .premise)) (byNone (asResult x) (single p) noJoins) ⌝ }
 {
     if !is_single(p, x.s) {
-        return Premise::Nothing;
+        return PremiseFound::Nothing;
     }
     if !first_reading::is_wanted(0, 0, 0, x) {
-        return Premise::Nothing;
+        return PremiseFound::Nothing;
     }
-    Premise::By(0)
+    PremiseFound::By(0)
 }
 
 // Collapse 2, to control p.
-fn by_collapse2(p: u64, x: Outcome) -> Premise
-    ensures { λ r. ⌜ premiseIn r ≡ Option·map (λ s. least (s .premise)) (byNone (asResult x) 0 (record { order = 2; B = single p; R = 0 })) ⌝ }
+fn by_collapse2(p: u64, x: Result) -> PremiseFound
+    ensures { λ r. ⌜ premiseIn r ≡ Option·map (λ s. firstOrZero (s .premise)) (byNone (asResult x) 0 (record { order = 2; B = single p; R = 0 })) ⌝ }
 {
     if 0 != x.s {
-        return Premise::Nothing;
+        return PremiseFound::Nothing;
     }
     if !annotation_is(2, p, x) {
-        return Premise::Nothing;
+        return PremiseFound::Nothing;
     }
-    Premise::By(0)
+    PremiseFound::By(0)
 }
 
 // ---- a rule
@@ -291,11 +291,11 @@ fn first_step(
     a: u64,
     op: Operation,
     p: u64,
-    x: Outcome,
+    x: Result,
     edges: &mut [u16],
     chosen: &mut [u16],
-) -> Premise
-    requires { ⌜ Stands z (now inner) (now entries) (now moves) × (length (now edges) ≡ 64) × (length (now chosen) ≡ 64) ⌝ }
+) -> PremiseFound
+    requires { ⌜ TablesWithin z (now inner) (now entries) (now moves) × (length (now edges) ≡ 64) × (length (now chosen) ≡ 64) ⌝ }
     ensures { λ r. ⌜ Finds (automatonOf z (now (inner .entry)) (now (entries .entry)) (now (moves .entry))) (theOperation op) (firstStep (automatonOf z (now (inner .entry)) (now (entries .entry)) (now (moves .entry))) a (asResult x) (theOperation op) p) r (now (edges .entry)) (now (edges .exit)) (now (chosen .entry)) (now (chosen .exit)) ⌝ }
 {
     match op {
@@ -329,18 +329,18 @@ fn by_rule(
     entries: &[u64],
     moves: &[u64],
     rule: Rule,
-    x: Outcome,
+    x: Result,
     edges: &mut [u16],
     chosen: &mut [u16],
-) -> Premise
-    requires { ⌜ Stands z (now inner) (now entries) (now moves) × (length (now edges) ≡ 64) × (length (now chosen) ≡ 64) ⌝ }
+) -> PremiseFound
+    requires { ⌜ TablesWithin z (now inner) (now entries) (now moves) × (length (now edges) ≡ 64) × (length (now chosen) ≡ 64) ⌝ }
     ensures { λ r. ⌜ Finds (automatonOf z (now (inner .entry)) (now (entries .entry)) (now (moves .entry))) (theOperation (rule .operation)) (byRule (automatonOf z (now (inner .entry)) (now (entries .entry)) (now (moves .entry))) (asResult x) (theRule rule)) r (now (edges .entry)) (now (edges .exit)) (now (chosen .entry)) (now (chosen .exit)) ⌝ }
 {
     if rule.control != x.control {
-        return Premise::Nothing;
+        return PremiseFound::Nothing;
     }
     if rule.symbol != x.symbol {
-        return Premise::Nothing;
+        return PremiseFound::Nothing;
     }
     let op = rule.operation;
     first_step(
@@ -372,18 +372,27 @@ pub fn first_derivation(
     moves: &[u64],
     body: &[u8],
     count: usize,
-    x: Outcome,
+    x: Result,
     edges: &mut [u16],
     chosen: &mut [u16],
 ) -> First
-    requires { ⌜ Stands z (now inner) (now entries) (now moves) × (count * 5 ≤ length (now body)) × (length (now edges) ≡ 64) × (length (now chosen) ≡ 64) ⌝ }
+    requires { ⌜ TablesWithin z (now inner) (now entries) (now moves) × (count * 5 ≤ length (now body)) × (length (now edges) ≡ 64) × (length (now chosen) ≡ 64) ⌝ }
     ensures { λ r. ⌜ FindsFirst (automatonOf z (now (inner .entry)) (now (entries .entry)) (now (moves .entry))) (rulesIn count (now (body .entry))) (asResult x) r (now (edges .entry)) (now (edges .exit)) (now (chosen .entry)) (now (chosen .exit)) ⌝ }
     ensures small { λ r. ⌜ StatesSmall (automatonOf z (now (inner .entry)) (now (entries .entry)) (now (moves .entry))) ⌝ }
 {
     let mut i: usize = 0;
     while i < count {
         let rule = case_records::rule_at(body, i);
-        if let Premise::By(premise) = by_rule(z, inner, entries, moves, rule, x, edges, chosen) {
+        if let PremiseFound::By(premise) = by_rule(
+            z,
+            inner,
+            entries,
+            moves,
+            rule,
+            x,
+            edges,
+            chosen,
+        ) {
             return First::Found(i as u64, premise);
         }
         i += 1;

@@ -32,11 +32,11 @@ module _ {B : Type 0} where
     pub moves : Answer o wm t ms₀ ms
 
   -- A loop over the numbers below n has come to i: the search f has not succeeded.
-  pub record Passed (n : ℕ) (f : ℕ → Option B) (i : ℕ) : Type 0 where
+  pub record NotFoundBelow (n : ℕ) (f : ℕ → Option B) (i : ℕ) : Type 0 where
     pub below : i ≤ n
     pub fails : firstBelow i f ≡ none
 
 -- a slice is as it was
-pub record Same (ws₀ ws : List ℕ) : Type 0 where
+pub record Unchanged (ws₀ ws : List ℕ) : Type 0 where
   pub same : ws ≡ ws₀
   pub long : length ws ≡ length ws₀

@@ -35,7 +35,7 @@ followed A a goal j S q qs names s e = onlyIf (eqb (edgeAt A e .state) q)
     (Option·map (withEdge e) (firstEdges A a goal j S qs (join names (single (edgeAt A e .first))) (join s (edgeAt A e .S))))
 
 -- What is asked of the tables: that they are in their slices, and their sizes.
-pub record Stands (z : Table) (inner entries moves : List ℕ) : Type 0 where
+pub record TablesWithin (z : Table) (inner entries moves : List ℕ) : Type 0 where
   pub edges-stand : EdgesStand z inner
   pub entries-stand : EntriesStand z entries
   pub moves-stand : MovesStand z moves

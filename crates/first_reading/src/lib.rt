@@ -10,15 +10,15 @@ ghost use Rattle.tables.specs.Held.{automatonOf};
 ghost use Rattle.tables.specs.Records.{asResult};
 ghost use Rattle.joins.specs.Joining.{theJoins, asJoins, asJoined};
 ghost use Rattle.first_reading.specs.Search.{joinsKey, wanted, within, firstReading, firstEdges};
-ghost use Rattle.first_reading.specs.Words.{movesIn, tried, followed, writesEdges, writesMoves, Stands};
+ghost use Rattle.first_reading.specs.Words.{movesIn, tried, followed, writesEdges, writesMoves, TablesWithin};
 ghost use Rattle.first_reading.specs.Answer.{writtenAll, Answer, Answers};
 use joins::Joined;
 use joins::Joins;
-use tables::Outcome;
+use tables::Result;
 use tables::Table;
 
 // The joins, where there are any and their sets are parts of those of x.
-fn parts_within(j: Joined, x: Outcome) -> Joined
+fn parts_within(j: Joined, x: Result) -> Joined
     ensures { λ r. ⌜ asJoined r ≡ within (asResult x) (asJoined j) ⌝ }
 {
     let Joined::To(k) = j else {
@@ -34,7 +34,7 @@ fn parts_within(j: Joined, x: Outcome) -> Joined
 }
 
 // Whether these joins are those of x.
-pub fn is_wanted(order: u64, b: u64, r: u64, x: Outcome) -> bool
+pub fn is_wanted(order: u64, b: u64, r: u64, x: Result) -> bool
     ensures { λ t. ⌜ t ≡ same (joinsKey (theJoins order b r)) (wanted (asResult x)) ⌝ }
 {
     if order != x.order {
@@ -57,7 +57,7 @@ fn read_with(
     order: u64,
     b: u64,
     r: u64,
-    x: Outcome,
+    x: Result,
     chosen: &mut [u16],
 ) -> bool
     requires { ⌜ (n * 5 ≤ length (now moves)) × (n ≤ 1024) × (i < n) × (q < 64) × (length (now chosen) ≡ 64) ⌝ }
@@ -86,7 +86,7 @@ pub fn first_reading(
     order: u64,
     b: u64,
     r: u64,
-    x: Outcome,
+    x: Result,
     chosen: &mut [u16],
 ) -> bool
     requires { ⌜ (n * 5 ≤ length (now moves)) × (n ≤ 1024) × (length (now chosen) ≡ 64) ⌝ }
@@ -122,11 +122,11 @@ fn follow(
     names: u64,
     s: u64,
     j: Joins,
-    x: Outcome,
+    x: Result,
     edges: &mut [u16],
     chosen: &mut [u16],
 ) -> bool
-    requires { ⌜ Stands z (now inner) (now entries) (now moves) × (e < z .edges + z .entries) × (q < 64) × (length (now edges) ≡ 64) × (length (now chosen) ≡ 64) ⌝ }
+    requires { ⌜ TablesWithin z (now inner) (now entries) (now moves) × (e < z .edges + z .entries) × (q < 64) × (length (now edges) ≡ 64) × (length (now chosen) ≡ 64) ⌝ }
     ensures { λ t. ⌜ Answers (followed (automatonOf z (now (inner .entry)) (now (entries .entry)) (now (moves .entry))) a (wanted (asResult x)) (asJoins j) (x .s) q (members others) names s e) (writesEdges (q ∷ members others)) (writesMoves (automatonOf z (now (inner .entry)) (now (entries .entry)) (now (moves .entry))) names) t (now (edges .entry)) (now (edges .exit)) (now (chosen .entry)) (now (chosen .exit)) ⌝ }
 {
     let g = tables::edge_of(z, inner, entries, e);
@@ -172,11 +172,11 @@ pub fn first_edges(
     names: u64,
     s: u64,
     j: Joins,
-    x: Outcome,
+    x: Result,
     edges: &mut [u16],
     chosen: &mut [u16],
 ) -> bool
-    requires { ⌜ Stands z (now inner) (now entries) (now moves) × (length (now edges) ≡ 64) × (length (now chosen) ≡ 64) ⌝ }
+    requires { ⌜ TablesWithin z (now inner) (now entries) (now moves) × (length (now edges) ≡ 64) × (length (now chosen) ≡ 64) ⌝ }
     ensures { λ t. ⌜ Answers (firstEdges (automatonOf z (now (inner .entry)) (now (entries .entry)) (now (moves .entry))) a (wanted (asResult x)) (asJoins j) (x .s) (members left) names s) (writesEdges (members left)) (writesMoves (automatonOf z (now (inner .entry)) (now (entries .entry)) (now (moves .entry))) names) t (now (edges .entry)) (now (edges .exit)) (now (chosen .entry)) (now (chosen .exit)) ⌝ }
 {
     if left == 0 {

@@ -1,25 +1,24 @@
 -- The full run on cells follows the decorated run. So from a start marked yes it arrives in the target, and its trace is a run of the rules.
 -- Assumes nothing.
-use Prim.Native.Nat.{ℕ, zero, suc, _<_, _≤_}
+use Prim.Native.Nat.{ℕ, zero, suc, _<_}
 use mathlib.Core.Bool.{true}
-use mathlib.Core.Path.{_≡_, refl, ap, ap₂, sym, _∙_, subst, subst₃}
-use mathlib.Core.Logic.{_⊎_, inl, inr}
+use mathlib.Core.Path.{_≡_, refl, ap, sym, _∙_, subst, subst₃}
 use mathlib.Core.Option.{some, Option·some-injective, Option·none-ne-some}
-use mathlib.Core.List.{List, [], _∷_}
+use mathlib.Core.List.{List, _∷_}
 use native.Mathlib.Omega.{arith}
-use lib.ListN.{length, take}
+use lib.ListN.{length}
 use Rattle.stacks.specs.System.{Rule, Configuration, Run}
 use Rattle.automata.specs.Automaton.{Automaton}
 use Rattle.automata.specs.Acceptance.{accepts2, inTarget}
 use Rattle.automata.specs.Saturation.{Saturated}
 use Rattle.walks.specs.Cell.{Cell, order2, stackAt, stacks}
 use Rattle.walks.specs.Cell.Formed.{orderAt, Formed}
-use Rattle.walks.specs.Guide.{Walk, startWalk, Next, arrived, to, stuck, next, walkAfter, traceAfter, Outcome, outcome, guided}
+use Rattle.walks.specs.Guide.{Walk, startWalk, Next, arrived, to, next, walkAfter, traceAfter}
 use Rattle.soundness.specs.Decorated.{DecoratedWalk, erased, DecoratedNext, arrived as arrived′, to as to′, stuck as stuck′, next as next′, walkAfter as walkAfter′, traceAfter as traceAfter′}
 use Rattle.soundness.specs.Facts.{SaturatedFacts}
 use Rattle.soundness.specs.Theorem.{Arrival, guided-arrives as decorated-run-arrives}
-use Rattle.guidance.specs.Run.{to-arrived, stuck-arrived, arrived-stuck, stuck-to, to-word, to-walk, walkAfter-to, traceAfter-to}
-use Rattle.guidance.specs.Prefix.{isArrival, haltBy, ArrivesAfter, FirstHalt, guided-prefix, guided-arrives, arrival-fits}
+use Rattle.guidance.specs.Run.{walkAfter-to, traceAfter-to}
+use Rattle.guidance.specs.Prefix.{ArrivesAfter}
 use Rattle.guidance.specs.Decoration.{bare, decoratedOf, WalkFormed, erase-walk, start-decorated, start-bare, start-formed}
 use Rattle.guidance.specs.Simulation.{SameNext, both-arrive, both-go, both-stuck, wrong-order, same-next}
 
@@ -69,43 +68,12 @@ arrives-both (both-go F s) e = let q = ap answerCode′ e in absurd (omega arith
 arrives-both both-stuck e = let q = ap answerCode′ e in absurd (omega arith)
 arrives-both wrong-order e = let q = ap answerCode′ e in absurd (omega arith)
 
--- the same, from the answer on cells
-follows-back : {x : Next} {y : DecoratedNext} {n : ℕ} {v : Walk} → SameNext x y → x ≡ to n v → (y ≡ stuck′) ⊎ (WalkFormed v × (y ≡ to′ n (decoratedOf v)))
-follows-back both-arrive e = absurd (to-arrived (sym e))
-follows-back {v = v} (both-go {z = z} F s) e =
-    let q = to-walk e in
-    inr (subst WalkFormed q F, ap₂ (λ (k : ℕ) (u : DecoratedWalk). to′ k u) (to-word e) (sym s ∙ ap decoratedOf q))
-follows-back both-stuck e = absurd (stuck-to e)
-follows-back wrong-order e = inl refl
-
-arrives-back : {x : Next} {y : DecoratedNext} → SameNext x y → x ≡ arrived → y ≡ arrived′
-arrives-back both-arrive e = refl
-arrives-back (both-go F s) e = absurd (to-arrived e)
-arrives-back both-stuck e = absurd (stuck-arrived e)
-arrives-back wrong-order e = absurd (to-arrived e)
-
-stuck-back : {x : Next} {y : DecoratedNext} → SameNext x y → x ≡ stuck → y ≡ stuck′
-stuck-back both-arrive e = absurd (arrived-stuck e)
-stuck-back (both-go F s) e = absurd (stuck-to (sym e))
-stuck-back both-stuck e = refl
-stuck-back wrong-order e = refl
-
 module _ (rules : List Rule) (T : Saturated) (w : Walk) (F : WalkFormed w) where
   pub next-follows : {n : ℕ} {z : DecoratedWalk} → next′ rules T (decoratedOf w) ≡ to′ n z → Follows n (next rules T w) z
   next-follows e = follows (same-next rules T w F) e
 
   pub next-arrives : next′ rules T (decoratedOf w) ≡ arrived′ → next rules T w ≡ arrived
   next-arrives e = arrives-both (same-next rules T w F) e
-
-  pub decorated-follows : {n : ℕ} {v : Walk} → next rules T w ≡ to n v
-      → (next′ rules T (decoratedOf w) ≡ stuck′) ⊎ (WalkFormed v × (next′ rules T (decoratedOf w) ≡ to′ n (decoratedOf v)))
-  decorated-follows e = follows-back (same-next rules T w F) e
-
-  pub decorated-arrives : next rules T w ≡ arrived → next′ rules T (decoratedOf w) ≡ arrived′
-  decorated-arrives e = arrives-back (same-next rules T w F) e
-
-  pub decorated-stuck : next rules T w ≡ stuck → next′ rules T (decoratedOf w) ≡ stuck′
-  decorated-stuck e = stuck-back (same-next rules T w F) e
 
 -- ---- the run
 
@@ -204,32 +172,3 @@ pub start-configuration : (A : Automaton) (cells : List Cell) (p root : ℕ)
 unfolding configurationAt startWalk
 start-configuration A cells p root =
     ap (λ (l : List Cell). record { control = p; stack = order2 (stackAt (stacks l) root) }) (start-bare A cells p root)
-
--- ---- what guide answers
-
--- The whole walk for c cells and t trace words: the full run arrives in the target by a run of the rules, and guide halts after the least
--- number of steps at which it must, with the first of that many rule numbers of the full run.
-pub record GuidedWhole (rules : List Rule) (T : Saturated) (own : Automaton) (c t : ℕ) (w : Walk) : Type 0 where
-  pub arrival : GuidedArrival rules T own w
-  pub halt : FirstHalt rules T c t w
-  pub within : halt .steps ≤ arrival .steps
-  pub answer : guided rules T c t [] w
-      ≡ outcome (haltBy (halt .reason) (record { steps = halt .steps; cells = length (halt .end .cells) }))
-      (take (halt .steps) (traceAfter rules T (arrival .steps) w))
-  pub enough-arrives : arrival .steps ≤ t → length (arrival .last .cells) ≤ c → isArrival (guided rules T c t [] w .reply) ≡ true
-  pub arrives-enough : length (w .cells) ≤ c → isArrival (guided rules T c t [] w .reply) ≡ true
-      → (arrival .steps ≤ t) × (length (arrival .last .cells) ≤ c)
-
-pub guided-whole : {rules : List Rule} {T : Saturated} {own : Automaton} (c t : ℕ) {w : Walk} → GuidedArrival rules T own w
-    → GuidedWhole rules T own c t w
-unfolding outcome isArrival
-guided-whole {rules} {T} c t {w} a =
-    let r = guided-prefix rules T c t (a .steps) w (a .arrives) in
-    record {
-      arrival = a;
-      halt = r .0;
-      within = r .1;
-      answer = r .2;
-      enough-arrives = λ l k. ap (λ (o : Outcome). isArrival (o .reply)) (guided-arrives rules T c t (a .steps) w (a .arrives) l k);
-      arrives-enough = λ k e. arrival-fits rules T c t (a .steps) w (a .arrives) k e;
-    }

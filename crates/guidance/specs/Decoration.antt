@@ -9,23 +9,23 @@ use Rattle.stacks.specs.Stack.{Stack1, nil1, cons1, Stack2, cons2, Annotation, 
 use Rattle.automata.specs.Automaton.{Automaton}
 use Rattle.walks.specs.Cell.{Cell, empty1, symbol, empty2, above, order1, order2, stackAt, stackOf, stacksFrom, stacks}
 use Rattle.walks.specs.Cell.Formed.{cellOrder, cellAt, orderAt, Formed}
-use Rattle.walks.specs.Cell.Values.{pass, Valuation, valueAt, valueBy, valueOf, values, value-kept, value-before, value-at, getD-map-below}
+use Rattle.walks.specs.Cell.Values.{pass, Valuation, valueAt, valueBy, valueOf, values, value-before, value-at, getD-map-below}
 use Rattle.walks.specs.Cell.Laws.{stacksFrom-pass, length-stacks}
 use Rattle.walks.specs.Guide.{Guided, noGuided, Walk, leastChoice, startWalk}
-use Rattle.soundness.specs.Decorated.{Decorated1, nil1′, cons1′, Decorated2, nil2′, cons2′, DecoratedNote, of1′, of2′, erase1, erase2, eraseNote, decorate1, decorate2, decorateNote, DecoratedWalk, erased, decorated}
+use Rattle.soundness.specs.Decorated.{Decorated1, nil1′, cons1′, Decorated2, nil2′, cons2′, DecoratedAnnotation, of1′, of2′, erase1, erase2, eraseAnnotation, decorate1, decorate2, decorateAnnotation, DecoratedWalk, erased, decorated}
 
 -- ---- the decorated stacks of cells
 
-unfoldable pub order1′ : DecoratedNote → Decorated1
+unfoldable pub order1′ : DecoratedAnnotation → Decorated1
 order1′ (of1′ s) = s
 order1′ (of2′ t) = nil1′
 
-unfoldable pub order2′ : DecoratedNote → Decorated2
+unfoldable pub order2′ : DecoratedAnnotation → Decorated2
 order2′ (of1′ s) = nil2′
 order2′ (of2′ t) = t
 
 -- decorated stacks as values of cells: a cell's choices stand at its top
-abbrev pub decoratedKind : Valuation Guided (ℕ → ℕ) DecoratedNote
+abbrev pub decoratedKind : Valuation Guided (ℕ → ℕ) DecoratedAnnotation
 decoratedKind =
     record {
       cell = λ g. g .cell;
@@ -40,8 +40,8 @@ decoratedKind =
     }
 
 -- the decorated stack of cell n
-unfoldable pub noteAt : List Guided → ℕ → DecoratedNote
-noteAt cells n = valueAt decoratedKind (values decoratedKind cells) n
+unfoldable pub annotationAt : List Guided → ℕ → DecoratedAnnotation
+annotationAt cells n = valueAt decoratedKind (values decoratedKind cells) n
 
 -- the cells without their choices
 abbrev pub bare : List Guided → List Cell
@@ -49,7 +49,7 @@ bare cells = map (λ g. g .cell) cells
 
 -- the control and the decorated stack of the root cell
 unfoldable pub decoratedOf : Walk → DecoratedWalk
-decoratedOf w = record { control = w .control; stack = order2′ (noteAt (w .cells) (w .root)) }
+decoratedOf w = record { control = w .control; stack = order2′ (annotationAt (w .cells) (w .root)) }
 
 -- The cells of a walk refer to lower cells of the right order, and its root is a cell of order 2.
 pub record WalkFormed (w : Walk) : Type 0 where
@@ -59,21 +59,21 @@ pub record WalkFormed (w : Walk) : Type 0 where
 
 -- ---- orders
 
-unfoldable pub orderOf′ : DecoratedNote → ℕ
+unfoldable pub orderOf′ : DecoratedAnnotation → ℕ
 orderOf′ (of1′ s) = 1
 orderOf′ (of2′ t) = 2
 
-pub note-of1′ : (v : DecoratedNote) → orderOf′ v ≡ 1 → v ≡ of1′ (order1′ v)
+pub annotation-of1′ : (v : DecoratedAnnotation) → orderOf′ v ≡ 1 → v ≡ of1′ (order1′ v)
 unfolding orderOf′ order1′
-note-of1′ (of1′ s) e = refl
-note-of1′ (of2′ t) e = absurd (omega arith)
+annotation-of1′ (of1′ s) e = refl
+annotation-of1′ (of2′ t) e = absurd (omega arith)
 
-pub note-of2′ : (v : DecoratedNote) → orderOf′ v ≡ 2 → v ≡ of2′ (order2′ v)
+pub annotation-of2′ : (v : DecoratedAnnotation) → orderOf′ v ≡ 2 → v ≡ of2′ (order2′ v)
 unfolding orderOf′ order2′
-note-of2′ (of1′ s) e = absurd (omega arith)
-note-of2′ (of2′ t) e = refl
+annotation-of2′ (of1′ s) e = absurd (omega arith)
+annotation-of2′ (of2′ t) e = refl
 
-pub valueBy-order : (xs : List DecoratedNote) (c : Cell) (f : ℕ → ℕ) → orderOf′ (valueBy decoratedKind xs c f) ≡ cellOrder c
+pub valueBy-order : (xs : List DecoratedAnnotation) (c : Cell) (f : ℕ → ℕ) → orderOf′ (valueBy decoratedKind xs c f) ≡ cellOrder c
 unfolding orderOf′ valueBy cellOrder
 valueBy-order xs empty1 f = refl
 valueBy-order xs (symbol a u s) f = refl
@@ -83,22 +83,17 @@ valueBy-order xs (above w t) f = refl
 pub bare-at : (cells : List Guided) (n : ℕ) → n < length cells → cellAt (bare cells) n ≡ getD cells n noGuided .cell
 bare-at cells n h = getD-map-below (λ g. g .cell) cells n noGuided empty1 h
 
-pub note-order : (cells : List Guided) (n : ℕ) → n < length cells → orderOf′ (noteAt cells n) ≡ orderAt (bare cells) n
-unfolding noteAt orderAt valueOf
-note-order cells n h =
+pub annotation-order : (cells : List Guided) (n : ℕ) → n < length cells → orderOf′ (annotationAt cells n) ≡ orderAt (bare cells) n
+unfolding annotationAt orderAt valueOf
+annotation-order cells n h =
     ap orderOf′ (value-before decoratedKind cells noGuided n h)
     ∙ valueBy-order _ (getD cells n noGuided .cell) (getD cells n noGuided .choice) ∙ ap cellOrder (sym (bare-at cells n h))
 
 -- the decorated stack of a cell, by those of the cells that it refers to
-pub note-at : (cells : List Guided) → Formed (bare cells) → (n : ℕ) → n < length cells
-    → noteAt cells n ≡ valueBy decoratedKind (values decoratedKind cells) (getD cells n noGuided .cell) (getD cells n noGuided .choice)
-unfolding noteAt valueOf
-note-at cells x n h = value-at decoratedKind cells noGuided x n h
-
--- adding cells changes no earlier one
-pub note-kept : (cells more : List Guided) (n : ℕ) → n < length cells → noteAt (cells ++ more) n ≡ noteAt cells n
-unfolding noteAt
-note-kept cells more n h = value-kept decoratedKind cells more n h
+pub annotation-at : (cells : List Guided) → Formed (bare cells) → (n : ℕ) → n < length cells
+    → annotationAt cells n ≡ valueBy decoratedKind (values decoratedKind cells) (getD cells n noGuided .cell) (getD cells n noGuided .choice)
+unfolding annotationAt valueOf
+annotation-at cells x n h = value-at decoratedKind cells noGuided x n h
 
 -- ---- without the choices
 
@@ -111,21 +106,21 @@ pass-map {D = D} f g h k e xs (c ∷ cs) =
     ∙ ap (λ (l : List D). pass g l (map k cs))
     (map-append h xs (f xs c ∷ []) ∙ ap (λ (y : D). map h xs ++ (y ∷ [])) (e xs c))
 
-erase-order1 : (v : DecoratedNote) → erase1 (order1′ v) ≡ order1 (eraseNote v)
+erase-order1 : (v : DecoratedAnnotation) → erase1 (order1′ v) ≡ order1 (eraseAnnotation v)
 unfolding erase1 order1 order1′
 erase-order1 (of1′ s) = refl
 erase-order1 (of2′ t) = refl
 
-erase-order2 : (v : DecoratedNote) → erase2 (order2′ v) ≡ order2 (eraseNote v)
+erase-order2 : (v : DecoratedAnnotation) → erase2 (order2′ v) ≡ order2 (eraseAnnotation v)
 unfolding erase1 order2 order2′
 erase-order2 (of1′ s) = refl
 erase-order2 (of2′ t) = refl
 
-erase-at : (xs : List DecoratedNote) (n : ℕ) → eraseNote (valueAt decoratedKind xs n) ≡ stackAt (map eraseNote xs) n
+erase-at : (xs : List DecoratedAnnotation) (n : ℕ) → eraseAnnotation (valueAt decoratedKind xs n) ≡ stackAt (map eraseAnnotation xs) n
 unfolding valueAt stackAt erase1
-erase-at xs n = sym (List·getD-map eraseNote xs n (of1′ nil1′))
+erase-at xs n = sym (List·getD-map eraseAnnotation xs n (of1′ nil1′))
 
-erase-valueBy : (xs : List DecoratedNote) (c : Cell) (f : ℕ → ℕ) → eraseNote (valueBy decoratedKind xs c f) ≡ stackOf (map eraseNote xs) c
+erase-valueBy : (xs : List DecoratedAnnotation) (c : Cell) (f : ℕ → ℕ) → eraseAnnotation (valueBy decoratedKind xs c f) ≡ stackOf (map eraseAnnotation xs) c
 unfolding valueBy stackOf erase1
 erase-valueBy xs empty1 f = refl
 erase-valueBy xs (symbol a u s) f =
@@ -136,17 +131,17 @@ erase-valueBy xs (above w t) f =
     (erase-order1 (valueAt decoratedKind xs w) ∙ ap order1 (erase-at xs w)) (erase-order2 (valueAt decoratedKind xs t) ∙ ap order2 (erase-at xs t))
 
 -- without its choices the decorated stack of a cell is the stack of the cell
-pub erase-note : (cells : List Guided) (n : ℕ) → eraseNote (noteAt cells n) ≡ stackAt (stacks (bare cells)) n
-unfolding noteAt values stacks valueOf
-erase-note cells n =
+pub erase-annotation : (cells : List Guided) (n : ℕ) → eraseAnnotation (annotationAt cells n) ≡ stackAt (stacks (bare cells)) n
+unfolding annotationAt values stacks valueOf
+erase-annotation cells n =
     erase-at (values decoratedKind cells) n
     ∙ ap (λ (us : List Annotation). stackAt us n)
-    (pass-map (valueOf decoratedKind) stackOf eraseNote (λ g. g .cell) (λ xs g. erase-valueBy xs (g .cell) (g .choice)) [] cells
+    (pass-map (valueOf decoratedKind) stackOf eraseAnnotation (λ g. g .cell) (λ xs g. erase-valueBy xs (g .cell) (g .choice)) [] cells
     ∙ sym (stacksFrom-pass [] (bare cells)))
 
 pub erase-walk : (w : Walk) → erased (decoratedOf w) ≡ record { control = w .control; stack = order2 (stackAt (stacks (bare (w .cells))) (w .root)) }
 unfolding erased decoratedOf
-erase-walk w = λ i. record { control = w .control; stack = (erase-order2 (noteAt (w .cells) (w .root)) ∙ ap order2 (erase-note (w .cells) (w .root))) i }
+erase-walk w = λ i. record { control = w .control; stack = (erase-order2 (annotationAt (w .cells) (w .root)) ∙ ap order2 (erase-annotation (w .cells) (w .root))) i }
 
 -- ---- the start: "all start cells are taken first", with their least choices
 
@@ -164,26 +159,26 @@ module _ (A : Automaton) where
   stacks-later us [] = sym (append-nil us)
   stacks-later us (c ∷ cs) = stacks-later (us ++ (stackOf us c ∷ [])) cs ∙ append-assoc us (stackOf us c ∷ []) (later (us ++ (stackOf us c ∷ [])) cs)
 
-  decorate-order1 : (v : Annotation) → order1′ (decorateNote A v) ≡ decorate1 A (order1 v)
+  decorate-order1 : (v : Annotation) → order1′ (decorateAnnotation A v) ≡ decorate1 A (order1 v)
   unfolding decorate1 order1 order1′
   decorate-order1 (of1 s) = refl
   decorate-order1 (of2 t) = refl
 
-  decorate-order2 : (v : Annotation) → order2′ (decorateNote A v) ≡ decorate2 A (order2 v)
+  decorate-order2 : (v : Annotation) → order2′ (decorateAnnotation A v) ≡ decorate2 A (order2 v)
   unfolding decorate1 order2 order2′
   decorate-order2 (of1 s) = refl
   decorate-order2 (of2 t) = refl
 
-  decorate-at : (us : List Annotation) (n : ℕ) → valueAt decoratedKind (map (decorateNote A) us) n ≡ decorateNote A (stackAt us n)
+  decorate-at : (us : List Annotation) (n : ℕ) → valueAt decoratedKind (map (decorateAnnotation A) us) n ≡ decorateAnnotation A (stackAt us n)
   unfolding valueAt stackAt decorate1
-  decorate-at us n = List·getD-map (decorateNote A) us n (of1 nil1)
+  decorate-at us n = List·getD-map (decorateAnnotation A) us n (of1 nil1)
 
   decorate-cell : (us : List Annotation) (c : Cell)
-      → valueBy decoratedKind (map (decorateNote A) us) c (leastChoice A (stackOf us c)) ≡ decorateNote A (stackOf us c)
+      → valueBy decoratedKind (map (decorateAnnotation A) us) c (leastChoice A (stackOf us c)) ≡ decorateAnnotation A (stackOf us c)
   unfolding valueBy stackOf decorate1
   decorate-cell us empty1 = refl
   decorate-cell us (symbol a u s) =
-      ap₂ (λ (x : DecoratedNote) (y : Decorated1). of1′ (cons1′ a x y (leastChoice A (stackOf us (symbol a u s)))))
+      ap₂ (λ (x : DecoratedAnnotation) (y : Decorated1). of1′ (cons1′ a x y (leastChoice A (stackOf us (symbol a u s)))))
       (decorate-at us u) (ap order1′ (decorate-at us s) ∙ decorate-order1 (stackAt us s))
   decorate-cell us empty2 = refl
   decorate-cell us (above w t) =
@@ -191,33 +186,33 @@ module _ (A : Automaton) where
       (ap order1′ (decorate-at us w) ∙ decorate-order1 (stackAt us w)) (ap order2′ (decorate-at us t) ∙ decorate-order2 (stackAt us t))
 
   decorate-pass : (us : List Annotation) (cs : List Cell)
-      → pass (valueOf decoratedKind) (map (decorateNote A) us) (zipWith startCell cs (later us cs)) ≡ map (decorateNote A) (us ++ later us cs)
+      → pass (valueOf decoratedKind) (map (decorateAnnotation A) us) (zipWith startCell cs (later us cs)) ≡ map (decorateAnnotation A) (us ++ later us cs)
   unfolding pass later zipWith valueOf
-  decorate-pass us [] = ap (map (decorateNote A)) (sym (append-nil us))
+  decorate-pass us [] = ap (map (decorateAnnotation A)) (sym (append-nil us))
   decorate-pass us (c ∷ cs) =
       let x : Annotation = stackOf us c in
       let rest : List Annotation = later (us ++ (x ∷ [])) cs in
-      ap (λ (y : DecoratedNote). pass (valueOf decoratedKind) (map (decorateNote A) us ++ (y ∷ [])) (zipWith startCell cs rest)) (decorate-cell us c)
-      ∙ ap (λ (l : List DecoratedNote). pass (valueOf decoratedKind) l (zipWith startCell cs rest)) (sym (map-append (decorateNote A) us (x ∷ [])))
+      ap (λ (y : DecoratedAnnotation). pass (valueOf decoratedKind) (map (decorateAnnotation A) us ++ (y ∷ [])) (zipWith startCell cs rest)) (decorate-cell us c)
+      ∙ ap (λ (l : List DecoratedAnnotation). pass (valueOf decoratedKind) l (zipWith startCell cs rest)) (sym (map-append (decorateAnnotation A) us (x ∷ [])))
       ∙ decorate-pass (us ++ (x ∷ [])) cs
-      ∙ ap (map (decorateNote A)) (append-assoc us (x ∷ []) rest)
+      ∙ ap (map (decorateAnnotation A)) (append-assoc us (x ∷ []) rest)
 
   -- the decorated stack of a start cell is its stack with the least choices
-  pub start-note : (cells : List Cell) (n : ℕ) → noteAt (zipWith startCell cells (stacks cells)) n ≡ decorateNote A (stackAt (stacks cells) n)
-  unfolding noteAt values stacks
-  start-note cells n =
+  pub start-annotation : (cells : List Cell) (n : ℕ) → annotationAt (zipWith startCell cells (stacks cells)) n ≡ decorateAnnotation A (stackAt (stacks cells) n)
+  unfolding annotationAt values stacks
+  start-annotation cells n =
       let z : stacksFrom [] cells ≡ later [] cells = stacks-later [] cells in
       ap (λ (us : List Annotation). valueAt decoratedKind (pass (valueOf decoratedKind) [] (zipWith startCell cells us)) n) z
-      ∙ ap (λ (xs : List DecoratedNote). valueAt decoratedKind xs n) (decorate-pass [] cells)
+      ∙ ap (λ (xs : List DecoratedAnnotation). valueAt decoratedKind xs n) (decorate-pass [] cells)
       ∙ decorate-at (later [] cells) n
-      ∙ ap (λ (us : List Annotation). decorateNote A (stackAt us n)) (sym z)
+      ∙ ap (λ (us : List Annotation). decorateAnnotation A (stackAt us n)) (sym z)
 
   -- the decorated walk of a start is the least-choice decoration of its configuration
   pub start-decorated : (cells : List Cell) (p root : ℕ)
       → decoratedOf (startWalk A cells p root) ≡ decorated A (record { control = p; stack = order2 (stackAt (stacks cells) root) })
   unfolding decoratedOf decorated startWalk
   start-decorated cells p root = λ i.
-      record { control = p; stack = (ap order2′ (start-note cells root) ∙ decorate-order2 (stackAt (stacks cells) root)) i }
+      record { control = p; stack = (ap order2′ (start-annotation cells root) ∙ decorate-order2 (stackAt (stacks cells) root)) i }
 
   bare-zip : (cs : List Cell) (us : List Annotation) → length us ≡ length cs → bare (zipWith startCell cs us) ≡ cs
   unfolding zipWith
@@ -239,7 +234,3 @@ module _ (A : Automaton) where
         root-exists = subst (λ (k : ℕ). root < k) (sym (ap length b) ∙ length-map (startWalk A cells p root .cells) (λ g. g .cell)) h;
         root-order = ap (λ (l : List Cell). orderAt l root) b ∙ e;
       }
-
-  pub start-length : (cells : List Cell) (p root : ℕ) → length (startWalk A cells p root .cells) ≡ length cells
-  start-length cells p root =
-      sym (length-map (startWalk A cells p root .cells) (λ (g : Guided). g .cell)) ∙ ap length (start-bare cells p root)

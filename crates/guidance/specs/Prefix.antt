@@ -11,7 +11,7 @@ use lib.Arith.{lt-of-le-ne}
 use lib.ListN.{length, take, length-append}
 use lib.Dec.{leb}
 use borrow.Author.Tests.{leb-true, leb-false}
-use Rattle.words.specs.Lists.Laws.{by-test}
+use Rattle.words.specs.Tests.{by-test}
 use Rattle.stacks.specs.System.{Rule}
 use Rattle.automata.specs.Saturation.{Saturated}
 use Rattle.replies.specs.declared.Counts.{Counts}
@@ -19,7 +19,7 @@ use Rattle.replies.specs.declared.Halt.{Halt}
 use Rattle.replies.specs.declared.Halt.the-variants.{Arrived, TraceFull, CellsShort}
 use Rattle.replies.specs.declared.Reply.{Reply}
 use Rattle.replies.specs.declared.Reply.the-variants.{Refused, NoRun, Walked}
-use Rattle.walks.specs.Guide.{Walk, arrived, to, stuck, next, walkAfter, traceAfter, Outcome, counts, outcome, guided}
+use Rattle.walks.specs.Guide.{Walk, arrived, to, stuck, next, walkAfter, traceAfter, Report, counts, walkedBy, guided}
 use Rattle.guidance.specs.Run.{to-arrived, stuck-arrived, to-walk, by-next, walkAfter-to, traceAfter-to, run-first, run-cells, run-join, run-split, trace-take}
 
 -- why a walk halts, in the order in which it is tested
@@ -67,8 +67,8 @@ module _ (rules : List Rule) (T : Saturated) where
     pub least : (k : ℕ) (u : Walk) (r : Reason) → k < steps → walkAfter rules T k w ≡ some u → Halts c t k u r → ⊥
 
   -- what guide answers there, with these words written already
-  unfoldable pub answerAt : {c t : ℕ} {w : Walk} → List ℕ → FirstHalt c t w → Outcome
-  answerAt {w = w} trace x = outcome (haltBy (x .reason) (record { steps = length trace + x .steps; cells = length (x .end .cells) })) (trace ++ traceAfter rules T (x .steps) w)
+  unfoldable pub answerAt : {c t : ℕ} {w : Walk} → List ℕ → FirstHalt c t w → Report
+  answerAt {w = w} trace x = walkedBy (haltBy (x .reason) (record { steps = length trace + x .steps; cells = length (x .end .cells) })) (trace ++ traceAfter rules T (x .steps) w)
 
   -- ---- the run to its arrival
 
@@ -101,7 +101,7 @@ module _ (rules : List Rule) (T : Saturated) where
   halt-here c t w r h = record { steps = 0; end = w; reason = r; run-is = refl; halts = h; least = λ k u q l e x. absurd (not-suc-le-zero l) }
 
   here-answer : (c t : ℕ) (w : Walk) (r : Reason) (h : Halts c t 0 w r) (trace : List ℕ)
-      → outcome (haltBy r (counts trace w)) trace ≡ answerAt trace (halt-here c t w r h)
+      → walkedBy (haltBy r (counts trace w)) trace ≡ answerAt trace (halt-here c t w r h)
   unfolding answerAt halt-here counts traceAfter
   here-answer c t w r h trace = rw (add-zero (length trace), append-nil trace)
 
@@ -181,7 +181,7 @@ module _ (rules : List Rule) (T : Saturated) where
       → (x : FirstHalt c t w)
       × (x .steps ≤ M)
       × (guided rules T c t [] w
-      ≡ outcome (haltBy (x .reason) (record { steps = x .steps; cells = length (x .end .cells) })) (take (x .steps) (traceAfter rules T M w)))
+      ≡ walkedBy (haltBy (x .reason) (record { steps = x .steps; cells = length (x .end .cells) })) (take (x .steps) (traceAfter rules T M w)))
   unfolding answerAt
   guided-prefix c t M w a =
       let r = guided-halts c t [] M w a in
@@ -259,7 +259,7 @@ module _ (rules : List Rule) (T : Saturated) where
 
   -- The reply is an arrival exactly if the trace has a word for each step of the full run and the cells of its end are at most c.
   pub guided-arrives : (c t M : ℕ) (w : Walk) {v : Walk} → ArrivesAfter M w v → M ≤ t → length (v .cells) ≤ c
-      → guided rules T c t [] w ≡ outcome (Arrived (record { steps = M; cells = length (v .cells) })) (traceAfter rules T M w)
+      → guided rules T c t [] w ≡ walkedBy (Arrived (record { steps = M; cells = length (v .cells) })) (traceAfter rules T M w)
   unfolding haltBy
   guided-arrives c t M w {v} a l k =
       let r = guided-prefix c t M w a in
@@ -268,8 +268,8 @@ module _ (rules : List Rule) (T : Saturated) where
 
   pub arrival-fits : (c t M : ℕ) (w : Walk) {v : Walk} → ArrivesAfter M w v → length (w .cells) ≤ c
       → isArrival (guided rules T c t [] w .reply) ≡ true → (M ≤ t) × (length (v .cells) ≤ c)
-  unfolding outcome
+  unfolding walkedBy
   arrival-fits c t M w a k e =
       let r = guided-prefix c t M w a in
       whole-fits a (r .0) k (arrival-only (r .0 .reason) (record { steps = r .0 .steps; cells = length (r .0 .end .cells) })
-      (ap (λ (o : Outcome). isArrival (o .reply)) (sym (r .2)) ∙ e))
+      (ap (λ (o : Report). isArrival (o .reply)) (sym (r .2)) ∙ e))

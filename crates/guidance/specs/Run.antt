@@ -9,7 +9,7 @@ use native.Mathlib.Omega.{arith}
 use lib.ListN.{length, getElem?, take, length-append}
 use lib.Dec.{ltb}
 use borrow.Author.Tests.{ltb-false}
-use Rattle.words.specs.Lists.Laws.{by-test}
+use Rattle.words.specs.Tests.{by-test}
 use Rattle.stacks.specs.Stack.{Operation, rewrite, push1, push2, copy, pop1, pop2, collapse1, collapse2, newCells}
 use Rattle.stacks.specs.System.{Rule}
 use Rattle.automata.specs.Automaton.{Automaton, moveAt}
@@ -54,10 +54,6 @@ to-word e = ap wordOf e
 pub to-walk : {n m : ℕ} {v u : Walk} → to n v ≡ to m u → v ≡ u
 unfolding walkOf
 to-walk {v = v} e = ap (walkOf v) e
-
-pub arrived-stuck : arrived ≡ stuck → ⊥
-unfolding answerCode
-arrived-stuck e = let z = ap answerCode e in absurd (omega arith)
 
 -- ---- the new cells of a step
 

@@ -7,7 +7,7 @@ use mathlib.Core.List.{List, [], _∷_, _++_, zipWith, map-append}
 use native.Mathlib.Omega.{arith}
 use lib.ListN.{length, getElem?, length-map}
 use lib.Dec.{ltb}
-use Rattle.words.specs.Lists.Laws.{by-test}
+use Rattle.words.specs.Tests.{by-test}
 use Rattle.stacks.specs.Stack.{Operation, rewrite, push1, push2, copy, pop1, pop2, collapse1, collapse2}
 use Rattle.stacks.specs.System.{Rule}
 use Rattle.automata.specs.Automaton.{Automaton, edgeAt, moveAt}
@@ -15,18 +15,18 @@ use Rattle.automata.specs.Derivation.{Derivation, resultOf, firstDerivation}
 use Rattle.automata.specs.Saturation.{Saturated, before, ownMoves}
 use Rattle.walks.specs.Cell.{Cell, empty1, symbol, empty2, above, cellsAfter, rootAfter}
 use Rattle.walks.specs.Cell.Formed.{cellOrder, cellAt, orderAt, Formed, formed-symbol, formed-above, Takes, TopFormed, formed-after}
-use Rattle.walks.specs.Cell.Values.{valueBy, values, Stands, makeFrom, rootValue, root-stands}
+use Rattle.walks.specs.Cell.Values.{valueBy, values, HasValue, makeFrom, rootValue, root-stands}
 use Rattle.walks.specs.Guide.{Guided, Walk, Top, guidedAt, topOn, topOf, choicesAfter, Next, arrived, to, stuck, moved, byDerivation, atTop, next}
-use Rattle.soundness.specs.Decorated.{Decorated1, Decorated2, cons2′, DecoratedNote, of1′, of2′, DecoratedWalk, DecoratedTop, topOf as topOf′, choicesOf, afterDecorated, DecoratedNext, arrived as arrived′, to as to′, stuck as stuck′, leaves, byDerivation as byDerivation′, atTop as atTop′, next as next′}
+use Rattle.soundness.specs.Decorated.{Decorated1, Decorated2, cons2′, DecoratedAnnotation, of1′, of2′, DecoratedWalk, DecoratedTop, topOf as topOf′, choicesOf, afterDecorated, DecoratedNext, arrived as arrived′, to as to′, stuck as stuck′, leaves, byDerivation as byDerivation′, atTop as atTop′, next as next′}
 use Rattle.guidance.specs.Run.{added}
-use Rattle.guidance.specs.Decoration.{order1′, order2′, decoratedKind, noteAt, bare, decoratedOf, WalkFormed, orderOf′, note-of1′, note-of2′, bare-at, note-order, note-at}
+use Rattle.guidance.specs.Decoration.{order1′, order2′, decoratedKind, annotationAt, bare, decoratedOf, WalkFormed, orderOf′, annotation-of1′, annotation-of2′, bare-at, annotation-order, annotation-at}
 
 -- ---- the top
 
 -- the top of the decorated walk, by the cells of a top
 unfoldable pub decoratedTop : List Guided → Top → DecoratedTop
 decoratedTop cells x =
-    record { a = x .a; u = noteAt cells (x .u); s = order1′ (noteAt cells (x .s)); t = order2′ (noteAt cells (x .t)); move = x .move }
+    record { a = x .a; u = annotationAt cells (x .u); s = order1′ (annotationAt cells (x .s)); t = order2′ (annotationAt cells (x .t)); move = x .move }
 
 -- neither has a top, or the cells of the one stand for the stacks of the other
 pub data SameTop (cells : List Guided) : Option Top → Option DecoratedTop → Type 0 where
@@ -38,23 +38,23 @@ module _ (A : Automaton) (w : Walk) (F : WalkFormed w) where
   cells = w .cells
 
   -- the values of the cells
-  abbrev notes : List DecoratedNote
+  abbrev notes : List DecoratedAnnotation
   notes = values decoratedKind cells
 
   guided-cell : (n : ℕ) → n < length cells → cellAt (bare cells) n ≡ guidedAt w n .cell
   unfolding guidedAt
   guided-cell n h = bare-at cells n h
 
-  guided-note : (n : ℕ) → n < length cells → noteAt cells n ≡ valueBy decoratedKind notes (guidedAt w n .cell) (guidedAt w n .choice)
+  guided-annotation : (n : ℕ) → n < length cells → annotationAt cells n ≡ valueBy decoratedKind notes (guidedAt w n .cell) (guidedAt w n .choice)
   unfolding guidedAt
-  guided-note n h = note-at cells (F .formed) n h
+  guided-annotation n h = annotation-at cells (F .formed) n h
 
   -- order-1 cell c, which is d, on order-2 cell t
   same-on : (c t : ℕ) (f : ℕ → ℕ) (d : Cell) → c < length cells → t < length cells → orderAt (bare cells) t ≡ 2
       → cellAt (bare cells) c ≡ d → cellOrder d ≡ 1
       → SameTop cells (topOn w c (edgeAt A (f (w .control)) .first) t d)
-      (topOf′ A (w .control) (cons2′ (order1′ (valueBy decoratedKind notes d (guidedAt w c .choice))) (order2′ (noteAt cells t)) f))
-  unfolding topOn topOf′ valueBy order1′ cellOrder decoratedTop noteAt
+      (topOf′ A (w .control) (cons2′ (order1′ (valueBy decoratedKind notes d (guidedAt w c .choice))) (order2′ (annotationAt cells t)) f))
+  unfolding topOn topOf′ valueBy order1′ cellOrder decoratedTop annotationAt
   same-on c t f empty1 hc ht ot e o = no-top
   same-on c t f (symbol a u s) hc ht ot e o =
       let r = formed-symbol (F .formed) e in
@@ -74,7 +74,7 @@ module _ (A : Automaton) (w : Walk) (F : WalkFormed w) where
   -- the root, which is d
   same-root : (d : Cell) → cellAt (bare cells) (w .root) ≡ d → cellOrder d ≡ 2
       → SameTop cells (topOf A w d) (topOf′ A (w .control) (order2′ (valueBy decoratedKind notes d (guidedAt w (w .root) .choice))))
-  unfolding topOf topOf′ valueBy order2′ cellOrder orderAt noteAt
+  unfolding topOf topOf′ valueBy order2′ cellOrder orderAt annotationAt
   same-root empty1 e o = absurd (omega arith)
   same-root (symbol a u s) e o = absurd (omega arith)
   same-root empty2 e o = no-top
@@ -87,15 +87,15 @@ module _ (A : Automaton) (w : Walk) (F : WalkFormed w) where
       let lt : t < length cells = omega arith in
       let q : cellAt (bare cells) c ≡ guidedAt w c .cell = guided-cell c lc in
       let g : ℕ → ℕ = guidedAt w (w .root) .choice in
-      subst (λ (v : DecoratedNote). SameTop cells (topOf A w (above c t)) (topOf′ A (w .control) (cons2′ (order1′ v) (order2′ (noteAt cells t)) g)))
-      (sym (guided-note c lc)) (same-on c t g (guidedAt w c .cell) lc lt (r .3) q (ap cellOrder (sym q) ∙ r .2))
+      subst (λ (v : DecoratedAnnotation). SameTop cells (topOf A w (above c t)) (topOf′ A (w .control) (cons2′ (order1′ v) (order2′ (annotationAt cells t)) g)))
+      (sym (guided-annotation c lc)) (same-on c t g (guidedAt w c .cell) lc lt (r .3) q (ap cellOrder (sym q) ∙ r .2))
 
-  pub same-top : SameTop cells (topOf A w (guidedAt w (w .root) .cell)) (topOf′ A (w .control) (order2′ (noteAt cells (w .root))))
+  pub same-top : SameTop cells (topOf A w (guidedAt w (w .root) .cell)) (topOf′ A (w .control) (order2′ (annotationAt cells (w .root))))
   unfolding orderAt
   same-top =
       let q = guided-cell (w .root) (F .root-exists) in
-      subst (λ (v : DecoratedNote). SameTop cells (topOf A w (guidedAt w (w .root) .cell)) (topOf′ A (w .control) (order2′ v)))
-      (sym (guided-note (w .root) (F .root-exists))) (same-root (guidedAt w (w .root) .cell) q (ap cellOrder (sym q) ∙ F .root-order))
+      subst (λ (v : DecoratedAnnotation). SameTop cells (topOf A w (guidedAt w (w .root) .cell)) (topOf′ A (w .control) (order2′ v)))
+      (sym (guided-annotation (w .root) (F .root-exists))) (same-root (guidedAt w (w .root) .cell) q (ap cellOrder (sym q) ∙ F .root-order))
 
 -- ---- the new cells
 
@@ -118,22 +118,22 @@ makeFrom-bare i f [] = refl
 makeFrom-bare i f (c ∷ cs) = ap (λ (l : List Cell). c ∷ l) (makeFrom-bare (suc i) f cs)
 
 -- the value that the new cells give the root is the stack that the operation leaves
-after-note : (op : Operation) (fs : List (ℕ → ℕ)) (a : ℕ) (u : DecoratedNote) (s : Decorated1) (t : Decorated2) {v : Decorated2}
+after-annotation : (op : Operation) (fs : List (ℕ → ℕ)) (a : ℕ) (u : DecoratedAnnotation) (s : Decorated1) (t : Decorated2) {v : Decorated2}
     → afterDecorated op fs a u s t ≡ some v → rootValue decoratedKind op (choicesOf fs) a u (of1′ s) (of2′ t) ≡ of2′ v
 unfolding afterDecorated rootValue order1′ order2′
-after-note (rewrite b) fs a u s t {v} e = ap of2′ (Option·some-injective _ v e)
-after-note (push1 b) fs a u s t {v} e = ap of2′ (Option·some-injective _ v e)
-after-note (push2 b) fs a u s t {v} e = ap of2′ (Option·some-injective _ v e)
-after-note copy fs a u s t {v} e = ap of2′ (Option·some-injective _ v e)
-after-note pop1 fs a u s t {v} e = ap of2′ (Option·some-injective _ v e)
-after-note pop2 fs a u s t {v} e = ap of2′ (Option·some-injective _ v e)
-after-note collapse1 fs a (of1′ u) s t {v} e = ap of2′ (Option·some-injective _ v e)
-after-note collapse1 fs a (of2′ u) s t {v} e = absurd (Option·none-ne-some v e)
-after-note collapse2 fs a (of1′ u) s t {v} e = absurd (Option·none-ne-some v e)
-after-note collapse2 fs a (of2′ u) s t {v} e = ap of2′ (Option·some-injective _ v e)
+after-annotation (rewrite b) fs a u s t {v} e = ap of2′ (Option·some-injective _ v e)
+after-annotation (push1 b) fs a u s t {v} e = ap of2′ (Option·some-injective _ v e)
+after-annotation (push2 b) fs a u s t {v} e = ap of2′ (Option·some-injective _ v e)
+after-annotation copy fs a u s t {v} e = ap of2′ (Option·some-injective _ v e)
+after-annotation pop1 fs a u s t {v} e = ap of2′ (Option·some-injective _ v e)
+after-annotation pop2 fs a u s t {v} e = ap of2′ (Option·some-injective _ v e)
+after-annotation collapse1 fs a (of1′ u) s t {v} e = ap of2′ (Option·some-injective _ v e)
+after-annotation collapse1 fs a (of2′ u) s t {v} e = absurd (Option·none-ne-some v e)
+after-annotation collapse2 fs a (of1′ u) s t {v} e = absurd (Option·none-ne-some v e)
+after-annotation collapse2 fs a (of2′ u) s t {v} e = ap of2′ (Option·some-injective _ v e)
 
 -- an operation that leaves a stack takes the annotation's order
-after-takes : (op : Operation) (fs : List (ℕ → ℕ)) (a : ℕ) (u : DecoratedNote) (s : Decorated1) (t : Decorated2) {v : Decorated2}
+after-takes : (op : Operation) (fs : List (ℕ → ℕ)) (a : ℕ) (u : DecoratedAnnotation) (s : Decorated1) (t : Decorated2) {v : Decorated2}
     → afterDecorated op fs a u s t ≡ some v → Takes op (orderOf′ u)
 unfolding afterDecorated orderOf′
 after-takes (rewrite b) fs a u s t e = tt
@@ -151,8 +151,8 @@ after-takes collapse2 fs a (of2′ u) s t e = refl
 
 module _ (rules : List Rule) (T : Saturated) (w : Walk) (F : WalkFormed w) (x : Top) (X : TopFormed (bare (w .cells)) (x .u) (x .s) (x .t))
     (d : Derivation) (ρ : Rule) {v : Decorated2}
-    (e : afterDecorated (ρ .operation) (choicesAfter (T .table) d (ρ .next) (ρ .operation)) (x .a) (noteAt (w .cells) (x .u))
-    (order1′ (noteAt (w .cells) (x .s))) (order2′ (noteAt (w .cells) (x .t))) ≡ some v) where
+    (e : afterDecorated (ρ .operation) (choicesAfter (T .table) d (ρ .next) (ρ .operation)) (x .a) (annotationAt (w .cells) (x .u))
+    (order1′ (annotationAt (w .cells) (x .s))) (order2′ (annotationAt (w .cells) (x .t))) ≡ some v) where
   abbrev old : List Guided
   old = w .cells
 
@@ -168,17 +168,17 @@ module _ (rules : List Rule) (T : Saturated) (w : Walk) (F : WalkFormed w) (x : 
   exists : {n : ℕ} → n < length (bare old) → n < length old
   exists {n} h = rw (length-map old (λ (g : Guided). g .cell)) at h
 
-  root-note : Stands decoratedKind (old ++ new) root (of2′ v)
-  unfolding noteAt
-  root-note =
-      let u : Stands decoratedKind old (x .u) (noteAt old (x .u)) = record { exists = exists (X .u-exists); is = refl } in
-      let s : Stands decoratedKind old (x .s) (of1′ (order1′ (noteAt old (x .s)))) =
-      record { exists = exists (X .s-exists); is = note-of1′ (noteAt old (x .s)) (note-order old (x .s) (exists (X .s-exists)) ∙ X .s-order) } in
-      let t : Stands decoratedKind old (x .t) (of2′ (order2′ (noteAt old (x .t)))) =
-      record { exists = exists (X .t-exists); is = note-of2′ (noteAt old (x .t)) (note-order old (x .t) (exists (X .t-exists)) ∙ X .t-order) } in
+  root-annotation : HasValue decoratedKind (old ++ new) root (of2′ v)
+  unfolding annotationAt
+  root-annotation =
+      let u : HasValue decoratedKind old (x .u) (annotationAt old (x .u)) = record { exists = exists (X .u-exists); is = refl } in
+      let s : HasValue decoratedKind old (x .s) (of1′ (order1′ (annotationAt old (x .s)))) =
+      record { exists = exists (X .s-exists); is = annotation-of1′ (annotationAt old (x .s)) (annotation-order old (x .s) (exists (X .s-exists)) ∙ X .s-order) } in
+      let t : HasValue decoratedKind old (x .t) (of2′ (order2′ (annotationAt old (x .t)))) =
+      record { exists = exists (X .t-exists); is = annotation-of2′ (annotationAt old (x .t)) (annotation-order old (x .t) (exists (X .t-exists)) ∙ X .t-order) } in
       let r = root-stands decoratedKind (choicesOf choices) (x .a) u s t (ρ .operation) in
-      let q = after-note (ρ .operation) choices (x .a) (noteAt old (x .u)) (order1′ (noteAt old (x .s))) (order2′ (noteAt old (x .t))) e in
-      subst (λ (l : List Guided). Stands decoratedKind (old ++ l) root (of2′ v))
+      let q = after-annotation (ρ .operation) choices (x .a) (annotationAt old (x .u)) (order1′ (annotationAt old (x .s))) (order2′ (annotationAt old (x .t))) e in
+      subst (λ (l : List Guided). HasValue decoratedKind (old ++ l) root (of2′ v))
       (sym (added-make (T .table) d (ρ .next) (ρ .operation) (length old) x)) (record { exists = r .exists; is = r .is ∙ q })
 
   new-bare : bare new ≡ cellsAfter (ρ .operation) (length old) (x .a) (x .u) (x .s) (x .t)
@@ -188,8 +188,8 @@ module _ (rules : List Rule) (T : Saturated) (w : Walk) (F : WalkFormed w) (x : 
 
   new-formed : Formed (bare (old ++ new))
   new-formed =
-      let takes : Takes (ρ .operation) (orderAt (bare old) (x .u)) = subst (Takes (ρ .operation)) (note-order old (x .u) (exists (X .u-exists)))
-      (after-takes (ρ .operation) choices (x .a) (noteAt old (x .u)) (order1′ (noteAt old (x .s))) (order2′ (noteAt old (x .t))) e) in
+      let takes : Takes (ρ .operation) (orderAt (bare old) (x .u)) = subst (Takes (ρ .operation)) (annotation-order old (x .u) (exists (X .u-exists)))
+      (after-takes (ρ .operation) choices (x .a) (annotationAt old (x .u)) (order1′ (annotationAt old (x .s))) (order2′ (annotationAt old (x .t))) e) in
       let l : length (bare old) ≡ length old = length-map old (λ (g : Guided). g .cell) in
       subst Formed
       (ap (λ (k : ℕ). bare old ++ cellsAfter (ρ .operation) k (x .a) (x .u) (x .s) (x .t)) l
@@ -197,17 +197,17 @@ module _ (rules : List Rule) (T : Saturated) (w : Walk) (F : WalkFormed w) (x : 
       (formed-after (x .a) (F .formed) X (ρ .operation) takes)
 
   pub moved-formed : WalkFormed (moved rules T w x d ρ)
-  unfolding moved added noteAt orderOf′
+  unfolding moved added annotationAt orderOf′
   moved-formed =
       record {
         formed = new-formed;
-        root-exists = root-note .exists;
-        root-order = sym (note-order (old ++ new) root (root-note .exists)) ∙ ap orderOf′ (root-note .is);
+        root-exists = root-annotation .exists;
+        root-order = sym (annotation-order (old ++ new) root (root-annotation .exists)) ∙ ap orderOf′ (root-annotation .is);
       }
 
   pub moved-decorated : decoratedOf (moved rules T w x d ρ) ≡ record { control = ρ .next; stack = v }
-  unfolding moved added decoratedOf noteAt order2′
-  moved-decorated = λ i. record { control = ρ .next; stack = ap order2′ (root-note .is) i }
+  unfolding moved added decoratedOf annotationAt order2′
+  moved-decorated = λ i. record { control = ρ .next; stack = ap order2′ (root-annotation .is) i }
 
 -- ---- the answers of both
 
@@ -221,8 +221,8 @@ pub data SameNext : Next → DecoratedNext → Type 0 where
 
 module _ (rules : List Rule) (T : Saturated) (w : Walk) (F : WalkFormed w) where
   same-after : (x : Top) → TopFormed (bare (w .cells)) (x .u) (x .s) (x .t) → (d : Derivation) (ρ : Rule) (n : ℕ) (o : Option Decorated2)
-      → afterDecorated (ρ .operation) (choicesAfter (T .table) d (ρ .next) (ρ .operation)) (x .a) (noteAt (w .cells) (x .u))
-      (order1′ (noteAt (w .cells) (x .s))) (order2′ (noteAt (w .cells) (x .t))) ≡ o
+      → afterDecorated (ρ .operation) (choicesAfter (T .table) d (ρ .next) (ρ .operation)) (x .a) (annotationAt (w .cells) (x .u))
+      (order1′ (annotationAt (w .cells) (x .s))) (order2′ (annotationAt (w .cells) (x .t))) ≡ o
       → SameNext (to n (moved rules T w x d ρ)) (leaves n (ρ .next) o)
   unfolding leaves
   same-after x X d ρ n none e = wrong-order

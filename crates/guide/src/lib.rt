@@ -3,7 +3,7 @@ ghost use mathlib.Core.Path.{_≡_};
 ghost use Prim.Native.Nat.{_<_};
 ghost use lib.ListN.{length};
 ghost use Rattle.files.specs.Start.{startsOf};
-ghost use Rattle.services.specs.Memory.{zeros};
+ghost use Rattle.words.specs.Lists.{zeros};
 ghost use Rattle.services.specs.Guide.{guideService};
 ghost use Rattle.demands.specs.Demand1.{GuideStates};
 ghost use Rattle.sound_files.specs.Refusal.{FilesSound};

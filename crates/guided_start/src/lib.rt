@@ -6,7 +6,7 @@ ghost use lib.ListN.{length};
 ghost use Rattle.walks.specs.Guide.{startWalk, guided};
 ghost use Rattle.files.specs.Case.{caseRefusal, rulesOf};
 ghost use Rattle.files.specs.Start.{startsOf, cellsOf};
-ghost use Rattle.services.specs.Memory.{zeros};
+ghost use Rattle.words.specs.Lists.{zeros};
 ghost use Rattle.services.specs.Guide.{guideRun};
 ghost use Rattle.tables.specs.Held.{automatonOf};
 ghost use Rattle.guided_step.specs.Step.{saturatedIn};

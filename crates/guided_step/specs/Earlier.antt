@@ -13,7 +13,7 @@ asSize s = record { moves = s .moves; entries = s .entries }
 abbrev pub tableUpTo : Table → Size → Table
 tableUpTo z s =
     record {
-      states = z .states;
+      inner1 = z .inner1;
       final1 = z .final1;
       final2 = z .final2;
       edges = z .edges;

@@ -41,7 +41,7 @@ pub record Taken (rules : List Rule) (T : Saturated) (w : walks.Walk) (o : walks
   pub move : ℕ
   pub goes : o ≡ walks.to n (walks.moved rules T w (topBy x move) derivation rule)
   pub numbered : getElem? rules n ≡ some rule
-  pub premise-is : p ≡ walks.least (derivation .premise)
+  pub premise-is : p ≡ walks.firstOrZero (derivation .premise)
   pub holds : HoldsNumbers (T .table) derivation (rule .operation) es ms
   pub small : Small (T .table) (rule .operation) p
 

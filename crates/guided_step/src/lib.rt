@@ -12,7 +12,7 @@ ghost use Rattle.tables.specs.Records.{asMove, asResult};
 ghost use Rattle.tables.specs.Held.{automatonOf, tableOf, edgesIn, EdgesStand, EntriesStand};
 ghost use Rattle.cell_memory.specs.Memory.{cellOf, guidedIn};
 ghost use Rattle.results.specs.Collecting.{rulesIn};
-ghost use Rattle.first_reading.specs.Words.{Stands};
+ghost use Rattle.first_reading.specs.Words.{TablesWithin};
 ghost use Rattle.first_derivation.specs.Derived.{FindsFirst, StatesSmall};
 ghost use Rattle.saturation.specs.Running.{theSize, sizeRow};
 ghost use Rattle.guided_step.specs.Walks.{walkIn, tipOf};
@@ -22,7 +22,7 @@ use cell_memory::Cell;
 use cell_steps::Top;
 use first_derivation::First;
 use tables::Move;
-use tables::Outcome;
+use tables::Result;
 use tables::Table;
 
 // The state of a walk: its control, its root cell, and the numbers of cells used and steps taken.
@@ -184,7 +184,7 @@ fn table_before(z: Table, sizes: &[u64], k: usize, i: u16) -> Table
 {
     let s = last_up_to(sizes, k, i);
     Table {
-        states: z.states,
+        inner1: z.inner1,
         final1: z.final1,
         final2: z.final2,
         edges: z.edges,
@@ -208,12 +208,12 @@ fn own_moves(sizes: &[u64], k: usize) -> u64
 // ---- the result that a move stands for
 
 // The result that a move stands for.
-fn result_of(z: Table, entries: &[u64], m: Move) -> Outcome
+fn result_of(z: Table, entries: &[u64], m: Move) -> Result
     requires { ⌜ EntriesStand z (now entries) ⌝ }
     ensures { λ x. ⌜ asResult x ≡ resultOf (tableOf z (now (entries .entry)) []) (asMove m) ⌝ }
 {
     let e = tables::entry_for(z, entries, m.state);
-    Outcome {
+    Result {
         control: e.control,
         s: e.s,
         symbol: m.symbol,
@@ -246,7 +246,7 @@ fn first_before(
     edges: &mut [u16],
     chosen: &mut [u16],
 ) -> First
-    requires { ⌜ Stands z (now inner) (now entries) (now moves) × (count * 5 ≤ length (now body)) × (k * 2 ≤ length (now sizes)) ⌝ }
+    requires { ⌜ TablesWithin z (now inner) (now entries) (now moves) × (count * 5 ≤ length (now body)) × (k * 2 ≤ length (now sizes)) ⌝ }
     requires { ⌜ (length (now edges) ≡ 64) × (length (now chosen) ≡ 64) ⌝ }
     ensures { λ r. ⌜ FindsFirst (before (saturatedIn z (now (inner .entry)) (now (entries .entry)) (now (moves .entry)) k (now (sizes .entry))) i) (rulesIn count (now (body .entry))) (resultOf (automatonOf z (now (inner .entry)) (now (entries .entry)) (now (moves .entry))) (moveAt (automatonOf z (now (inner .entry)) (now (entries .entry)) (now (moves .entry))) i)) r (now (edges .entry)) (now (edges .exit)) (now (chosen .entry)) (now (chosen .exit)) ⌝ }
     ensures small { λ r. ⌜ StatesSmall (before (saturatedIn z (now (inner .entry)) (now (entries .entry)) (now (moves .entry)) k (now (sizes .entry))) i) ⌝ }
@@ -283,7 +283,7 @@ fn step_of(
     edges: &mut [u16],
     chosen: &mut [u16],
 ) -> Next
-    requires { ⌜ Stands z (now inner) (now entries) (now moves) × (count * 5 ≤ length (now body)) × (k * 2 ≤ length (now sizes)) ⌝ }
+    requires { ⌜ TablesWithin z (now inner) (now entries) (now moves) × (count * 5 ≤ length (now body)) × (k * 2 ≤ length (now sizes)) ⌝ }
     requires { ⌜ (now edges ≡ replicate 64 0) × (now chosen ≡ replicate 64 0) ⌝ }
     ensures { λ r. ⌜ AtTop (rulesIn count (now (body .entry))) (saturatedIn z (now (inner .entry)) (now (entries .entry)) (now (moves .entry)) k (now (sizes .entry))) x i r (now (edges .exit)) (now (chosen .exit)) ⌝ }
 {
@@ -325,7 +325,7 @@ pub fn next_step(
     edges: &mut [u16],
     chosen: &mut [u16],
 ) -> Next
-    requires { ⌜ Stands z (now inner) (now entries) (now moves) × (count * 5 ≤ length (now body)) × (k * 2 ≤ length (now sizes)) × (w .cells * 68 ≤ length (now cells)) ⌝ }
+    requires { ⌜ TablesWithin z (now inner) (now entries) (now moves) × (count * 5 ≤ length (now body)) × (k * 2 ≤ length (now sizes)) × (w .cells * 68 ≤ length (now cells)) ⌝ }
     requires { ⌜ (now edges ≡ replicate 64 0) × (now chosen ≡ replicate 64 0) ⌝ }
     ensures { λ r. ⌜ NextIs (rulesIn count (now (body .entry))) (saturatedIn z (now (inner .entry)) (now (entries .entry)) (now (moves .entry)) k (now (sizes .entry))) (walkIn w (now (cells .entry))) r (now (edges .exit)) (now (chosen .exit)) ⌝ }
 {

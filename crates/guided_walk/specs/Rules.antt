@@ -13,7 +13,7 @@ use Rattle.files.specs.Case.{operationOf, ruleBytes, ruleOf}
 use Rattle.bytes_in.specs.Records.{recordAt}
 use Rattle.tables.specs.declared.Table.{Table}
 use Rattle.results.specs.Collecting.{ruleIn, rulesIn, RulesStand, next-small}
-use Rattle.first_reading.specs.Words.{Stands}
+use Rattle.first_reading.specs.Words.{TablesWithin}
 use Rattle.cell_steps.specs.declared.Top.{Top}
 use Rattle.cell_steps.specs.Steps.{symbolOf}
 use Rattle.cell_steps.specs.Steps.Choices.{topState}
@@ -55,7 +55,7 @@ symbol-read n body h e =
 
 -- what the next step asks
 pub step-stands : (z : Table) (inner entries moves : List ℕ) (k : ℕ) (sizes : List ℕ) (count : ℕ) (body : List ℕ) {w : walks.Walk} {o : walks.Next} {x : Top}
-    {n p : ℕ} {es ms : List ℕ} {σ : Rule} → Stands z inner entries moves → RulesStand count body → ((i : ℕ) → getD body i 0 < 256)
+    {n p : ℕ} {es ms : List ℕ} {σ : Rule} → TablesWithin z inner entries moves → RulesStand count body → ((i : ℕ) → getD body i 0 < 256)
     → Taken (rulesIn count body) (saturatedIn z inner entries moves k sizes) w o x n p es ms → σ ≡ ruleOf (ruleBytes (recordAt 5 n body))
     → x .annotation < 2 ^ 16 → x .below < 2 ^ 16 → StepStands z moves (σ .operation) (σ .next) p x
 step-stands z inner entries moves k sizes count body {n = n} {p} {σ = σ} s rs bytes t e a b =

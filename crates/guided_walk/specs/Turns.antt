@@ -14,11 +14,12 @@ use Rattle.replies.specs.declared.Counts.{Counts}
 use Rattle.replies.specs.declared.Halt.{Halt}
 use Rattle.replies.specs.declared.Halt.the-variants.{TraceFull, CellsShort}
 use Rattle.replies.specs.declared.Reply.{Reply}
-use Rattle.walks.specs.Guide.{Outcome, outcome, noOutcome, guided}
-use Rattle.services.specs.Memory.{zeros, padded}
+use Rattle.walks.specs.Guide.{Report, walkedBy, noRun, guided}
+use Rattle.services.specs.Memory.{padded}
+use Rattle.words.specs.Lists.{zeros}
 use Rattle.tables.specs.declared.Table.{Table}
 use Rattle.results.specs.Collecting.{RulesStand}
-use Rattle.first_reading.specs.Words.{Stands}
+use Rattle.first_reading.specs.Words.{TablesWithin}
 use Rattle.cell_steps.specs.declared.Top.{Top}
 use Rattle.guided_step.specs.declared.Walk.{Walk}
 use Rattle.guided_step.specs.Walks.{walkIn}
@@ -28,15 +29,15 @@ use Rattle.guided_walk.specs.Stepped.{Steps}
 
 -- What is asked of the tables, the rules, the sizes and the lent cells.
 pub record RunStands (z : Table) (inner entries moves body : List ℕ) (count : ℕ) (sizes : List ℕ) (k : ℕ) (cells : List ℕ) (most : ℕ) : Type 0 where
-  pub tables-stand : Stands z inner entries moves
+  pub tables-stand : TablesWithin z inner entries moves
   pub rules-stand : RulesStand count body
   pub rules-few : count ≤ 256
   pub sizes-lent : k * 2 ≤ length sizes
   pub cells-lent : most * 68 ≤ length cells
   pub cells-few : most ≤ 4096
 
--- What an outcome leaves: its reply, and its trace in a slice of so many words.
-pub record Leaves (o : Outcome) (words : ℕ) (reply : Reply) (trace : List ℕ) : Type 0 where
+-- What an walkedBy leaves: its reply, and its trace in a slice of so many words.
+pub record Leaves (o : Report) (words : ℕ) (reply : Reply) (trace : List ℕ) : Type 0 where
   pub reply-is : reply ≡ o .reply
   pub trace-is : trace ≡ padded words (o .trace)
 
@@ -53,9 +54,9 @@ pub record Walking (most : ℕ) (w : Walk) (trace : List ℕ) : Type 0 where
 -- ---- a walk that has not arrived, whose next step is by the operation
 
 -- "then trace, then cells"
-pub data Halts (most : ℕ) (op : Operation) (w : Walk) (trace : List ℕ) : Halt → Type 0 where
-  full : {k : Counts} → length trace ≤ w .steps → k ≡ countsIn w → Halts most op w trace (TraceFull k)
-  short : {k : Counts} → w .steps < length trace → most < w .cells + newCells op → k ≡ countsIn w → Halts most op w trace (CellsShort k)
+pub data TurnHalts (most : ℕ) (op : Operation) (w : Walk) (trace : List ℕ) : Halt → Type 0 where
+  full : {k : Counts} → length trace ≤ w .steps → k ≡ countsIn w → TurnHalts most op w trace (TraceFull k)
+  short : {k : Counts} → w .steps < length trace → most < w .cells + newCells op → k ≡ countsIn w → TurnHalts most op w trace (CellsShort k)
 
 -- The step is taken, to control p′ from premise p at top x, and its rule's number n is written.
 pub record Passes (most : ℕ) (A : Automaton) (op : Operation) (p′ n p : ℕ) (x : Top) (es ms : List ℕ) (w : Walk) (cells trace : List ℕ) (v : Walk) (cells′ trace′ : List ℕ) : Type 0 where
@@ -66,7 +67,7 @@ pub record Passes (most : ℕ) (A : Automaton) (op : Operation) (p′ n p : ℕ)
 
 -- What is answered.
 abbrev pub StepAnswers : ℕ → Automaton → Operation → ℕ → ℕ → ℕ → Top → List ℕ → List ℕ → Walk → List ℕ → List ℕ → Going → List ℕ → List ℕ → Type 0
-StepAnswers most A op p′ n p x es ms w cells trace (Halted h) cells′ trace′ = Halts most op w trace h × (trace′ ≡ trace)
+StepAnswers most A op p′ n p x es ms w cells trace (Halted h) cells′ trace′ = TurnHalts most op w trace h × (trace′ ≡ trace)
 StepAnswers most A op p′ n p x es ms w cells trace Stuck cells′ trace′ = ⊥
 StepAnswers most A op p′ n p x es ms w cells trace (On v) cells′ trace′ = Passes most A op p′ n p x es ms w cells trace v cells′ trace′
 
@@ -74,17 +75,17 @@ StepAnswers most A op p′ n p x es ms w cells trace (On v) cells′ trace′ = 
 
 module _ (rules : List Rule) (T : Saturated) (most : ℕ) where
   -- what the guided run answers from here, the numbers of the steps taken being written
-  abbrev pub outcomeFrom : Walk → List ℕ → List ℕ → Outcome
+  abbrev pub outcomeFrom : Walk → List ℕ → List ℕ → Report
   outcomeFrom w cells trace = guided rules T most (length trace - w .steps) (take (w .steps) trace) (walkIn w cells)
 
-  -- The walk goes on to v, with the same outcome.
-  pub record Follows (w : Walk) (cells trace : List ℕ) (v : Walk) (cells′ trace′ : List ℕ) : Type 0 where
+  -- The walk goes on to v, with the same walkedBy.
+  pub record TurnFollows (w : Walk) (cells trace : List ℕ) (v : Walk) (cells′ trace′ : List ℕ) : Type 0 where
     pub same-outcome : outcomeFrom w cells trace ≡ outcomeFrom v cells′ trace′
     pub walking : Walking most v trace′
     pub long : length trace′ ≡ length trace
 
   -- What a turn answers.
   abbrev pub TurnAnswers : Walk → List ℕ → List ℕ → Going → List ℕ → List ℕ → Type 0
-  TurnAnswers w cells trace (Halted h) cells′ trace′ = (outcomeFrom w cells trace ≡ outcome h (take (w .steps) trace)) × (trace′ ≡ trace)
-  TurnAnswers w cells trace Stuck cells′ trace′ = outcomeFrom w cells trace ≡ noOutcome
-  TurnAnswers w cells trace (On v) cells′ trace′ = Follows w cells trace v cells′ trace′ × (v .steps ≡ w .steps + 1)
+  TurnAnswers w cells trace (Halted h) cells′ trace′ = (outcomeFrom w cells trace ≡ walkedBy h (take (w .steps) trace)) × (trace′ ≡ trace)
+  TurnAnswers w cells trace Stuck cells′ trace′ = outcomeFrom w cells trace ≡ noRun
+  TurnAnswers w cells trace (On v) cells′ trace′ = TurnFollows w cells trace v cells′ trace′ × (v .steps ≡ w .steps + 1)

@@ -6,7 +6,7 @@ ghost use lib.ListN.{length};
 ghost use Rattle.automata.specs.Automaton.{moveAt, entryEdge};
 ghost use Rattle.stacks.specs.Stack.{newCells};
 ghost use Rattle.walks.specs.Guide.{guided};
-ghost use Rattle.services.specs.Memory.{zeros};
+ghost use Rattle.words.specs.Lists.{zeros};
 ghost use Rattle.tables.specs.Held.{MovesStand};
 ghost use Rattle.case_records.specs.Values.{theOperation};
 ghost use Rattle.results.specs.Collecting.{rulesIn};
@@ -38,12 +38,12 @@ fn entry_edge(z: Table, entry: u64) -> u16
 
 // The number of the entry that order-1 state r is, and 0 where it is none.
 fn entry_number(z: Table, r: u64) -> u64
-    ensures { λ k. ⌜ k ≡ r - z .states ⌝ }
+    ensures { λ k. ⌜ k ≡ r - z .inner1 ⌝ }
 {
-    if r < z.states {
+    if r < z.inner1 {
         return 0;
     }
-    r - z.states
+    r - z.inner1
 }
 
 // The choices of the new cells where the premise is a move.

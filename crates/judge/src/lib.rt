@@ -4,12 +4,12 @@ ghost use mathlib.Core.List.{_++_, map};
 ghost use Prim.Native.Nat.{ℕ, _<_, _≤_};
 ghost use lib.ListN.{length, getD, drop};
 ghost use Rattle.files.specs.Start.{startsOf};
-ghost use Rattle.services.specs.Memory.{zeros};
+ghost use Rattle.words.specs.Lists.{zeros};
 ghost use Rattle.services.specs.Judge;
 ghost use Rattle.services.specs.Judge.{judgeService};
 ghost use Rattle.tables.specs.Held.{automatonOf};
 ghost use Rattle.start_records.specs.Values.{theStart};
-ghost use Rattle.acceptance.specs.Named.{Stands};
+ghost use Rattle.acceptance.specs.Named.{TablesNamed};
 ghost use Rattle.sound_files.specs.Starts.{startsIn, StartsStand};
 ghost use Rattle.sound_files.specs.Sound.{StartSound};
 ghost use Rattle.sound_files.specs.Refusal.{FilesSound};
@@ -57,7 +57,7 @@ fn mark_starts(
     start: &[u8],
     answers: &mut [u8],
 )
-    requires { ⌜ Stands z (now inner) (now entries) (now moves) × StartSound (now start) × (length (startsOf (now start)) ≤ length (now answers)) ⌝ }
+    requires { ⌜ TablesNamed z (now inner) (now entries) (now moves) × StartSound (now start) × (length (startsOf (now start)) ≤ length (now answers)) ⌝ }
     ensures { λ _. ⌜ now (answers .exit) ≡ map (Judge.mark (automatonOf z (now (inner .entry)) (now (entries .entry)) (now (moves .entry))) (now (start .entry))) (startsOf (now (start .entry))) ++ drop (length (startsOf (now (start .entry)))) (now (answers .entry)) ⌝ }
 {
     let mut words = [0u64; 256];

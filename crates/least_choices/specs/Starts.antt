@@ -3,20 +3,20 @@
 pub mod Laws
 pub mod Turns
 use Prim.Native.Nat.{ℕ, _*_, _≤_}
-use mathlib.Core.Path.{_≡_, refl}
+use mathlib.Core.Path.{_≡_}
 use mathlib.Core.List.{List, zipWith}
 use lib.ListN.{length, getD, take}
 use Rattle.automata.specs.Automaton.{Automaton, edges}
 use Rattle.walks.specs.Cell as walks
 use Rattle.walks.specs.Cell.{empty1, symbol, empty2, above, stacks}
 use Rattle.walks.specs.Cell.Formed.{Formed, cellAt}
-use Rattle.walks.specs.Guide.{Guided, leastChoice, startWalk}
+use Rattle.walks.specs.Guide.{Guided, leastChoice}
 use Rattle.tables.specs.declared.Table.{Table}
 use Rattle.tables.specs.Held.{automatonOf}
 use Rattle.cell_memory.specs.Memory.{valueOf, withCell}
 use Rattle.acceptance.specs.Words.{moveMet, edgeMet}
-use Rattle.acceptance.specs.Named.{Stands}
-use Rattle.acceptance.specs.Cells.{annotationOrder, cellWords}
+use Rattle.acceptance.specs.Named.{TablesNamed}
+use Rattle.acceptance.specs.Cells.{annotationOrderAt, cellWords}
 use Rattle.acceptance.specs.Cells.Body.{cellsIn}
 use Rattle.least_choices.specs.Choices.{leastMet}
 
@@ -28,7 +28,7 @@ pub record Few (z : Table) : Type 0 where
 -- What is asked before the start cells are written: the three tables stand, the body has n cells that refer to lower ones of the right
 -- order, and the first n words are those of the states that accept them.
 pub record Prepared (z : Table) (inner entries moves body : List ℕ) (n : ℕ) (words : List ℕ) : Type 0 where
-  pub stands : Stands z inner entries moves
+  pub stands : TablesNamed z inner entries moves
   pub few : Few z
   pub body-lent : n * 6 ≤ length body
   pub formed : Formed (cellsIn n body)
@@ -46,13 +46,8 @@ choicesBy A k ws i (above w t) cells = leastMet (λ e. e .state) (edgeMet (getD 
 -- the words where cell i is start cell i with its least choices
 unfoldable pub withStart : Automaton → List walks.Cell → List ℕ → ℕ → List ℕ → List ℕ
 withStart A starts ws i cells =
-    choicesBy A (annotationOrder starts (cellAt starts i)) ws i (cellAt starts i) (withCell cells i (valueOf (cellAt starts i)))
+    choicesBy A (annotationOrderAt starts (cellAt starts i)) ws i (cellAt starts i) (withCell cells i (valueOf (cellAt starts i)))
 
 -- the start cells with their least choices
 abbrev pub startCells : Automaton → List walks.Cell → List Guided
 startCells A starts = zipWith (λ c u. record { cell = c; choice = leastChoice A u }) starts (stacks starts)
-
--- they are the cells of the walk from every start
-pub walk-cells : (A : Automaton) (starts : List walks.Cell) (p root : ℕ) → startWalk A starts p root .cells ≡ startCells A starts
-unfolding startWalk
-walk-cells A starts p root = refl

@@ -7,7 +7,7 @@ ghost use Rattle.tables.specs.Records.{moveRow};
 ghost use Rattle.tables.specs.Held.{automatonOf, edgesIn, EdgesStand, EntriesStand};
 ghost use Rattle.cell_memory.specs.Memory.{cellOf, guidedIn};
 ghost use Rattle.acceptance.specs.Words.{moveMet, edgeMet};
-ghost use Rattle.acceptance.specs.Named.{MovesNamed, EdgesNamed, Stands};
+ghost use Rattle.acceptance.specs.Named.{MovesNamed, EdgesNamed, TablesNamed};
 ghost use Rattle.acceptance.specs.Cells.Body.{cellsIn};
 ghost use Rattle.least_choices.specs.Choices.{choiceIf, leastMet};
 ghost use Rattle.least_choices.specs.Starts.{Few, Prepared, choicesBy, withStart, startCells};
@@ -31,13 +31,13 @@ fn put_move_choices(
     moves: &[u64],
     a: u64,
     k: u64,
-    note: u64,
+    annotation: u64,
     rest: u64,
     cells: &mut [u16],
     i: usize,
 )
     requires { ⌜ MovesNamed z (now moves) × Few z × (i * 68 + 68 ≤ length (now cells)) ⌝ }
-    ensures { λ _. ⌜ now (cells .exit) ≡ leastMet (λ m. m .state) (moveMet a k note rest) i 0 (rowsIn moveRow (z .moves) (now (moves .entry))) (now (cells .entry)) ⌝ }
+    ensures { λ _. ⌜ now (cells .exit) ≡ leastMet (λ m. m .state) (moveMet a k annotation rest) i 0 (rowsIn moveRow (z .moves) (now (moves .entry))) (now (cells .entry)) ⌝ }
 {
     let count = z.moves;
     let mut done: usize = 0;
@@ -45,7 +45,7 @@ fn put_move_choices(
         done += 1;
         let number = count - done;
         let m = tables::move_at(moves, number);
-        let met = acceptance::move_met(m, a, k, note, rest);
+        let met = acceptance::move_met(m, a, k, annotation, rest);
         put_choice_if(met, m.state, number, cells, i);
     }
 }
@@ -87,15 +87,15 @@ fn put_least_choices(
     cells: &mut [u16],
     i: usize,
 )
-    requires { ⌜ Stands z (now inner) (now entries) (now moves) × Few z × (n ≤ length (now words)) × (i * 68 + 68 ≤ length (now cells)) ⌝ }
+    requires { ⌜ TablesNamed z (now inner) (now entries) (now moves) × Few z × (n ≤ length (now words)) × (i * 68 + 68 ≤ length (now cells)) ⌝ }
     ensures { λ _. ⌜ now (cells .exit) ≡ choicesBy (automatonOf z (now (inner .entry)) (now (entries .entry)) (now (moves .entry))) k (take n (now (words .entry))) i (cellOf cell) (now (cells .entry)) ⌝ }
 {
     match cell {
         Cell::Empty1 => {}
         Cell::Symbol(a, u, s) => {
-            let note = acceptance::word_before(words, n, u as usize);
+            let annotation = acceptance::word_before(words, n, u as usize);
             let rest = acceptance::word_before(words, n, s as usize);
-            put_move_choices(z, moves, a as u64, k, note, rest, cells, i);
+            put_move_choices(z, moves, a as u64, k, annotation, rest, cells, i);
         }
         Cell::Empty2 => {}
         Cell::Above(w, t) => {

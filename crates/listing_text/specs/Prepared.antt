@@ -13,7 +13,7 @@ use Rattle.guided_step.specs.Step.{saturatedIn}
 use Rattle.guided_start.specs.Tables.{TablesStand}
 
 -- Neither file is refused, and the tables hold the case's saturated table, which fits what the program lends.
-pub record Prepared (case start : List ℕ) (z : Table) (inner entries moves : List ℕ) (k : ℕ) (sizes : List ℕ) : Type 0 where
+pub record TableReady (case start : List ℕ) (z : Table) (inner entries moves : List ℕ) (k : ℕ) (sizes : List ℕ) : Type 0 where
   pub sound : FilesSound case start
   pub tables : TablesStand z inner entries moves k sizes
   pub table-is : saturated (lentOf case (1024 * 5) (64 * 2)) ≡ some (saturatedIn z inner entries moves k sizes)

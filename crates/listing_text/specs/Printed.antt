@@ -7,8 +7,10 @@ use native.Mathlib.Nat.{zero-add}
 use native.Mathlib.Omega.{arith}
 use lib.ListN.{length, take, drop, replicate, length-append, length-replicate}
 use lib.Seq.{take-at}
-use Rattle.services.specs.Memory.{zeros, padded}
-use Rattle.text.specs.Written.{Written, written-parts, written-same}
+use Rattle.services.specs.Memory.{padded}
+use Rattle.words.specs.Lists.{zeros}
+use Rattle.text.specs.Written.{Written}
+use Rattle.text.specs.Written.Laws.{written-parts, written-same}
 use Rattle.tables.specs.Filled.{drop-zeros}
 
 -- n being the number of the bytes

@@ -23,7 +23,8 @@ use Rattle.tables.specs.Rows.Laws.{length-rowsIn}
 use Rattle.tables.specs.Records.{entryRow, moveRow}
 use Rattle.start_file.specs.Checks.{filesOf}
 use Rattle.saturate.specs.Service.Laws.{done-filled}
-use Rattle.text.specs.Lines.{replyLine, startLine-is}
+use Rattle.text.specs.Lines.{replyLine}
+use Rattle.text.specs.Lines.Laws.{startLine-is}
 use Rattle.sound_files.specs.Sound.Laws.{start-sound, starts-count}
 use Rattle.sound_files.specs.Refusal.{FilesSound, filesRefusal, refusedBefore}
 use Rattle.sound_files.specs.Refusal.Laws.{by-files}
@@ -33,7 +34,7 @@ use Rattle.guided_step.specs.Step.{saturatedIn}
 use Rattle.guided_start.specs.Run.{guideInput}
 use Rattle.guided_start.specs.Run.Laws.{run-tables}
 use Rattle.guide.specs.Service.Cases.{answers-guided}
-use Rattle.listing_text.specs.Prepared.{Prepared}
+use Rattle.listing_text.specs.Prepared.{TableReady}
 
 -- ---- by the number with which judge refuses
 
@@ -68,7 +69,7 @@ module _ (case start : List ℕ) where
   listing-exceeded s h =
       sym (text-refused files 9 (ap (λ d. d .code) (judge.answers-exceeded (listingJudge files) s (starts-few s) h)) (omega arith))
 
-  module _ {z : Table} {inner entries moves : List ℕ} {k : ℕ} {sizes : List ℕ} (prepared : Prepared case start z inner entries moves k sizes) where
+  module _ {z : Table} {inner entries moves : List ℕ} {k : ℕ} {sizes : List ℕ} (prepared : TableReady case start z inner entries moves k sizes) where
     abbrev T : Saturated
     T = saturatedIn z inner entries moves k sizes
 

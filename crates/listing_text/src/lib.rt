@@ -8,7 +8,7 @@ ghost use Rattle.services.specs.Listing.{startLine, startLines, listingText};
 ghost use Rattle.start_file.specs.Checks.{filesOf};
 ghost use Rattle.text.specs.Written.{Written};
 ghost use Rattle.sound_files.specs.Refusal.{FilesSound};
-ghost use Rattle.listing_text.specs.Prepared.{Prepared};
+ghost use Rattle.listing_text.specs.Prepared.{TableReady};
 use replies::Saturation;
 use tables::Table;
 
@@ -39,7 +39,7 @@ fn start_line(
     text: &mut [u8],
     at: usize,
 ) -> usize
-    requires { ⌜ Prepared (now case) (now start) z (now inner) (now entries) (now moves) k (now sizes) × (n < length (startsOf (now start))) × (at + 61 ≤ length (now text)) ⌝ }
+    requires { ⌜ TableReady (now case) (now start) z (now inner) (now entries) (now moves) k (now sizes) × (n < length (startsOf (now start))) × (at + 61 ≤ length (now text)) ⌝ }
     ensures { λ r. ⌜ Written (now (text .entry)) at (startLine (filesOf (now (case .entry)) (now (start .entry))) n) (now (text .exit)) r ⌝ }
     ensures within { λ r. ⌜ r ≤ at + 61 ⌝ }
 {
@@ -74,7 +74,7 @@ fn start_lines(
     text: &mut [u8],
     at: usize,
 ) -> usize
-    requires { ⌜ Prepared (now case) (now start) z (now inner) (now entries) (now moves) k (now sizes) × (at + 64 * 61 ≤ length (now text)) ⌝ }
+    requires { ⌜ TableReady (now case) (now start) z (now inner) (now entries) (now moves) k (now sizes) × (at + 64 * 61 ≤ length (now text)) ⌝ }
     ensures { λ r. ⌜ Written (now (text .entry)) at (startLines (filesOf (now (case .entry)) (now (start .entry))) 0 (length (startsOf (now (start .entry))))) (now (text .exit)) r ⌝ }
     ensures within { λ r. ⌜ r ≤ at + 64 * 61 ⌝ }
 {
@@ -112,7 +112,7 @@ fn table_lines(
     k: usize,
     text: &mut [u8],
 ) -> usize
-    requires { ⌜ Prepared (now case) (now start) z (now inner) (now entries) (now moves) k (now sizes) × (4096 ≤ length (now text)) ⌝ }
+    requires { ⌜ TableReady (now case) (now start) z (now inner) (now entries) (now moves) k (now sizes) × (4096 ≤ length (now text)) ⌝ }
     ensures { λ r. ⌜ Written (now (text .entry)) 0 (listingText (filesOf (now (case .entry)) (now (start .entry)))) (now (text .exit)) r ⌝ }
     ensures within { λ r. ⌜ r ≤ 4096 ⌝ }
 {

@@ -18,7 +18,7 @@ unfolding Bytes.number Bytes.field Bytes.records Bytes.kindOf Bytes.countOf Byte
 open-bytes = 0
 
 unfoldable pub open-case : ℕ
-unfolding Case.caseBodies Case.headOf Case.head Case.inner1 Case.inner2 Case.headRight Case.ruleBytes Case.ruleRight Case.operationOf Case.ruleOf Case.ruleRecords Case.edgeBytes Case.edgeRight Case.edgeKey Case.edgeRecords Case.entriesOf Case.innerEdges Case.moveOf Case.noteRight Case.moveRight Case.moveKey Case.moveRecords Case.states1 Case.recordsRight Case.caseTests Case.caseRefusal Case.ownOf Case.rulesOf
+unfolding Case.caseBodies Case.headOf Case.head Case.inner1 Case.inner2 Case.headRight Case.ruleBytes Case.ruleRight Case.operationOf Case.ruleOf Case.ruleRecords Case.edgeBytes Case.edgeRight Case.edgeKey Case.edgeRecords Case.entriesOf Case.innerEdges Case.moveOf Case.annotationRight Case.moveRight Case.moveKey Case.moveRecords Case.states1 Case.recordsRight Case.caseTests Case.caseRefusal Case.ownOf Case.rulesOf
 open-case = 0
 
 unfoldable pub open-start : ℕ

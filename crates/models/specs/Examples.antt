@@ -12,7 +12,7 @@ use Rattle.replies.specs.declared.Halt.the-variants.{Arrived}
 use Rattle.replies.specs.declared.Reply.{Reply}
 use Rattle.replies.specs.declared.Reply.the-variants.{NoRun, Walked}
 use Rattle.files.specs.Case.{ownOf, rulesOf}
-use Rattle.services.specs.Memory.{zeros}
+use Rattle.words.specs.Lists.{zeros}
 use Rattle.services.specs.Saturate.{saturateService}
 use Rattle.services.specs.Judge.{judgeService}
 use Rattle.services.specs.Guide.{guideService}

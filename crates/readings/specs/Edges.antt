@@ -21,7 +21,7 @@ use Rattle.tables.specs.Records.{edgeRow, entryRow}
 use Rattle.tables.specs.Held.{automatonOf, tableOf, edgesIn}
 use Rattle.tables.specs.Pending.{pendingIn}
 use Rattle.readings.specs.Offers.{Collects, offerAll}
-use Rattle.readings.specs.Offers.Laws.{Passed, passed-none, passed-more, passed-all, collects-same, collects-none}
+use Rattle.readings.specs.Offers.Laws.{OfferedBelow, passed-none, passed-more, passed-all, collects-same, collects-none}
 use Rattle.readings.specs.Readings.{readResults, edgeResults}
 
 -- ---- what does not depend on the inner edges
@@ -44,9 +44,9 @@ length-entryEdges r (e ∷ es) = ap suc (length-entryEdges (suc r) es)
 
 pub length-edgesIn : (z : Table) (inner entries : List ℕ) → length (edgesIn z inner entries) ≡ z .edges + z .entries
 length-edgesIn z inner entries =
-    length-append (rowsIn edgeRow (z .edges) inner) (entryEdges (z .states) (rowsIn entryRow (z .entries) entries))
+    length-append (rowsIn edgeRow (z .edges) inner) (entryEdges (z .inner1) (rowsIn entryRow (z .entries) entries))
     ∙ ap₂ _+_ (length-rowsIn edgeRow (z .edges) inner)
-    (length-entryEdges (z .states) (rowsIn entryRow (z .entries) entries) ∙ length-rowsIn entryRow (z .entries) entries)
+    (length-entryEdges (z .inner1) (rowsIn entryRow (z .entries) entries) ∙ length-rowsIn entryRow (z .entries) entries)
 
 -- an edge of state q
 abbrev pub edgesTest : ℕ → Edge → Bool
@@ -63,7 +63,7 @@ module _ (z : Table) (inner entries moves : List ℕ) (p a : ℕ) (j : Joins) (q
 
   -- The results by the first i edges, of those of state q, were offered.
   abbrev pub EdgesUpTo : ℕ → ℕ → List ℕ → ℕ → ℕ → List ℕ → Type 0
-  EdgesUpTo room n t i k t′ = Passed (automatonOf z inner entries moves) room (edgesTest q) (edgesIn z inner entries) noEdge edgeStep n t i k t′
+  EdgesUpTo room n t i k t′ = OfferedBelow (automatonOf z inner entries moves) room (edgesTest q) (edgesIn z inner entries) noEdge edgeStep n t i k t′
 
   module _ (room n : ℕ) (t : List ℕ) where
     pub edges-none : n ≤ room + 1 → EdgesUpTo room n t 0 n t

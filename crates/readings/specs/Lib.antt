@@ -3,4 +3,4 @@ pub mod Readings
 pub mod Holding
 pub mod Turns
 pub mod Edges
-pub mod Remembering
+pub mod Memo

@@ -9,15 +9,15 @@ use Rattle.words.specs.Sets.{join, single, members}
 use Rattle.words.specs.Lists.{each}
 use Rattle.automata.specs.Automaton.{Automaton, moveAt, edgeAt, movesOf, edgesOf}
 use Rattle.automata.specs.Derivation.{Result, Joins, joinMove}
-use Rattle.tables.specs.declared.Outcome.{Outcome}
+use Rattle.tables.specs.declared.Result.{Result as ResultWords}
 
 -- the result (joins) to symbol a of entry [p,S]
 abbrev pub resultTo : ℕ → ℕ → ℕ → Joins → Result
 resultTo p a S j = record { control = p; S = S; symbol = a; order = j .order; B = j .B; R = j .R }
 
 -- the same in the code
-abbrev pub theOutcome : ℕ → ℕ → ℕ → ℕ → ℕ → ℕ → Outcome
-theOutcome p S a order B R = record { control = p; s = S; symbol = a; order = order; b = B; r = R }
+abbrev pub theResult : ℕ → ℕ → ℕ → ℕ → ℕ → ℕ → ResultWords
+theResult p S a order B R = record { control = p; s = S; symbol = a; order = order; b = B; r = R }
 
 -- what is made of the joins, and nothing where orders clash
 unfoldable pub fromJoins : {X : Type 0} → Option Joins → (Joins → List X) → List X

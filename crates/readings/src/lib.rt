@@ -8,8 +8,8 @@ ghost use Rattle.tables.specs.Records.{asMove, asResult};
 ghost use Rattle.tables.specs.Held.{automatonOf, tableOf, EdgesStand, EntriesStand, MovesStand};
 ghost use Rattle.joins.specs.Joining.{theJoins, asJoins};
 ghost use Rattle.readings.specs.Offers.{Collects, Room};
-ghost use Rattle.readings.specs.Readings.{theOutcome, readResults, edgeResults};
-ghost use Rattle.readings.specs.Remembering.{Remembers};
+ghost use Rattle.readings.specs.Readings.{theResult, readResults, edgeResults};
+ghost use Rattle.readings.specs.Memo.{MemoHolds};
 use joins::Joined;
 use joins::Joins;
 
@@ -20,7 +20,7 @@ pub struct Goal {
 }
 
 // Whether a move is this result.
-fn is_result(z: tables::Table, entries: &[u64], m: tables::Move, x: tables::Outcome) -> bool
+fn is_result(z: tables::Table, entries: &[u64], m: tables::Move, x: tables::Result) -> bool
     requires { ⌜ EntriesStand z (now entries) ⌝ }
     ensures { λ r. ⌜ r ≡ isResult (tableOf z (now (entries .entry)) []) (asResult x) (asMove m) ⌝ }
 {
@@ -43,7 +43,7 @@ fn is_result(z: tables::Table, entries: &[u64], m: tables::Move, x: tables::Outc
 }
 
 // Whether the automaton holds this result.
-pub fn is_held(z: tables::Table, entries: &[u64], moves: &[u64], x: tables::Outcome) -> bool
+pub fn is_held(z: tables::Table, entries: &[u64], moves: &[u64], x: tables::Result) -> bool
     requires { ⌜ EntriesStand z (now entries) × MovesStand z (now moves) ⌝ }
     ensures { λ r. ⌜ r ≡ held (tableOf z (now (entries .entry)) (now (moves .entry))) (asResult x) ⌝ }
 {
@@ -64,7 +64,7 @@ pub fn offer(
     z: tables::Table,
     entries: &[u64],
     moves: &[u64],
-    x: tables::Outcome,
+    x: tables::Result,
     out: &mut [u64],
     n: usize,
     room: usize,
@@ -82,10 +82,10 @@ pub fn offer(
 }
 
 // The result (order, b, r) to the goal's symbol of the goal's entry with the set s.
-pub fn outcome(to: Goal, s: u64, order: u64, b: u64, r: u64) -> tables::Outcome
-    ensures { λ x. ⌜ x ≡ theOutcome (to .control) s (to .symbol) order b r ⌝ }
+pub fn result(to: Goal, s: u64, order: u64, b: u64, r: u64) -> tables::Result
+    ensures { λ x. ⌜ x ≡ theResult (to .control) s (to .symbol) order b r ⌝ }
 {
-    tables::Outcome {
+    tables::Result {
         control: to.control,
         s: s,
         symbol: to.symbol,
@@ -96,7 +96,7 @@ pub fn outcome(to: Goal, s: u64, order: u64, b: u64, r: u64) -> tables::Outcome
 }
 
 // Collects the results of the readings of the goal's symbol from the order-1 states left, joined to (order, b, r), for the set s: one choice
-// of a move for each state. The rows of `seen` hold states of this recursion that were worked through: all their results are held or
+// of a move for each state. The rows of `memo` hold states of this recursion that were worked through: all their results are held or
 // collected, so such a state is passed over. Which states stand there at the end is left open. `inner` serves the contract alone: the states
 // are those of the automaton with these edges.
 pub fn read_from(
@@ -110,25 +110,25 @@ pub fn read_from(
     order: u64,
     b: u64,
     r: u64,
-    seen: &mut [u64],
+    memo: &mut [u64],
     out: &mut [u64],
     n: usize,
     room: usize,
 ) -> usize
-    requires { ⌜ EntriesStand z (now entries) × MovesStand z (now moves) × Room room n (now out) × Remembers (automatonOf z (now inner) (now entries) (now moves)) room n (now out) (now seen) ⌝ }
+    requires { ⌜ EntriesStand z (now entries) × MovesStand z (now moves) × Room room n (now out) × MemoHolds (automatonOf z (now inner) (now entries) (now moves)) room n (now out) (now memo) ⌝ }
     ensures { λ k. ⌜ Collects (automatonOf z (now (inner .entry)) (now (entries .entry)) (now (moves .entry))) room n (now (out .entry)) (readResults (automatonOf z (now (inner .entry)) (now (entries .entry)) (now (moves .entry))) (to .control) (to .symbol) s (members left) (theJoins order b r)) k (now (out .exit)) ⌝ }
-    ensures { λ k. ⌜ Remembers (automatonOf z (now (inner .entry)) (now (entries .entry)) (now (moves .entry))) room k (now (out .exit)) (now (seen .exit)) ⌝ }
+    ensures { λ k. ⌜ MemoHolds (automatonOf z (now (inner .entry)) (now (entries .entry)) (now (moves .entry))) room k (now (out .exit)) (now (memo .exit)) ⌝ }
 {
     if room < n {
         return n;
     }
     if left == 0 {
-        let x = outcome(to, s, order, b, r);
+        let x = result(to, s, order, b, r);
         return offer(z, entries, moves, x, out, n, room);
     }
-    let x = remembered::read_state(to.control, to.symbol, s, left, order, b, r);
-    let row = remembered::place(seen, x);
-    if remembered::holds(seen, row, x) {
+    let x = memo_table::read_state(to.control, to.symbol, s, left, order, b, r);
+    let row = memo_table::place(memo, x);
+    if memo_table::holds(memo, row, x) {
         return n;
     }
     let part = sets::least_member(left);
@@ -137,8 +137,8 @@ pub fn read_from(
         b: b,
         r: r,
     };
-    let k = read_moves(z, inner, entries, moves, to, s, part, j, seen, out, n, room);
-    remembered::put(seen, row, x);
+    let k = read_moves(z, inner, entries, moves, to, s, part, j, memo, out, n, room);
+    memo_table::put(memo, row, x);
     k
 }
 
@@ -153,14 +153,14 @@ fn read_moves(
     s: u64,
     part: sets::Split,
     j: Joins,
-    seen: &mut [u64],
+    memo: &mut [u64],
     out: &mut [u64],
     n: usize,
     room: usize,
 ) -> usize
-    requires { ⌜ EntriesStand z (now entries) × MovesStand z (now moves) × Room room n (now out) × Remembers (automatonOf z (now inner) (now entries) (now moves)) room n (now out) (now seen) ⌝ }
+    requires { ⌜ EntriesStand z (now entries) × MovesStand z (now moves) × Room room n (now out) × MemoHolds (automatonOf z (now inner) (now entries) (now moves)) room n (now out) (now memo) ⌝ }
     ensures { λ k. ⌜ Collects (automatonOf z (now (inner .entry)) (now (entries .entry)) (now (moves .entry))) room n (now (out .entry)) (readResults (automatonOf z (now (inner .entry)) (now (entries .entry)) (now (moves .entry))) (to .control) (to .symbol) s (part .member ∷ members (part .others)) (asJoins j)) k (now (out .exit)) ⌝ }
-    ensures { λ k. ⌜ Remembers (automatonOf z (now (inner .entry)) (now (entries .entry)) (now (moves .entry))) room k (now (out .exit)) (now (seen .exit)) ⌝ }
+    ensures { λ k. ⌜ MemoHolds (automatonOf z (now (inner .entry)) (now (entries .entry)) (now (moves .entry))) room k (now (out .exit)) (now (memo .exit)) ⌝ }
 {
     let count = z.moves;
     let mut k = n;
@@ -179,7 +179,7 @@ fn read_moves(
                 more.order,
                 more.b,
                 more.r,
-                seen,
+                memo,
                 out,
                 k,
                 room,
@@ -191,7 +191,7 @@ fn read_moves(
 }
 
 // Collects the results of the readings of the goal's symbol from the order-2 states left, joined to j: one choice of an edge for each state,
-// then the readings from the order-1 states that these edges and `named` name, for the join of the edges' sets and s. States in `seen` are
+// then the readings from the order-1 states that these edges and `named` name, for the join of the edges' sets and s. States in `memo` are
 // passed over.
 pub fn read_edges(
     z: tables::Table,
@@ -203,14 +203,14 @@ pub fn read_edges(
     left: u64,
     named: u64,
     s: u64,
-    seen: &mut [u64],
+    memo: &mut [u64],
     out: &mut [u64],
     n: usize,
     room: usize,
 ) -> usize
-    requires { ⌜ EdgesStand z (now inner) × EntriesStand z (now entries) × MovesStand z (now moves) × Room room n (now out) × Remembers (automatonOf z (now inner) (now entries) (now moves)) room n (now out) (now seen) ⌝ }
+    requires { ⌜ EdgesStand z (now inner) × EntriesStand z (now entries) × MovesStand z (now moves) × Room room n (now out) × MemoHolds (automatonOf z (now inner) (now entries) (now moves)) room n (now out) (now memo) ⌝ }
     ensures { λ r. ⌜ Collects (automatonOf z (now (inner .entry)) (now (entries .entry)) (now (moves .entry))) room n (now (out .entry)) (edgeResults (automatonOf z (now (inner .entry)) (now (entries .entry)) (now (moves .entry))) (to .control) (to .symbol) (asJoins j) (members left) named s) r (now (out .exit)) ⌝ }
-    ensures { λ r. ⌜ Remembers (automatonOf z (now (inner .entry)) (now (entries .entry)) (now (moves .entry))) room r (now (out .exit)) (now (seen .exit)) ⌝ }
+    ensures { λ r. ⌜ MemoHolds (automatonOf z (now (inner .entry)) (now (entries .entry)) (now (moves .entry))) room r (now (out .exit)) (now (memo .exit)) ⌝ }
 {
     if room < n {
         return n;
@@ -227,15 +227,15 @@ pub fn read_edges(
             j.order,
             j.b,
             j.r,
-            seen,
+            memo,
             out,
             n,
             room,
         );
     }
-    let x = remembered::edges_state(to.control, to.symbol, s, left, named, j.order, j.b, j.r);
-    let row = remembered::place(seen, x);
-    if remembered::holds(seen, row, x) {
+    let x = memo_table::edges_state(to.control, to.symbol, s, left, named, j.order, j.b, j.r);
+    let row = memo_table::place(memo, x);
+    if memo_table::holds(memo, row, x) {
         return n;
     }
     let part = sets::least_member(left);
@@ -249,12 +249,12 @@ pub fn read_edges(
         part,
         named,
         s,
-        seen,
+        memo,
         out,
         n,
         room,
     );
-    remembered::put(seen, row, x);
+    memo_table::put(memo, row, x);
     k
 }
 
@@ -270,14 +270,14 @@ fn read_choices(
     part: sets::Split,
     named: u64,
     s: u64,
-    seen: &mut [u64],
+    memo: &mut [u64],
     out: &mut [u64],
     n: usize,
     room: usize,
 ) -> usize
-    requires { ⌜ EdgesStand z (now inner) × EntriesStand z (now entries) × MovesStand z (now moves) × Room room n (now out) × Remembers (automatonOf z (now inner) (now entries) (now moves)) room n (now out) (now seen) ⌝ }
+    requires { ⌜ EdgesStand z (now inner) × EntriesStand z (now entries) × MovesStand z (now moves) × Room room n (now out) × MemoHolds (automatonOf z (now inner) (now entries) (now moves)) room n (now out) (now memo) ⌝ }
     ensures { λ r. ⌜ Collects (automatonOf z (now (inner .entry)) (now (entries .entry)) (now (moves .entry))) room n (now (out .entry)) (edgeResults (automatonOf z (now (inner .entry)) (now (entries .entry)) (now (moves .entry))) (to .control) (to .symbol) (asJoins j) (part .member ∷ members (part .others)) named s) r (now (out .exit)) ⌝ }
-    ensures { λ r. ⌜ Remembers (automatonOf z (now (inner .entry)) (now (entries .entry)) (now (moves .entry))) room r (now (out .exit)) (now (seen .exit)) ⌝ }
+    ensures { λ r. ⌜ MemoHolds (automatonOf z (now (inner .entry)) (now (entries .entry)) (now (moves .entry))) room r (now (out .exit)) (now (memo .exit)) ⌝ }
 {
     let count = z.edges + z.entries;
     let mut k = n;
@@ -297,7 +297,7 @@ fn read_choices(
                 part.others,
                 more,
                 all,
-                seen,
+                memo,
                 out,
                 k,
                 room,

@@ -21,18 +21,18 @@ use Rattle.tables.specs.Held.{tableOf}
 use Rattle.tables.specs.Held.Laws.{entryAt-there}
 use Rattle.readings.specs.Readings.{resultTo}
 use Rattle.readings.specs.Offers.{Collects}
-use Rattle.readings.specs.Offers.Laws.{Passed, passed-none, passed-more, passed-all, collects-same, collects-none}
-use Rattle.results.specs.declared.EntryPremise.{EntryPremise}
-use Rattle.results.specs.declared.EntryPremise.the-variants.{Popped, Collapsed}
+use Rattle.readings.specs.Offers.Laws.{OfferedBelow, passed-none, passed-more, passed-all, collects-same, collects-none}
+use Rattle.results.specs.declared.EntryUse.{EntryUse}
+use Rattle.results.specs.declared.EntryUse.the-variants.{Popped, Collapsed}
 use Rattle.results.specs.Rules.{entryResult, entriesResults}
 use Rattle.results.specs.Steps.{entryStep}
 
-pub is-popped : (p a : ℕ) (k : EntryPremise) (S r bit : ℕ) → k ≡ Popped → bit ≡ single r
+pub is-popped : (p a : ℕ) (k : EntryUse) (S r bit : ℕ) → k ≡ Popped → bit ≡ single r
     → resultTo p a S (record { order = 0; B = 0; R = bit }) ≡ entryResult p a k S r
 unfolding entryResult
 is-popped p a k S r bit e f = rw e (ap (λ (x : ℕ). resultTo p a S (record { order = 0; B = 0; R = x })) f)
 
-pub is-collapsed : (p a : ℕ) (k : EntryPremise) (S r bit : ℕ) → k ≡ Collapsed → bit ≡ single r
+pub is-collapsed : (p a : ℕ) (k : EntryUse) (S r bit : ℕ) → k ≡ Collapsed → bit ≡ single r
     → resultTo p a S (record { order = 1; B = bit; R = 0 }) ≡ entryResult p a k S r
 unfolding entryResult
 is-collapsed p a k S r bit e f = rw e (ap (λ (x : ℕ). resultTo p a S (record { order = 1; B = x; R = 0 })) f)
@@ -41,25 +41,25 @@ is-collapsed p a k S r bit e f = rw e (ap (λ (x : ℕ). resultTo p a S (record 
 abbrev pub entryTest : ℕ → Entry → Bool
 entryTest q e = eqb (e .control) q
 
-module _ (z : Table) (entries moves : List ℕ) (p a : ℕ) (k : EntryPremise) (q : ℕ) where
+module _ (z : Table) (entries moves : List ℕ) (p a : ℕ) (k : EntryUse) (q : ℕ) where
   -- what entry number i gives, where its control is q
   unfoldable pub entryGives : ℕ → List Result
-  entryGives i = entryResult p a k (entrySet (tableOf z entries moves) (z .states + i)) (z .states + i) ∷ []
+  entryGives i = entryResult p a k (entrySet (tableOf z entries moves) (z .inner1 + i)) (z .inner1 + i) ∷ []
 
   -- What the first i entries give was offered.
   abbrev pub EntriesUpTo : ℕ → ℕ → List ℕ → ℕ → ℕ → List ℕ → Type 0
-  EntriesUpTo room n t i r t′ = Passed (tableOf z entries moves) room (entryTest q) (rowsIn entryRow (z .entries) entries) noEntry entryGives n t i r t′
+  EntriesUpTo room n t i r t′ = OfferedBelow (tableOf z entries moves) room (entryTest q) (rowsIn entryRow (z .entries) entries) noEntry entryGives n t i r t′
 
   entry-list : (i : ℕ) → i < z .entries
       → entryStep (tableOf z entries moves) p a k q i (rowAt entryRow entries i)
       ≡ when (entryTest q (getD (rowsIn entryRow (z .entries) entries) i noEntry)) (entryGives i)
   unfolding entryStep entryGives
   entry-list i h =
-      let back : z .states + i - z .states ≡ i = omega arith in
-      let set : entrySet (tableOf z entries moves) (z .states + i) ≡ rowAt entryRow entries i .S =
-      entryAt-set (tableOf z entries moves) (z .states + i)
-      (entryAt-there z entries moves (z .states + i) (rowAt entryRow entries i) (omega arith) (omega arith) (ap (rowAt entryRow entries) (sym back))) in
-      ap₂ (λ (e : Entry) (S : ℕ). when (entryTest q e) (entryResult p a k S (z .states + i) ∷ []))
+      let back : z .inner1 + i - z .inner1 ≡ i = omega arith in
+      let set : entrySet (tableOf z entries moves) (z .inner1 + i) ≡ rowAt entryRow entries i .S =
+      entryAt-set (tableOf z entries moves) (z .inner1 + i)
+      (entryAt-there z entries moves (z .inner1 + i) (rowAt entryRow entries i) (omega arith) (omega arith) (ap (rowAt entryRow entries) (sym back))) in
+      ap₂ (λ (e : Entry) (S : ℕ). when (entryTest q e) (entryResult p a k S (z .inner1 + i) ∷ []))
       (sym (getD-rowsIn entryRow (z .entries) entries i noEntry h)) (sym set)
 
   module _ (room n : ℕ) (t : List ℕ) where
@@ -89,15 +89,15 @@ module _ (z : Table) (entries moves : List ℕ) (p a : ℕ) (k : EntryPremise) (
       unfolding entryStep when
       entry-other h g =
           collects-same
-          (sym (ap (entryStep (tableOf z entries moves) p a k q i) (sym f) ∙ ap (λ (b : Bool). when b (entryResult p a k (e .S) (z .states + i) ∷ [])) (ne-eqb (e .control) q g)))
+          (sym (ap (entryStep (tableOf z entries moves) p a k q i) (sym f) ∙ ap (λ (b : Bool). when b (entryResult p a k (e .S) (z .inner1 + i) ∷ [])) (ne-eqb (e .control) q g)))
           (collects-none n t h)
 
-      pub entry-premise : (x : Result) (r : ℕ) (t′ : List ℕ) → e .control ≡ q → x ≡ entryResult p a k (e .S) (z .states + i)
+      pub entry-premise : (x : Result) (r : ℕ) (t′ : List ℕ) → e .control ≡ q → x ≡ entryResult p a k (e .S) (z .inner1 + i)
           → Collects (tableOf z entries moves) room n t (x ∷ []) r t′
           → Collects (tableOf z entries moves) room n t (entryStep (tableOf z entries moves) p a k q i (rowAt entryRow entries i)) r t′
       unfolding entryStep when
       entry-premise x r t′ g s c =
           collects-same
           (ap (λ (y : Result). y ∷ []) s
-          ∙ sym (ap (entryStep (tableOf z entries moves) p a k q i) (sym f) ∙ ap (λ (b : Bool). when b (entryResult p a k (e .S) (z .states + i) ∷ [])) (eq-eqb (e .control) q g)))
+          ∙ sym (ap (entryStep (tableOf z entries moves) p a k q i) (sym f) ∙ ap (λ (b : Bool). when b (entryResult p a k (e .S) (z .inner1 + i) ∷ [])) (eq-eqb (e .control) q g)))
           c

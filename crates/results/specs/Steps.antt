@@ -11,7 +11,7 @@ use Rattle.words.specs.Lists.{when}
 use Rattle.automata.specs.Automaton.{Automaton, Move, Entry, noMove, moveAt, entryAt, entryOf, entrySet}
 use Rattle.automata.specs.Derivation.{Result, noJoins, joinsOf, controlMoves}
 use Rattle.tables.specs.declared.Table.{Table}
-use Rattle.tables.specs.declared.Outcome.{Outcome}
+use Rattle.tables.specs.declared.Result.{Result as ResultWords}
 use Rattle.tables.specs.Rows.{rowAt, rowsIn}
 use Rattle.tables.specs.Rows.Laws.{length-rowsIn, getD-rowsIn}
 use Rattle.tables.specs.Records.{moveRow, asResult}
@@ -19,22 +19,22 @@ use Rattle.tables.specs.Held.{automatonOf, tableOf}
 use borrow.Author.Tests.{eq-eqb, ne-eqb}
 use Rattle.words.specs.Sets.{join, members}
 use Rattle.joins.specs.Joining.{theJoins}
-use Rattle.readings.specs.Readings.{theOutcome, readResults, edgeResults}
+use Rattle.readings.specs.Readings.{theResult, readResults, edgeResults}
 use Rattle.readings.specs.Edges.{collects-edges}
 use Rattle.readings.specs.Offers.{Collects}
-use Rattle.readings.specs.Offers.Laws.{Passed, passed-none, passed-more, passed-all, collects-same, collects-none}
-use Rattle.results.specs.declared.Premise.{Premise}
-use Rattle.results.specs.declared.Premise.the-variants.{Rewritten, Pushed1, Pushed2, Copied}
-use Rattle.results.specs.declared.EntryPremise.{EntryPremise}
+use Rattle.readings.specs.Offers.Laws.{OfferedBelow, passed-none, passed-more, passed-all, collects-same, collects-none}
+use Rattle.results.specs.declared.MoveUse.{MoveUse}
+use Rattle.results.specs.declared.MoveUse.the-variants.{Rewritten, Pushed1, Pushed2, Copied}
+use Rattle.results.specs.declared.EntryUse.{EntryUse}
 use Rattle.results.specs.Rules.{orderFits, premiseResults, movesResults, entryResult}
 
 module _ (A : Automaton) (p a : ℕ) where
   -- what move m gives, where it is one on b of an entry of control q
-  unfoldable pub moveStep : Premise → ℕ → ℕ → Move → List Result
+  unfoldable pub moveStep : MoveUse → ℕ → ℕ → Move → List Result
   moveStep k b q m = when (eqb (m .symbol) b && entryOf A q (m .state)) (premiseResults A p a k (entrySet A (m .state)) m)
 
   -- what entry e, of number i, gives, where its control is q
-  unfoldable pub entryStep : EntryPremise → ℕ → ℕ → Entry → List Result
+  unfoldable pub entryStep : EntryUse → ℕ → ℕ → Entry → List Result
   entryStep k q i e = when (eqb (e .control) q) (entryResult p a k (e .S) (A .J + i) ∷ [])
 
 -- ---- pushes
@@ -51,7 +51,7 @@ push-no A room n t fits b xs e f h = rw (sym e ∙ f) (collects-none n t h)
 
 -- ---- moves of one control
 
-module _ (z : Table) (inner entries moves : List ℕ) (p a : ℕ) (k : Premise) (b q : ℕ) where
+module _ (z : Table) (inner entries moves : List ℕ) (p a : ℕ) (k : MoveUse) (b q : ℕ) where
   -- what is asked of a premise
   abbrev pub controlTest : Move → Bool
   controlTest m = eqb (m .symbol) b && entryOf (automatonOf z inner entries moves) q (m .state)
@@ -65,7 +65,7 @@ module _ (z : Table) (inner entries moves : List ℕ) (p a : ℕ) (k : Premise) 
 
   -- What the first i moves give was offered.
   abbrev pub MovesUpTo : ℕ → ℕ → List ℕ → ℕ → ℕ → List ℕ → Type 0
-  MovesUpTo room n t i r t′ = Passed (automatonOf z inner entries moves) room controlTest (rowsIn moveRow (z .moves) moves) noMove moveGives n t i r t′
+  MovesUpTo room n t i r t′ = OfferedBelow (automatonOf z inner entries moves) room controlTest (rowsIn moveRow (z .moves) moves) noMove moveGives n t i r t′
 
   module _ (room n : ℕ) (t : List ℕ) where
     pub moves-none : n ≤ room + 1 → MovesUpTo room n t 0 n t
@@ -116,12 +116,12 @@ module _ (z : Table) (inner entries moves : List ℕ) (p a : ℕ) (k : Premise) 
 
 -- ---- what a premise gives
 
-module _ (z : Table) (inner entries moves : List ℕ) (p a : ℕ) (k : Premise) (m : Move) (room n r : ℕ) (t t′ : List ℕ) where
+module _ (z : Table) (inner entries moves : List ℕ) (p a : ℕ) (k : MoveUse) (m : Move) (room n r : ℕ) (t t′ : List ℕ) where
   -- a rewriting does not depend on the inner edges
-  pub by-rewriting : (S : ℕ) (x : Outcome) → k ≡ Rewritten → x ≡ theOutcome p S a (m .order) (m .B) (m .R) → Collects (tableOf z entries moves) room n t (asResult x ∷ []) r t′
+  pub by-rewriting : (S : ℕ) (x : ResultWords) → k ≡ Rewritten → x ≡ theResult p S a (m .order) (m .B) (m .R) → Collects (tableOf z entries moves) room n t (asResult x ∷ []) r t′
       → Collects (automatonOf z inner entries moves) room n t (premiseResults (automatonOf z inner entries moves) p a k S m) r t′
   unfolding premiseResults
-  by-rewriting S x e f c = rw e (collects-same (ap (λ (y : Outcome). asResult y ∷ []) f) (collects-edges z inner entries moves c))
+  by-rewriting S x e f c = rw e (collects-same (ap (λ (y : ResultWords). asResult y ∷ []) f) (collects-edges z inner entries moves c))
 
   pub by-pushing1 : (S : ℕ) → k ≡ Pushed1
       → Collects (automatonOf z inner entries moves) room n t

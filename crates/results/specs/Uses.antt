@@ -1,31 +1,19 @@
 -- What the operation of a rule uses.
 -- Assumes nothing.
+pub mod Laws
 use Prim.Native.Nat.{ℕ}
-use mathlib.Core.Path.{_≡_, refl, ap, sym, _∙_}
 use mathlib.Core.List.{List, [], _∷_}
 use Rattle.words.specs.Sets.{single}
 use Rattle.stacks.specs.Stack.{Operation, rewrite, push1, push2, copy, pop1, pop2, collapse1, collapse2}
-use Rattle.stacks.specs.System.{Rule}
-use Rattle.automata.specs.Automaton.{Automaton, entryAt, entrySet}
-use Rattle.automata.specs.Derivation.{Result, controlEntries}
-use Rattle.case_records.specs.declared.Operation as case
-use Rattle.case_records.specs.declared.Operation.the-variants.{Pop2, Collapse2}
-use Rattle.case_records.specs.Values.{theOperation}
-use Rattle.tables.specs.declared.Outcome.{Outcome}
-use Rattle.tables.specs.declared.Table.{Table}
-use Rattle.tables.specs.Held.{automatonOf, tableOf}
+use Rattle.automata.specs.Automaton.{Automaton}
+use Rattle.automata.specs.Derivation.{Result}
 use Rattle.tables.specs.Records.{asResult}
-use Rattle.readings.specs.Offers.{Collects}
-use Rattle.readings.specs.Offers.Laws.{collects-same}
-use Rattle.readings.specs.Edges.{collects-edges}
-use Rattle.readings.specs.Readings.{theOutcome}
-use Rattle.results.specs.declared.Premise.{Premise}
-use Rattle.results.specs.declared.EntryPremise.{EntryPremise}
-use Rattle.results.specs.declared.Premise.the-variants.{Rewritten, Pushed1, Pushed2, Copied}
-use Rattle.results.specs.declared.EntryPremise.the-variants.{Popped, Collapsed}
+use Rattle.readings.specs.Readings.{theResult}
+use Rattle.results.specs.declared.MoveUse.the-variants.{Rewritten, Pushed1, Pushed2, Copied}
+use Rattle.results.specs.declared.EntryUse.the-variants.{Popped, Collapsed}
 use Rattle.results.specs.declared.Use.{Use}
 use Rattle.results.specs.declared.Use.the-variants.{Moves, Entries, Nothing}
-use Rattle.results.specs.Rules.{movesResults, entriesResults, operationResults, ruleResults}
+use Rattle.results.specs.Rules.{movesResults, entriesResults}
 
 -- what an operation uses, in a rule of control p and symbol a that goes to control q
 unfoldable pub useOf : ℕ → ℕ → ℕ → Operation → Use
@@ -34,62 +22,12 @@ useOf p a q (push1 b) = Moves Pushed1 b
 useOf p a q (push2 b) = Moves Pushed2 b
 useOf p a q copy = Moves Copied a
 useOf p a q pop1 = Entries Popped
-useOf p a q pop2 = Nothing (theOutcome p (single q) a 0 0 0)
+useOf p a q pop2 = Nothing (theResult p (single q) a 0 0 0)
 useOf p a q collapse1 = Entries Collapsed
-useOf p a q collapse2 = Nothing (theOutcome p 0 a 2 (single q) 0)
+useOf p a q collapse2 = Nothing (theResult p 0 a 2 (single q) 0)
 
 -- what it gives
 unfoldable pub useResults : Automaton → ℕ → ℕ → ℕ → Use → List Result
 useResults A p a q (Moves k b) = movesResults A p a k b q
 useResults A p a q (Entries k) = entriesResults A p a k q
 useResults A p a q (Nothing x) = asResult x ∷ []
-
-pub use-results : (A : Automaton) (p a q : ℕ) (op : Operation) → useResults A p a q (useOf p a q op) ≡ operationResults A p a op q
-unfolding useResults useOf operationResults
-use-results A p a q (rewrite b) = refl
-use-results A p a q (push1 b) = refl
-use-results A p a q (push2 b) = refl
-use-results A p a q copy = refl
-use-results A p a q pop1 = refl
-use-results A p a q pop2 = refl
-use-results A p a q collapse1 = refl
-use-results A p a q collapse2 = refl
-
--- ---- the arms of the code's match
-
-module _ (p a q : ℕ) (x : case.Operation) where
-  pub use-is : (y : case.Operation) → x ≡ y → useOf p a q (theOperation y) ≡ useOf p a q (theOperation x)
-  use-is y e = ap (λ (o : case.Operation). useOf p a q (theOperation o)) (sym e)
-
-  pub use-pop2 : (o : Outcome) (bit : ℕ) → x ≡ Pop2 → bit ≡ single q → o ≡ theOutcome p bit a 0 0 0 → Nothing o ≡ useOf p a q (theOperation x)
-  unfolding useOf
-  use-pop2 o bit e f g = ap Nothing (g ∙ ap (λ (n : ℕ). theOutcome p n a 0 0 0) f) ∙ use-is Pop2 e
-
-  pub use-collapse2 : (o : Outcome) (bit : ℕ) → x ≡ Collapse2 → bit ≡ single q → o ≡ theOutcome p 0 a 2 bit 0 → Nothing o ≡ useOf p a q (theOperation x)
-  unfolding useOf
-  use-collapse2 o bit e f g = ap Nothing (g ∙ ap (λ (n : ℕ). theOutcome p 0 a 2 n 0) f) ∙ use-is Collapse2 e
-
-module _ (z : Table) (inner entries moves : List ℕ) (p a q : ℕ) (u : Use) (room n r : ℕ) (t t′ : List ℕ) where
-  pub uses-moves : (k : Premise) (b : ℕ) → u ≡ Moves k b
-      → Collects (automatonOf z inner entries moves) room n t (movesResults (automatonOf z inner entries moves) p a k b q) r t′
-      → Collects (automatonOf z inner entries moves) room n t (useResults (automatonOf z inner entries moves) p a q u) r t′
-  unfolding useResults
-  uses-moves k b e c = rw e c
-
-  -- entries do not depend on the inner edges
-  pub uses-entries : (k : EntryPremise) → u ≡ Entries k
-      → Collects (tableOf z entries moves) room n t (entriesResults (tableOf z entries moves) p a k q) r t′
-      → Collects (automatonOf z inner entries moves) room n t (useResults (automatonOf z inner entries moves) p a q u) r t′
-  unfolding useResults entriesResults controlEntries entrySet entryAt
-  uses-entries k e c = rw e (collects-edges z inner entries moves c)
-
-  pub uses-nothing : (x : Outcome) → u ≡ Nothing x → Collects (tableOf z entries moves) room n t (asResult x ∷ []) r t′
-      → Collects (automatonOf z inner entries moves) room n t (useResults (automatonOf z inner entries moves) p a q u) r t′
-  unfolding useResults
-  uses-nothing x e c = rw e (collects-edges z inner entries moves c)
-
-pub rule-used : (A : Automaton) (ρ : Rule) (u : Use) (room n r : ℕ) (t t′ : List ℕ) → u ≡ useOf (ρ .control) (ρ .symbol) (ρ .next) (ρ .operation)
-    → Collects A room n t (useResults A (ρ .control) (ρ .symbol) (ρ .next) u) r t′ → Collects A room n t (ruleResults A ρ) r t′
-unfolding ruleResults
-rule-used A ρ u room n r t t′ e c =
-    collects-same (ap (useResults A (ρ .control) (ρ .symbol) (ρ .next)) e ∙ use-results A (ρ .control) (ρ .symbol) (ρ .next) (ρ .operation)) c

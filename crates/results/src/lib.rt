@@ -13,7 +13,7 @@ ghost use Rattle.tables.specs.Pending.{pendingIn, limited};
 ghost use Rattle.joins.specs.Joining.{theJoins};
 ghost use Rattle.readings.specs.Offers.{Collects, Room};
 ghost use Rattle.readings.specs.Readings.{readResults};
-ghost use Rattle.readings.specs.Remembering.{Remembers};
+ghost use Rattle.readings.specs.Memo.{MemoHolds};
 ghost use Rattle.results.specs.Rules.{orderFits, premiseResults, movesResults, entryResult, entriesResults, ruleResults};
 ghost use Rattle.case_records.specs.Values.{theOperation, theRule};
 ghost use Rattle.results.specs.Collecting.{RulesStand, rulesIn, newResults};
@@ -21,7 +21,7 @@ ghost use Rattle.results.specs.Steps.{moveStep, entryStep};
 ghost use Rattle.results.specs.Uses.{useOf, useResults};
 
 // How an operation uses a move of an entry.
-pub enum Premise {
+pub enum MoveUse {
     Rewritten,
     Pushed1,
     Pushed2,
@@ -29,7 +29,7 @@ pub enum Premise {
 }
 
 // How an operation uses an entry itself.
-pub enum EntryPremise {
+pub enum EntryUse {
     Popped,
     Collapsed,
 }
@@ -51,7 +51,7 @@ pub struct Push {
     pub rest: u64,
 }
 
-// Collects what a push gives by move m: the readings from the move's rest set. The slice `seen` is that of `readings::read_from`, here and in
+// Collects what a push gives by move m: the readings from the move's rest set. The slice `memo` is that of `readings::read_from`, here and in
 // the functions that follow.
 fn by_push(
     z: tables::Table,
@@ -61,14 +61,14 @@ fn by_push(
     to: readings::Goal,
     push: Push,
     m: tables::Move,
-    seen: &mut [u64],
+    memo: &mut [u64],
     out: &mut [u64],
     n: usize,
     room: usize,
 ) -> usize
-    requires { ⌜ EntriesStand z (now entries) × MovesStand z (now moves) × Room room n (now out) × Remembers (automatonOf z (now inner) (now entries) (now moves)) room n (now out) (now seen) ⌝ }
+    requires { ⌜ EntriesStand z (now entries) × MovesStand z (now moves) × Room room n (now out) × MemoHolds (automatonOf z (now inner) (now entries) (now moves)) room n (now out) (now memo) ⌝ }
     ensures { λ r. ⌜ Collects (automatonOf z (now (inner .entry)) (now (entries .entry)) (now (moves .entry))) room n (now (out .entry)) (when (orderFits (push .order) (asMove m)) (readResults (automatonOf z (now (inner .entry)) (now (entries .entry)) (now (moves .entry))) (to .control) (to .symbol) (push .s) (members (m .r)) (theJoins 0 0 (push .rest)))) r (now (out .exit)) ⌝ }
-    ensures { λ r. ⌜ Remembers (automatonOf z (now (inner .entry)) (now (entries .entry)) (now (moves .entry))) room r (now (out .exit)) (now (seen .exit)) ⌝ }
+    ensures { λ r. ⌜ MemoHolds (automatonOf z (now (inner .entry)) (now (entries .entry)) (now (moves .entry))) room r (now (out .exit)) (now (memo .exit)) ⌝ }
 {
     if !order_fits(push.order, m.order) {
         return n;
@@ -84,7 +84,7 @@ fn by_push(
         0,
         0,
         push.rest,
-        seen,
+        memo,
         out,
         n,
         room,
@@ -98,46 +98,46 @@ fn by_premise(
     entries: &[u64],
     moves: &[u64],
     to: readings::Goal,
-    kind: Premise,
+    kind: MoveUse,
     s: u64,
     m: tables::Move,
-    seen: &mut [u64],
+    memo: &mut [u64],
     out: &mut [u64],
     n: usize,
     room: usize,
 ) -> usize
-    requires { ⌜ EdgesStand z (now inner) × EntriesStand z (now entries) × MovesStand z (now moves) × Room room n (now out) × Remembers (automatonOf z (now inner) (now entries) (now moves)) room n (now out) (now seen) ⌝ }
+    requires { ⌜ EdgesStand z (now inner) × EntriesStand z (now entries) × MovesStand z (now moves) × Room room n (now out) × MemoHolds (automatonOf z (now inner) (now entries) (now moves)) room n (now out) (now memo) ⌝ }
     ensures { λ r. ⌜ Collects (automatonOf z (now (inner .entry)) (now (entries .entry)) (now (moves .entry))) room n (now (out .entry)) (premiseResults (automatonOf z (now (inner .entry)) (now (entries .entry)) (now (moves .entry))) (to .control) (to .symbol) kind s (asMove m)) r (now (out .exit)) ⌝ }
-    ensures { λ r. ⌜ Remembers (automatonOf z (now (inner .entry)) (now (entries .entry)) (now (moves .entry))) room r (now (out .exit)) (now (seen .exit)) ⌝ }
+    ensures { λ r. ⌜ MemoHolds (automatonOf z (now (inner .entry)) (now (entries .entry)) (now (moves .entry))) room r (now (out .exit)) (now (memo .exit)) ⌝ }
 {
     match kind {
-        Premise::Rewritten => {
-            let x = readings::outcome(to, s, m.order, m.b, m.r);
+        MoveUse::Rewritten => {
+            let x = readings::result(to, s, m.order, m.b, m.r);
             readings::offer(z, entries, moves, x, out, n, room)
         }
-        Premise::Pushed1 => {
+        MoveUse::Pushed1 => {
             let push = Push {
                 order: 1,
                 s: s,
                 rest: m.b,
             };
-            by_push(z, inner, entries, moves, to, push, m, seen, out, n, room)
+            by_push(z, inner, entries, moves, to, push, m, memo, out, n, room)
         }
-        Premise::Pushed2 => {
+        MoveUse::Pushed2 => {
             let push = Push {
                 order: 2,
                 s: sets::join(s, m.b),
                 rest: 0,
             };
-            by_push(z, inner, entries, moves, to, push, m, seen, out, n, room)
+            by_push(z, inner, entries, moves, to, push, m, memo, out, n, room)
         }
-        Premise::Copied => {
+        MoveUse::Copied => {
             let j = joins::Joins {
                 order: m.order,
                 b: m.b,
                 r: m.r,
             };
-            readings::read_edges(z, inner, entries, moves, to, j, s, 0, 0, seen, out, n, room)
+            readings::read_edges(z, inner, entries, moves, to, j, s, 0, 0, memo, out, n, room)
         }
     }
 }
@@ -149,18 +149,18 @@ fn by_move(
     entries: &[u64],
     moves: &[u64],
     to: readings::Goal,
-    kind: Premise,
+    kind: MoveUse,
     b: u64,
     q: u64,
     i: usize,
-    seen: &mut [u64],
+    memo: &mut [u64],
     out: &mut [u64],
     n: usize,
     room: usize,
 ) -> usize
-    requires { ⌜ EdgesStand z (now inner) × EntriesStand z (now entries) × MovesStand z (now moves) × Room room n (now out) × Remembers (automatonOf z (now inner) (now entries) (now moves)) room n (now out) (now seen) × (i < z .moves) ⌝ }
+    requires { ⌜ EdgesStand z (now inner) × EntriesStand z (now entries) × MovesStand z (now moves) × Room room n (now out) × MemoHolds (automatonOf z (now inner) (now entries) (now moves)) room n (now out) (now memo) × (i < z .moves) ⌝ }
     ensures { λ r. ⌜ Collects (automatonOf z (now (inner .entry)) (now (entries .entry)) (now (moves .entry))) room n (now (out .entry)) (moveStep (automatonOf z (now (inner .entry)) (now (entries .entry)) (now (moves .entry))) (to .control) (to .symbol) kind b q (rowAt moveRow (now (moves .entry)) i)) r (now (out .exit)) ⌝ }
-    ensures { λ r. ⌜ Remembers (automatonOf z (now (inner .entry)) (now (entries .entry)) (now (moves .entry))) room r (now (out .exit)) (now (seen .exit)) ⌝ }
+    ensures { λ r. ⌜ MemoHolds (automatonOf z (now (inner .entry)) (now (entries .entry)) (now (moves .entry))) room r (now (out .exit)) (now (memo .exit)) ⌝ }
 {
     let m = tables::move_at(moves, i);
     if m.symbol != b {
@@ -170,7 +170,7 @@ fn by_move(
         return n;
     }
     let s = tables::entry_set(z, entries, m.state);
-    by_premise(z, inner, entries, moves, to, kind, s, m, seen, out, n, room)
+    by_premise(z, inner, entries, moves, to, kind, s, m, memo, out, n, room)
 }
 
 // Collects what the moves on b of the entries of control q give.
@@ -180,17 +180,17 @@ fn by_moves(
     entries: &[u64],
     moves: &[u64],
     to: readings::Goal,
-    kind: Premise,
+    kind: MoveUse,
     b: u64,
     q: u64,
-    seen: &mut [u64],
+    memo: &mut [u64],
     out: &mut [u64],
     n: usize,
     room: usize,
 ) -> usize
-    requires { ⌜ EdgesStand z (now inner) × EntriesStand z (now entries) × MovesStand z (now moves) × Room room n (now out) × Remembers (automatonOf z (now inner) (now entries) (now moves)) room n (now out) (now seen) ⌝ }
+    requires { ⌜ EdgesStand z (now inner) × EntriesStand z (now entries) × MovesStand z (now moves) × Room room n (now out) × MemoHolds (automatonOf z (now inner) (now entries) (now moves)) room n (now out) (now memo) ⌝ }
     ensures { λ r. ⌜ Collects (automatonOf z (now (inner .entry)) (now (entries .entry)) (now (moves .entry))) room n (now (out .entry)) (movesResults (automatonOf z (now (inner .entry)) (now (entries .entry)) (now (moves .entry))) (to .control) (to .symbol) kind b q) r (now (out .exit)) ⌝ }
-    ensures { λ r. ⌜ Remembers (automatonOf z (now (inner .entry)) (now (entries .entry)) (now (moves .entry))) room r (now (out .exit)) (now (seen .exit)) ⌝ }
+    ensures { λ r. ⌜ MemoHolds (automatonOf z (now (inner .entry)) (now (entries .entry)) (now (moves .entry))) room r (now (out .exit)) (now (memo .exit)) ⌝ }
 {
     let count = z.moves;
     let mut k = n;
@@ -206,7 +206,7 @@ fn by_moves(
             b,
             q,
             i,
-            seen,
+            memo,
             out,
             k,
             room,
@@ -217,14 +217,14 @@ fn by_moves(
 }
 
 // What order-1 state r, an entry with the set s, gives.
-fn entry_outcome(to: readings::Goal, kind: EntryPremise, s: u64, r: u64) -> tables::Outcome
+fn entry_result(to: readings::Goal, kind: EntryUse, s: u64, r: u64) -> tables::Result
     requires { ⌜ r < 64 ⌝ }
     ensures { λ x. ⌜ asResult x ≡ entryResult (to .control) (to .symbol) kind s r ⌝ }
 {
     let bit = sets::one_bit(r);
     match kind {
-        EntryPremise::Popped => readings::outcome(to, s, 0, 0, bit),
-        EntryPremise::Collapsed => readings::outcome(to, s, 1, bit, 0),
+        EntryUse::Popped => readings::result(to, s, 0, 0, bit),
+        EntryUse::Collapsed => readings::result(to, s, 1, bit, 0),
     }
 }
 
@@ -234,7 +234,7 @@ fn by_entry(
     entries: &[u64],
     moves: &[u64],
     to: readings::Goal,
-    kind: EntryPremise,
+    kind: EntryUse,
     q: u64,
     i: usize,
     out: &mut [u64],
@@ -248,7 +248,7 @@ fn by_entry(
     if e.control != q {
         return n;
     }
-    let x = entry_outcome(to, kind, e.s, z.states + i as u64);
+    let x = entry_result(to, kind, e.s, z.inner1 + i as u64);
     readings::offer(z, entries, moves, x, out, n, room)
 }
 
@@ -258,7 +258,7 @@ fn by_entries(
     entries: &[u64],
     moves: &[u64],
     to: readings::Goal,
-    kind: EntryPremise,
+    kind: EntryUse,
     q: u64,
     out: &mut [u64],
     n: usize,
@@ -279,9 +279,9 @@ fn by_entries(
 
 // What a rule's operation uses: moves on a symbol, entries, or nothing, for one result.
 pub enum Use {
-    Moves(Premise, u64),
-    Entries(EntryPremise),
-    Nothing(tables::Outcome),
+    Moves(MoveUse, u64),
+    Entries(EntryUse),
+    Nothing(tables::Result),
 }
 
 // What a rule's operation uses.
@@ -296,14 +296,14 @@ fn use_of(rule: case_records::Rule) -> Use
     };
     let operation = rule.operation;
     match operation {
-        case_records::Operation::Rewrite(b) => Use::Moves(Premise::Rewritten, b),
-        case_records::Operation::Push1(b) => Use::Moves(Premise::Pushed1, b),
-        case_records::Operation::Push2(b) => Use::Moves(Premise::Pushed2, b),
-        case_records::Operation::Copy => Use::Moves(Premise::Copied, rule.symbol),
-        case_records::Operation::Pop1 => Use::Entries(EntryPremise::Popped),
-        case_records::Operation::Pop2 => Use::Nothing(readings::outcome(to, bit, 0, 0, 0)),
-        case_records::Operation::Collapse1 => Use::Entries(EntryPremise::Collapsed),
-        case_records::Operation::Collapse2 => Use::Nothing(readings::outcome(to, 0, 2, bit, 0)),
+        case_records::Operation::Rewrite(b) => Use::Moves(MoveUse::Rewritten, b),
+        case_records::Operation::Push1(b) => Use::Moves(MoveUse::Pushed1, b),
+        case_records::Operation::Push2(b) => Use::Moves(MoveUse::Pushed2, b),
+        case_records::Operation::Copy => Use::Moves(MoveUse::Copied, rule.symbol),
+        case_records::Operation::Pop1 => Use::Entries(EntryUse::Popped),
+        case_records::Operation::Pop2 => Use::Nothing(readings::result(to, bit, 0, 0, 0)),
+        case_records::Operation::Collapse1 => Use::Entries(EntryUse::Collapsed),
+        case_records::Operation::Collapse2 => Use::Nothing(readings::result(to, 0, 2, bit, 0)),
     }
 }
 
@@ -316,17 +316,17 @@ fn by_use(
     to: readings::Goal,
     q: u64,
     used: Use,
-    seen: &mut [u64],
+    memo: &mut [u64],
     out: &mut [u64],
     n: usize,
     room: usize,
 ) -> usize
-    requires { ⌜ EdgesStand z (now inner) × EntriesStand z (now entries) × MovesStand z (now moves) × Room room n (now out) × Remembers (automatonOf z (now inner) (now entries) (now moves)) room n (now out) (now seen) ⌝ }
+    requires { ⌜ EdgesStand z (now inner) × EntriesStand z (now entries) × MovesStand z (now moves) × Room room n (now out) × MemoHolds (automatonOf z (now inner) (now entries) (now moves)) room n (now out) (now memo) ⌝ }
     ensures { λ r. ⌜ Collects (automatonOf z (now (inner .entry)) (now (entries .entry)) (now (moves .entry))) room n (now (out .entry)) (useResults (automatonOf z (now (inner .entry)) (now (entries .entry)) (now (moves .entry))) (to .control) (to .symbol) q used) r (now (out .exit)) ⌝ }
-    ensures { λ r. ⌜ Remembers (automatonOf z (now (inner .entry)) (now (entries .entry)) (now (moves .entry))) room r (now (out .exit)) (now (seen .exit)) ⌝ }
+    ensures { λ r. ⌜ MemoHolds (automatonOf z (now (inner .entry)) (now (entries .entry)) (now (moves .entry))) room r (now (out .exit)) (now (memo .exit)) ⌝ }
 {
     match used {
-        Use::Moves(k, b) => by_moves(z, inner, entries, moves, to, k, b, q, seen, out, n, room),
+        Use::Moves(k, b) => by_moves(z, inner, entries, moves, to, k, b, q, memo, out, n, room),
         Use::Entries(k) => by_entries(z, entries, moves, to, k, q, out, n, room),
         Use::Nothing(x) => readings::offer(z, entries, moves, x, out, n, room),
     }
@@ -339,14 +339,14 @@ pub fn by_rule(
     entries: &[u64],
     moves: &[u64],
     rule: case_records::Rule,
-    seen: &mut [u64],
+    memo: &mut [u64],
     out: &mut [u64],
     n: usize,
     room: usize,
 ) -> usize
-    requires { ⌜ EdgesStand z (now inner) × EntriesStand z (now entries) × MovesStand z (now moves) × Room room n (now out) × Remembers (automatonOf z (now inner) (now entries) (now moves)) room n (now out) (now seen) × (rule .next < 64) ⌝ }
+    requires { ⌜ EdgesStand z (now inner) × EntriesStand z (now entries) × MovesStand z (now moves) × Room room n (now out) × MemoHolds (automatonOf z (now inner) (now entries) (now moves)) room n (now out) (now memo) × (rule .next < 64) ⌝ }
     ensures { λ r. ⌜ Collects (automatonOf z (now (inner .entry)) (now (entries .entry)) (now (moves .entry))) room n (now (out .entry)) (ruleResults (automatonOf z (now (inner .entry)) (now (entries .entry)) (now (moves .entry))) (theRule rule)) r (now (out .exit)) ⌝ }
-    ensures { λ r. ⌜ Remembers (automatonOf z (now (inner .entry)) (now (entries .entry)) (now (moves .entry))) room r (now (out .exit)) (now (seen .exit)) ⌝ }
+    ensures { λ r. ⌜ MemoHolds (automatonOf z (now (inner .entry)) (now (entries .entry)) (now (moves .entry))) room r (now (out .exit)) (now (memo .exit)) ⌝ }
 {
     let to = readings::Goal {
         control: rule.control,
@@ -354,7 +354,7 @@ pub fn by_rule(
     };
     let q = rule.next;
     let used = use_of(rule);
-    by_use(z, inner, entries, moves, to, q, used, seen, out, n, room)
+    by_use(z, inner, entries, moves, to, q, used, memo, out, n, room)
 }
 
 // Collects the results of the first `count` rules of a body that are not yet held: sorted, each once, in the first rows of `out`. Answers
@@ -373,12 +373,12 @@ pub fn collect(
     ensures { λ n. ⌜ pendingIn room n (now (out .exit)) ≡ limited room (newResults (rulesIn count (now (body .entry))) (automatonOf z (now (inner .entry)) (now (entries .entry)) (now (moves .entry)))) ⌝ }
     ensures { λ n. ⌜ n ≤ room + 1 ⌝ }
 {
-    let mut seen = [0u64; 147456];
+    let mut memo = [0u64; 147456];
     let mut n: usize = 0;
     let mut i: usize = 0;
     while i < count {
         let rule = case_records::rule_at(body, i);
-        n = by_rule(z, inner, entries, moves, rule, &mut seen, out, n, room);
+        n = by_rule(z, inner, entries, moves, rule, &mut memo, out, n, room);
         i += 1;
     }
     n

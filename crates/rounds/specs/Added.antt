@@ -22,7 +22,7 @@ use Rattle.automata.specs.Automaton.Laws.{entry, EntryIs, get-entryIs, entryIs-
 use Rattle.automata.specs.Derivation.{Result, resultKey}
 use Rattle.automata.specs.Derivation.Laws.{resultKey-eq}
 use Rattle.automata.specs.Saturation.{held, entryNumber, add, addAll, extend}
-use Rattle.automata.specs.Saturation.Laws.{Stands, stands-held, stands-kept, held-kept}
+use Rattle.automata.specs.Saturation.Laws.{StandsFor, stands-held, stands-kept, held-kept}
 use Rattle.automata.specs.Facts.{Extends}
 use Rattle.automata.specs.Facts.Laws.{extends-refl, extends-trans}
 use Rattle.rounds.specs.Entries.{withEntry-appends, entryNumber-at}
@@ -103,7 +103,7 @@ unfolding add newMove
 add-entry A x = entryIs-at (add A x) (add-entryIs A x)
 
 -- the move that is appended stands for the result
-pub add-stands : (A : Automaton) (x : Result) → Stands (add A x) (length (A .moves)) x
+pub add-stands : (A : Automaton) (x : Result) → StandsFor (add A x) (length (A .moves)) x
 unfolding moveAt add newMove
 add-stands A x =
     let e : moveAt (add A x) (length (A .moves)) ≡ newMove A x =
@@ -139,13 +139,13 @@ extend-holds A {xs} {x} j = by-test (held A x)
 -- ---- each new move is one of the results
 
 pub addAll-new : (A : Automaton) (xs : List Result) (i : ℕ) → length (A .moves) ≤ i → i < length (addAll A xs .moves)
-    → (x : Result) × List·Memᴰ x xs × Stands (addAll A xs) i x
+    → (x : Result) × List·Memᴰ x xs × StandsFor (addAll A xs) i x
 unfolding addAll
 addAll-new A [] i l h = absurd (omega arith)
 addAll-new A (x ∷ xs) i l h = by-test (eqb i (length (A .moves)))
     (λ t.
     let e : length (A .moves) ≡ i = sym (eqb-true i (length (A .moves)) t) in
-    (x, List·Memᴰ·head refl, stands-kept (addAll-extends (add A x) xs) (subst (λ (k : ℕ). Stands (add A x) k x) e (add-stands A x))))
+    (x, List·Memᴰ·head refl, stands-kept (addAll-extends (add A x) xs) (subst (λ (k : ℕ). StandsFor (add A x) k x) e (add-stands A x))))
     (λ t.
     let n : i ≡ length (A .moves) → ⊥ = eqb-false i (length (A .moves)) t in
     let e : length (add A x .moves) ≡ suc (length (A .moves)) = add-length A x in
@@ -154,7 +154,7 @@ addAll-new A (x ∷ xs) i l h = by-test (eqb i (length (A .moves)))
 
 -- a move that `extend` adds is one of the results, and one that was not held
 pub extend-new : (A : Automaton) (xs : List Result) (i : ℕ) → length (A .moves) ≤ i → i < length (extend A xs .moves)
-    → (x : Result) × List·Memᴰ x xs × (held A x ≡ false) × Stands (extend A xs) i x
+    → (x : Result) × List·Memᴰ x xs × (held A x ≡ false) × StandsFor (extend A xs) i x
 unfolding extend
 extend-new A xs i l h =
     let (x, j, s) = addAll-new A (added A xs) i l h in

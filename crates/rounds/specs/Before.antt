@@ -13,7 +13,7 @@ use Rattle.automata.specs.Automaton.{Automaton, moveAt}
 use Rattle.automata.specs.Derivation.{Result, Derivation, derivations, resultOf, firstDerivation}
 use Rattle.automata.specs.Derivation.Laws.{firstDerivation-in, firstDerivation-out}
 use Rattle.automata.specs.Saturation.{Size, tableAfter, Saturated, sizeOf, upTo, lastUpTo, before, ownMoves}
-use Rattle.automata.specs.Saturation.Laws.{Stands, stands-result, before-extends, before-small}
+use Rattle.automata.specs.Saturation.Laws.{StandsFor, stands-result, before-extends, before-small}
 use Rattle.automata.specs.Facts.{RuleFacts, TableFacts, Extends}
 use Rattle.rounds.specs.Rounds.{own-extends}
 use Rattle.rounds.specs.First.{AddedAfter, added-after, derived}
@@ -30,7 +30,7 @@ pub record Later (rules : List Rule) (own : Automaton) (T : Saturated) (i : ℕ)
   pub derivation : Derivation
   pub is-first : firstDerivation (before T i) rules (resultOf (T .table) (moveAt (T .table) i)) ≡ some derivation
   pub derives : List·Memᴰ derivation (derivations (before T i) rules)
-  pub stands : Stands (T .table) i (derivation .result)
+  pub stands : StandsFor (T .table) i (derivation .result)
 
 module _ {rules : List Rule} {own : Automaton} {T : Saturated} (s : AfterRounds rules own T) where
   pub table-extends : Extends own (T .table)
@@ -51,7 +51,7 @@ module _ {rules : List Rule} {own : Automaton} {T : Saturated} (s : AfterRounds 
 
   -- from any derivation of what move i stands for
   later-by : (n : ℕ) {i : ℕ} {d : Derivation} → before T i ≡ tableAfter rules own n → List·Memᴰ d (derivations (tableAfter rules own n) rules)
-      → Stands (T .table) i (d .result) → Later rules own T i
+      → StandsFor (T .table) i (d .result) → Later rules own T i
   later-by n {i} {d} b j stands = go (firstDerivation-in (before T i) rules x {d = d} (rw b j) (sym (stands-result (T .table) stands)))
     where
       x : Result
@@ -69,7 +69,7 @@ module _ {rules : List Rule} {own : Automaton} {T : Saturated} (s : AfterRounds 
             derivation = f;
             is-first = e;
             derives = h .0;
-            stands = subst (Stands (T .table) i) (sym (stands-result (T .table) stands) ∙ sym (h .1)) stands;
+            stands = subst (StandsFor (T .table) i) (sym (stands-result (T .table) stands) ∙ sym (h .1)) stands;
           }
 
   pub later : (i : ℕ) → length (own .moves) ≤ i → i < length (T .table .moves) → Later rules own T i
@@ -90,6 +90,3 @@ module _ {rules : List Rule} {own : Automaton} {T : Saturated} (s : AfterRounds 
   module _ {P : ℕ} (rule-facts : (ρ : Rule) → List·Memᴰ ρ rules → RuleFacts P ρ) (F : TableFacts P own) where
     pub table-facts : TableFacts P (T .table)
     table-facts = subst (TableFacts P) (sym (s .table-is)) (after-facts rules rule-facts F (s .rounds))
-
-    pub before-facts : {i : ℕ} → Later rules own T i → TableFacts P (before T i)
-    before-facts l = subst (TableFacts P) (sym (l .before-after)) (after-facts rules rule-facts F (l .rounds-before))

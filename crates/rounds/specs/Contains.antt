@@ -41,7 +41,7 @@ module _ (A C : Automaton) where
     pub state-same : Same (m .state) (n .state)
     pub symbol-same : n .symbol ≡ m .symbol
     pub order-same : n .order ≡ m .order
-    pub note-same : Matched (SameIn (m .order)) (m .B) (n .B)
+    pub annotation-same : Matched (SameIn (m .order)) (m .B) (n .B)
     pub rest-same : Matched Same (m .R) (n .R)
 
   -- C contains A
@@ -130,7 +130,7 @@ module _ {A C : Automaton} where
           state-same = same-kept (s .state-same);
           symbol-same = s .symbol-same;
           order-same = s .order-same;
-          note-same = matched-map (sameIn-kept (m .order)) (s .note-same);
+          annotation-same = matched-map (sameIn-kept (m .order)) (s .annotation-same);
           rest-same = matched-map (λ r s z. same-kept z) (s .rest-same);
         }
 
@@ -162,10 +162,10 @@ module _ (A : Automaton) where
   pub matched-self : (R : ℕ) → All R (λ r. r < A .J) → Matched (Same A A) R R
   matched-self R f = record { forth = λ r h. (r, h, inner (f r h) refl); back = λ r h. (r, h, inner (f r h) refl) }
 
-  pub note-self : (k B : ℕ) → (k ≡ 0 → B ≡ 0) → (k ≡ 1 → All B (λ r. r < A .J)) → Matched (SameIn A A k) B B
-  note-self zero B f g = rw (f refl) (matched-empty (SameIn A A 0))
-  note-self (suc zero) B f g = matched-self B (g refl)
-  note-self (suc (suc k)) B f g = equal-matched refl
+  pub annotation-self : (k B : ℕ) → (k ≡ 0 → B ≡ 0) → (k ≡ 1 → All B (λ r. r < A .J)) → Matched (SameIn A A k) B B
+  annotation-self zero B f g = rw (f refl) (matched-empty (SameIn A A 0))
+  annotation-self (suc zero) B f g = matched-self B (g refl)
+  annotation-self (suc (suc k)) B f g = equal-matched refl
 
   pub contains-self : {P : ℕ} → TableFacts P A → OwnFacts P A → Contains A A
   contains-self F O =
@@ -182,7 +182,7 @@ module _ (A : Automaton) where
             state-same = same-self (m .state) (F .move-facts m j .state-exists);
             symbol-same = refl;
             order-same = refl;
-            note-same = note-self (m .order) (m .B) (F .move-facts m j .none-empty) (O .note1-inner m j);
+            annotation-same = annotation-self (m .order) (m .B) (F .move-facts m j .none-empty) (O .annotation1-inner m j);
             rest-same = matched-self (m .R) (O .rest-inner m j);
           },
         );

@@ -32,16 +32,16 @@ unfolding isEntry
 isEntry-in p S = ap₂ _&&_ (eq-eqb p p refl) (eq-eqb S S refl)
 
 -- [p,S] is not there, or is at its number
-pub data Placed (p S : ℕ) (es : List Entry) : Type 0 where
-  new : ((e : Entry) → List·Memᴰ e es → isEntry p S e ≡ false) → withEntry p S es ≡ es ++ entry p S ∷ [] → entryNumber p S es ≡ length es → Placed p S es
-  old : withEntry p S es ≡ es → getElem? es (entryNumber p S es) ≡ some (entry p S) → Placed p S es
+pub data EntryPlaced (p S : ℕ) (es : List Entry) : Type 0 where
+  new : ((e : Entry) → List·Memᴰ e es → isEntry p S e ≡ false) → withEntry p S es ≡ es ++ entry p S ∷ [] → entryNumber p S es ≡ length es → EntryPlaced p S es
+  old : withEntry p S es ≡ es → getElem? es (entryNumber p S es) ≡ some (entry p S) → EntryPlaced p S es
 
-pub placed : (p S : ℕ) (es : List Entry) → Placed p S es
+pub placed : (p S : ℕ) (es : List Entry) → EntryPlaced p S es
 unfolding withEntry entryNumber
 placed p S [] = new (λ e j. absurd (List·Memᴰ·not-nil j)) refl refl
 placed p S (e ∷ es) = by-test (isEntry p S e) (λ h. old (rw (withEntry, h)) (rw (entryNumber, h) (ap some (isEntry-out p S e h)))) (λ h. go h (placed p S es))
   where
-    go : isEntry p S e ≡ false → Placed p S es → Placed p S (e ∷ es)
+    go : isEntry p S e ≡ false → EntryPlaced p S es → EntryPlaced p S (e ∷ es)
     go h (new n w k) = new
         (λ x j. ⊎-elim (λ z. ap (isEntry p S) z ∙ h) (λ i. n x i) (List·Memᴰ·cases-cons j))
         (rw (withEntry, h) (ap (λ (l : List Entry). e ∷ l) w))
@@ -52,7 +52,7 @@ placed p S (e ∷ es) = by-test (isEntry p S e) (λ h. old (rw (withEntry, h)) (
 pub withEntry-appends : (p S : ℕ) (es : List Entry) → (more : List Entry) × (withEntry p S es ≡ es ++ more)
 withEntry-appends p S es = go (placed p S es)
   where
-    go : Placed p S es → (more : List Entry) × (withEntry p S es ≡ es ++ more)
+    go : EntryPlaced p S es → (more : List Entry) × (withEntry p S es ≡ es ++ more)
     go (new n w k) = (entry p S ∷ [], w)
     go (old w k) = ([], w ∙ sym (append-nil es))
 
@@ -65,7 +65,7 @@ withEntry-grows p S es =
 pub entryNumber-at : (p S : ℕ) (es : List Entry) → getElem? (withEntry p S es) (entryNumber p S es) ≡ some (entry p S)
 entryNumber-at p S es = go (placed p S es)
   where
-    go : Placed p S es → getElem? (withEntry p S es) (entryNumber p S es) ≡ some (entry p S)
+    go : EntryPlaced p S es → getElem? (withEntry p S es) (entryNumber p S es) ≡ some (entry p S)
     go (new n w k) =
         let h : length es < length (es ++ entry p S ∷ []) = rw (length-append es (entry p S ∷ [])) (omega arith) in
         rw (w, k) (getElem?-below (es ++ entry p S ∷ []) (length es) noEntry h ∙ ap some (getD-append-seam es (entry p S) [] noEntry))
@@ -74,18 +74,10 @@ entryNumber-at p S es = go (placed p S es)
 pub entryNumber-below : (p S : ℕ) (es : List Entry) → entryNumber p S es < length (withEntry p S es)
 entryNumber-below p S es = getElem?-some (withEntry p S es) (entryNumber p S es) (entryNumber-at p S es) .0
 
--- an entry that is there has a number below the length
-pub entryNumber-of : (p S : ℕ) {es : List Entry} → List·Memᴰ (entry p S) es → getElem? es (entryNumber p S es) ≡ some (entry p S)
-entryNumber-of p S {es} j = go (placed p S es)
-  where
-    go : Placed p S es → getElem? es (entryNumber p S es) ≡ some (entry p S)
-    go (new n w k) = absurd (false≢true (sym (n (entry p S) j) ∙ isEntry-in p S))
-    go (old w k) = k
-
 pub withEntry-out : (p S : ℕ) (es : List Entry) {e : Entry} → List·Memᴰ e (withEntry p S es) → List·Memᴰ e es ⊎ (e ≡ entry p S)
 withEntry-out p S es {e} j = go (placed p S es)
   where
-    go : Placed p S es → List·Memᴰ e es ⊎ (e ≡ entry p S)
+    go : EntryPlaced p S es → List·Memᴰ e es ⊎ (e ≡ entry p S)
     go (new n w k) = ⊎-map (λ i. i) List·Memᴰ·eq-of-singleton (List·Memᴰ·append-cases es (rw w at j))
     go (old w k) = inl (rw w at j)
 
@@ -109,6 +101,6 @@ once-append p S es n h i j li lj e = go (last-or-before es (entry p S) i noEntry
 pub withEntry-once : (p S : ℕ) (es : List Entry) → Once es → Once (withEntry p S es)
 withEntry-once p S es h = go (placed p S es)
   where
-    go : Placed p S es → Once (withEntry p S es)
+    go : EntryPlaced p S es → Once (withEntry p S es)
     go (new n w k) = rw w (once-append p S es n h)
     go (old w k) = rw w h

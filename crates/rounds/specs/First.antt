@@ -1,7 +1,7 @@
 -- First derivations: each move past the own ones is added by one round, is a move of an entry, and has a first derivation from the table
 -- before that round.
 -- Assumes nothing.
-use Prim.Native.Nat.{ℕ, zero, suc, _+_, _≤_, _<_}
+use Prim.Native.Nat.{ℕ, zero, suc, _≤_, _<_}
 use mathlib.Core.Bool.{false}
 use mathlib.Core.Path.{_≡_, sym}
 use mathlib.Core.Option.{some}
@@ -10,15 +10,14 @@ use native.Mathlib.Omega.{arith}
 use lib.ListN.{length}
 use lib.Dec.{ltb}
 use borrow.Author.Tests.{ltb-true, ltb-false}
-use Rattle.words.specs.Lists.Laws.{by-test}
+use Rattle.words.specs.Tests.{by-test}
 use Rattle.stacks.specs.System.{Rule}
 use Rattle.automata.specs.Automaton.{Automaton, moveAt}
-use Rattle.automata.specs.Derivation.{Result, resultOf, Derivation, derivations, firstDerivation}
+use Rattle.automata.specs.Derivation.{resultOf, Derivation, derivations, firstDerivation}
 use Rattle.automata.specs.Derivation.Laws.{firstDerivation-in}
 use Rattle.automata.specs.Saturation.{held, tableAfter}
-use Rattle.automata.specs.Saturation.Laws.{Stands, stands-result, stands-kept}
-use Rattle.automata.specs.Facts.{states}
-use Rattle.rounds.specs.Rounds.{round-new, after-extends, own-extends}
+use Rattle.automata.specs.Saturation.Laws.{StandsFor, stands-result, stands-kept}
+use Rattle.rounds.specs.Rounds.{round-new, after-extends}
 
 module _ (rules : List Rule) (own : Automaton) where
   -- the round after the first n rounds adds move i
@@ -37,7 +36,7 @@ module _ (rules : List Rule) (own : Automaton) where
   -- in every later table it stands for the result of a derivation from the table before its round, and that was not held there
   pub derived : {n i : ℕ} → AddedAfter n i → (N : ℕ) → n < N
       → (d : Derivation) × List·Memᴰ d (derivations (tableAfter rules own n) rules) × (held (tableAfter rules own n) (d .result) ≡ false)
-      × Stands (tableAfter rules own N) i (d .result)
+      × StandsFor (tableAfter rules own N) i (d .result)
   unfolding tableAfter
   derived {n} {i} a N h =
       let (d, j, f, s) = round-new rules (tableAfter rules own n) i (a .not-before) (a .then-there) in
@@ -48,20 +47,3 @@ module _ (rules : List Rule) (own : Automaton) where
   first-derivation {n} {i} a N h =
       let (d, j, f, s) = derived a N h in
       firstDerivation-in (tableAfter rules own n) rules (resultOf (tableAfter rules own N) (moveAt (tableAfter rules own N) i)) j (sym (stands-result (tableAfter rules own N) s))
-
-  -- a move past the own ones is a move of an entry
-  pub past-own-entry : (N i : ℕ) → length (own .moves) ≤ i → i < length (tableAfter rules own N .moves)
-      → (x : Result) × Stands (tableAfter rules own N) i x
-  past-own-entry N i l h =
-      let (n, k, a) = added-after N i l h in
-      let (d, j, f, s) = derived a N k in
-      (d .result, s)
-
-  pub past-own-state : (N i : ℕ) → length (own .moves) ≤ i → i < length (tableAfter rules own N .moves)
-      → (own .J ≤ moveAt (tableAfter rules own N) i .state) × (moveAt (tableAfter rules own N) i .state < states (tableAfter rules own N))
-  past-own-state N i l h =
-      let (x, s) = past-own-entry N i l h in
-      let e : tableAfter rules own N .J ≡ own .J = own-extends rules own N .same-J in
-      let a : moveAt (tableAfter rules own N) i .state ≡ tableAfter rules own N .J + s .move .entry = s .move .state-is in
-      let b : s .move .entry < length (tableAfter rules own N .entries) = s .move .entry-is .below in
-      (omega arith, omega arith)

@@ -15,7 +15,7 @@ use Rattle.rounds.specs.Contains.{Matched, Same, SameIn, SameMove}
 module _ (A C : Automaton) where
   pub record SameJoins (j k : Joins) : Type 0 where
     pub order-same : k .order ≡ j .order
-    pub note-same : Matched (SameIn A C (j .order)) (j .B) (k .B)
+    pub annotation-same : Matched (SameIn A C (j .order)) (j .B) (k .B)
     pub rest-same : Matched (Same A C) (j .R) (k .R)
 
   -- each move of ms is the same as one of ns, and the other way
@@ -24,7 +24,7 @@ module _ (A C : Automaton) where
     pub back : (n : Move) → List·Memᴰ n ns → (m : Move) × List·Memᴰ m ms × SameMove A C m n
 
   pub joinsOf-same : {m n : Move} → SameMove A C m n → SameJoins (joinsOf m) (joinsOf n)
-  joinsOf-same s = record { order-same = s .order-same; note-same = s .note-same; rest-same = s .rest-same }
+  joinsOf-same s = record { order-same = s .order-same; annotation-same = s .annotation-same; rest-same = s .rest-same }
 
   -- sets of order 0 are empty, so they may be taken to have any order
   pub sameIn-fits : (o k n m : ℕ) → Fits o k → SameIn A C k n m → SameIn A C o n m
@@ -38,14 +38,14 @@ module _ (A C : Automaton) where
   into-forth : {x y k k′ : Joins} → Into x k → Into y k′ → SameJoins x y
       → All (x .B) (λ n. (m : ℕ) × Has (k′ .B) m × SameIn A C (k .order) n m) × All (x .R) (λ r. (t : ℕ) × Has (k′ .R) t × Same A C r t)
   into-forth {x} {y} {k} {k′} i i′ s = (
-    λ n h. let (m, g, z) = s .note-same .forth n h in (m, part-has (y .B) (k′ .B) (i′ .B-part) m g, sameIn-fits (k .order) (x .order) n m (i .order-fits) z),
+    λ n h. let (m, g, z) = s .annotation-same .forth n h in (m, part-has (y .B) (k′ .B) (i′ .B-part) m g, sameIn-fits (k .order) (x .order) n m (i .order-fits) z),
     λ r h. let (t, g, z) = s .rest-same .forth r h in (t, part-has (y .R) (k′ .R) (i′ .R-part) t g, z),
   )
 
   into-back : {x y k : Joins} → Into x k → SameJoins x y
       → All (y .B) (λ m. (n : ℕ) × Has (k .B) n × SameIn A C (k .order) n m) × All (y .R) (λ t. (r : ℕ) × Has (k .R) r × Same A C r t)
   into-back {x} {y} {k} i s = (
-    λ m h. let (n, g, z) = s .note-same .back m h in (n, part-has (x .B) (k .B) (i .B-part) n g, sameIn-fits (k .order) (x .order) n m (i .order-fits) z),
+    λ m h. let (n, g, z) = s .annotation-same .back m h in (n, part-has (x .B) (k .B) (i .B-part) n g, sameIn-fits (k .order) (x .order) n m (i .order-fits) z),
     λ t h. let (r, g, z) = s .rest-same .back t h in (r, part-has (x .R) (k .R) (i .R-part) r g, z),
   )
 
@@ -77,7 +77,7 @@ module _ (A C : Automaton) where
     joined-same f =
         record {
           order-same = joined-order f;
-          note-same = record { forth = joined-forth .0; back = joined-back .0 };
+          annotation-same = record { forth = joined-forth .0; back = joined-back .0 };
           rest-same = record { forth = joined-forth .1; back = joined-back .1 };
         }
 

@@ -12,12 +12,12 @@ use Rattle.stacks.specs.Stack.{Operation, rewrite, push1, push2, copy, pop1, po
 use Rattle.stacks.specs.System.{Rule}
 use Rattle.automata.specs.Automaton.{Automaton, Move}
 use Rattle.automata.specs.Derivation.{Result, Derivation, derivations, Joins, joinAll}
-use Rattle.automata.specs.Derivation.Joining.{NoteFacts, note-none, note-single, joinAll-facts}
+use Rattle.automata.specs.Derivation.Joining.{AnnotationFacts, annotation-none, annotation-single, joinAll-facts}
 use Rattle.automata.specs.Derivation.Laws.{Concludes, Says, Derives, derivations-out}
 use Rattle.automata.specs.Saturation.{withEntry, entryNumber, add, addAll, extend, results, round, tableAfter}
 use Rattle.automata.specs.Saturation.Laws.{results-out}
 use Rattle.automata.specs.Facts.{RuleFacts, MoveFacts, TableFacts}
-use Rattle.automata.specs.Facts.Laws.{moveAt-note}
+use Rattle.automata.specs.Facts.Laws.{moveAt-annotation}
 use Rattle.rounds.specs.Added.{newMove, added, added-out}
 use Rattle.rounds.specs.Entries.{withEntry-out, withEntry-once, withEntry-grows, entryNumber-below}
 
@@ -26,7 +26,7 @@ use Rattle.rounds.specs.Entries.{withEntry-out, withEntry-once, withEntr
 -- of a result: its control exists, and B is empty exactly at order 0
 pub record ResultFacts (P : ℕ) (x : Result) : Type 0 where
   pub control-exists : x .control < P
-  pub note : NoteFacts (record { order = x .order; B = x .B; R = x .R })
+  pub annotation : AnnotationFacts (record { order = x .order; B = x .B; R = x .R })
 
 pub moveFacts-more : {n k : ℕ} {m : Move} → n ≤ k → MoveFacts n m → MoveFacts k m
 moveFacts-more {n} {k} {m} l f =
@@ -38,22 +38,22 @@ moveFacts-more {n} {k} {m} l f =
     }
 
 module _ {P : ℕ} {A : Automaton} (F : TableFacts P A) where
-  concluded-facts : {ρ : Rule} {premise es ms : List ℕ} {S : ℕ} {j : Joins} {d : Derivation} → RuleFacts P ρ → Concludes ρ premise es ms S j d → NoteFacts j
+  concluded-facts : {ρ : Rule} {premise es ms : List ℕ} {S : ℕ} {j : Joins} {d : Derivation} → RuleFacts P ρ → Concludes ρ premise es ms S j d → AnnotationFacts j
       → ResultFacts P (d .result)
-  concluded-facts r c f = record { control-exists = rw (c .control-is) (r .control-exists); note = rw (c .order-is, c .B-is, c .R-is) f }
+  concluded-facts r c f = record { control-exists = rw (c .control-is) (r .control-exists); annotation = rw (c .order-is, c .B-is, c .R-is) f }
 
-  joined-facts : {j k : Joins} (ms : List ℕ) → NoteFacts j → joinAll A j ms ≡ some k → NoteFacts k
-  joined-facts {j} ms f e = joinAll-facts A j ms e f (λ i l. moveAt-note F i)
+  joined-facts : {j k : Joins} (ms : List ℕ) → AnnotationFacts j → joinAll A j ms ≡ some k → AnnotationFacts k
+  joined-facts {j} ms f e = joinAll-facts A j ms e f (λ i l. moveAt-annotation F i)
 
   pub says-facts : (ρ : Rule) (op : Operation) (d : Derivation) → RuleFacts P ρ → Says A ρ op d → ResultFacts P (d .result)
-  says-facts ρ (rewrite b) d r h = concluded-facts r (h .concluded) (moveAt-note F (h .move))
-  says-facts ρ (push1 b) d r h = concluded-facts r (h .concluded) (joined-facts (d .moves) (note-none _) (h .joined))
-  says-facts ρ (push2 b) d r h = concluded-facts r (h .concluded) (joined-facts (d .moves) (note-none 0) (h .joined))
-  says-facts ρ copy d r h = concluded-facts r (h .concluded) (joined-facts (d .moves) (moveAt-note F (h .move)) (h .joined))
-  says-facts ρ pop1 d r h = concluded-facts r (h .concluded) (note-none _)
-  says-facts ρ pop2 d r h = concluded-facts r h (note-none 0)
-  says-facts ρ collapse1 d r h = concluded-facts r (h .concluded) (note-single 1 _ (omega arith) (omega arith))
-  says-facts ρ collapse2 d r h = concluded-facts r h (note-single 2 _ (omega arith) (omega arith))
+  says-facts ρ (rewrite b) d r h = concluded-facts r (h .concluded) (moveAt-annotation F (h .move))
+  says-facts ρ (push1 b) d r h = concluded-facts r (h .concluded) (joined-facts (d .moves) (annotation-none _) (h .joined))
+  says-facts ρ (push2 b) d r h = concluded-facts r (h .concluded) (joined-facts (d .moves) (annotation-none 0) (h .joined))
+  says-facts ρ copy d r h = concluded-facts r (h .concluded) (joined-facts (d .moves) (moveAt-annotation F (h .move)) (h .joined))
+  says-facts ρ pop1 d r h = concluded-facts r (h .concluded) (annotation-none _)
+  says-facts ρ pop2 d r h = concluded-facts r h (annotation-none 0)
+  says-facts ρ collapse1 d r h = concluded-facts r (h .concluded) (annotation-single 1 _ (omega arith) (omega arith))
+  says-facts ρ collapse2 d r h = concluded-facts r h (annotation-single 2 _ (omega arith) (omega arith))
 
   pub derivation-facts : (rules : List Rule) → ((ρ : Rule) → List·Memᴰ ρ rules → RuleFacts P ρ) → {d : Derivation} → List·Memᴰ d (derivations A rules)
       → ResultFacts P (d .result)
@@ -63,7 +63,7 @@ module _ {P : ℕ} {A : Automaton} (F : TableFacts P A) where
 
   -- ---- the table
 
-  newMove-facts : (x : Result) → NoteFacts (record { order = x .order; B = x .B; R = x .R }) → MoveFacts (A .J + length (withEntry (x .control) (x .S) (A .entries))) (newMove A x)
+  newMove-facts : (x : Result) → AnnotationFacts (record { order = x .order; B = x .B; R = x .R }) → MoveFacts (A .J + length (withEntry (x .control) (x .S) (A .entries))) (newMove A x)
   unfolding newMove
   newMove-facts x f =
       let l : entryNumber (x .control) (x .S) (A .entries) < length (withEntry (x .control) (x .S) (A .entries)) = entryNumber-below (x .control) (x .S) (A .entries) in
@@ -81,7 +81,7 @@ module _ {P : ℕ} {A : Automaton} (F : TableFacts P A) where
         entry-once = withEntry-once (x .control) (x .S) (A .entries) (F .entry-once);
         move-facts = λ m j. ⊎-elim
             (λ i. moveFacts-more (states-more (withEntry-grows (x .control) (x .S) (A .entries))) (F .move-facts m i))
-            (λ i. subst (MoveFacts (A .J + length (withEntry (x .control) (x .S) (A .entries)))) (sym (List·Memᴰ·eq-of-singleton i)) (newMove-facts x (f .note)))
+            (λ i. subst (MoveFacts (A .J + length (withEntry (x .control) (x .S) (A .entries)))) (sym (List·Memᴰ·eq-of-singleton i)) (newMove-facts x (f .annotation)))
             (List·Memᴰ·append-cases (A .moves) j);
       }
     where

@@ -13,7 +13,7 @@ use Rattle.automata.specs.Automaton.{Automaton, Move, moveAt, entryAt}
 use Rattle.automata.specs.Automaton.Laws.{entry, moveAt-in, entryAt-some, entryMove-at}
 use Rattle.automata.specs.Derivation.{Result, Derivation, derivations}
 use Rattle.automata.specs.Saturation.{held, add, addAll, extend, results, round, tableAfter, Size, Saturated}
-use Rattle.automata.specs.Saturation.Laws.{Stands, held-stands, results-out}
+use Rattle.automata.specs.Saturation.Laws.{StandsFor, held-stands, results-out}
 use Rattle.automata.specs.Facts.{RuleFacts, TableFacts, OwnFacts, Extends, Closed, Once}
 use Rattle.automata.specs.Facts.Laws.{extends-refl}
 use Rattle.rounds.specs.Entries.{withEntry-out}
@@ -29,7 +29,7 @@ pub record LikeHeld (A D : Automaton) (x : Result) : Type 0 where
   pub result : Result
   pub same : SameResult A D x result
   pub number : ℕ
-  pub stands : Stands D number result
+  pub stands : StandsFor D number result
 
 pub sameResult-kept : {A A′ D D′ : Automaton} {x y : Result} → Extends A A′ → Extends D D′ → SameResult A D x y → SameResult A′ D′ x y
 sameResult-kept {x = x} a d s =
@@ -38,7 +38,7 @@ sameResult-kept {x = x} a d s =
       set-same = s .set-same;
       symbol-same = s .symbol-same;
       order-same = s .order-same;
-      note-same = matched-map (sameIn-kept a d (x .order)) (s .note-same);
+      annotation-same = matched-map (sameIn-kept a d (x .order)) (s .annotation-same);
       rest-same = matched-map (λ r t z. same-kept a d z) (s .rest-same);
     }
 
@@ -60,7 +60,7 @@ module _ {A D : Automaton} (c : Contains A D) (x : Result) (l : LikeHeld A D x) 
         state-same = Same.entry (add-entry A x) like-entry;
         symbol-same = l .stands .move .symbol-is ∙ l .same .symbol-same;
         order-same = l .stands .order-is ∙ l .same .order-same;
-        note-same = rw (l .stands .B-is) (matched-map (sameIn-kept (add-extends A x) (extends-refl D) (x .order)) (l .same .note-same));
+        annotation-same = rw (l .stands .B-is) (matched-map (sameIn-kept (add-extends A x) (extends-refl D) (x .order)) (l .same .annotation-same));
         rest-same = rw (l .stands .R-is) (matched-map (λ r t z. same-kept (add-extends A x) (extends-refl D) z) (l .same .rest-same));
       }
 

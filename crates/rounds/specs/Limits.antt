@@ -91,18 +91,18 @@ module _ (rules : List Rule) (lent : Size) where
       pub limits-kept : within lent (T .table) ≡ true
 
     -- a saturated table, or a table that passes a limit
-    pub data Outcome : Option Saturated → Type 0 where
-      saturated : {T : Saturated} → IsSaturated T → Outcome (some T)
-      exceeds : (n : ℕ) → within lent (tableAfter rules own n) ≡ false → Outcome none
+    pub data SaturatesTo : Option Saturated → Type 0 where
+      saturated : {T : Saturated} → IsSaturated T → SaturatesTo (some T)
+      exceeds : (n : ℕ) → within lent (tableAfter rules own n) ≡ false → SaturatesTo none
 
     -- Each round that goes on adds a move, so the bound is used up only past 1,024 moves.
-    pub outcome : (k n : ℕ) → 1025 ≤ k + length (tableAfter rules own n .moves) → ((m : ℕ) → m < n → Adds m)
-        → Outcome (saturateFrom rules lent k (sizesBefore rules own n) (tableAfter rules own n))
+    pub saturates-from : (k n : ℕ) → 1025 ≤ k + length (tableAfter rules own n .moves) → ((m : ℕ) → m < n → Adds m)
+        → SaturatesTo (saturateFrom rules lent k (sizesBefore rules own n) (tableAfter rules own n))
     unfolding saturateFrom sizesBefore tableAfter after-rounds
-    outcome zero n l before = by-test (within lent (tableAfter rules own n))
+    saturates-from zero n l before = by-test (within lent (tableAfter rules own n))
         (λ t. let f : length (tableAfter rules own n .moves) ≤ min (lent .moves) 1024 = within-keeps lent (tableAfter rules own n) t .moves-fit in absurd (omega arith))
         (λ t. exceeds n t)
-    outcome (suc k) n l before =
+    saturates-from (suc k) n l before =
         let A : Automaton = tableAfter rules own n in
         let sizes : List Size = sizesBefore rules own n in
         by-test (within lent A)
@@ -114,26 +114,26 @@ module _ (rules : List Rule) (lent : Size) where
         (λ u.
         let e : length (round rules A .moves) ≡ length (A .moves) → ⊥ = eqb-false (length (round rules A .moves)) (length (A .moves)) u in
         let g : length (A .moves) < length (round rules A .moves) = round-adds rules A e in
-        rw (saturateFrom-goes-on k sizes A t e) (outcome k (suc n) (omega arith) (below-suc Adds n before g))))
+        rw (saturateFrom-goes-on k sizes A t e) (saturates-from k (suc n) (omega arith) (below-suc Adds n before g))))
         (λ t. rw (saturateFrom-exceeds k sizes A t) (exceeds n t))
 
-    pub saturate-outcome : Outcome (saturate rules lent own)
+    pub saturate-to : SaturatesTo (saturate rules lent own)
     unfolding saturate sizesBefore tableAfter
-    saturate-outcome = outcome 1025 0 (omega arith) (λ m h. absurd (omega arith))
+    saturate-to = saturates-from 1025 0 (omega arith) (λ m h. absurd (omega arith))
 
     -- ---- a saturated table, exactly where all rounds keep the limits
 
     pub saturate-some : {T : Saturated} → saturate rules lent own ≡ some T → IsSaturated T
-    saturate-some {T} e = go (saturate rules lent own) saturate-outcome e
+    saturate-some {T} e = go (saturate rules lent own) saturate-to e
       where
-        go : (o : Option Saturated) → Outcome o → o ≡ some T → IsSaturated T
+        go : (o : Option Saturated) → SaturatesTo o → o ≡ some T → IsSaturated T
         go (some U) (saturated s) z = subst IsSaturated (Option·some-injective U T z) s
         go none (exceeds n h) z = absurd (Option·none-ne-some T z)
 
     pub saturate-none : saturate rules lent own ≡ none → (n : ℕ) × (within lent (tableAfter rules own n) ≡ false)
-    saturate-none e = go (saturate rules lent own) saturate-outcome e
+    saturate-none e = go (saturate rules lent own) saturate-to e
       where
-        go : (o : Option Saturated) → Outcome o → o ≡ none → (n : ℕ) × (within lent (tableAfter rules own n) ≡ false)
+        go : (o : Option Saturated) → SaturatesTo o → o ≡ none → (n : ℕ) × (within lent (tableAfter rules own n) ≡ false)
         go (some U) (saturated s) z = absurd (Option·some-ne-none U z)
         go none (exceeds n h) z = (n, h)
 
@@ -148,15 +148,15 @@ module _ (rules : List Rule) (lent : Size) where
         (λ t. ap (within lent) (after-closed rules own m n (lt-le (leb-false n m t)) (subst (Closed rules) e (s .closed))) ∙ w)
 
     pub exceeds-none : (n : ℕ) → within lent (tableAfter rules own n) ≡ false → saturate rules lent own ≡ none
-    exceeds-none n h = go (saturate rules lent own) saturate-outcome
+    exceeds-none n h = go (saturate rules lent own) saturate-to
       where
-        go : (o : Option Saturated) → Outcome o → o ≡ none
+        go : (o : Option Saturated) → SaturatesTo o → o ≡ none
         go (some U) (saturated s) = absurd (false≢true (sym h ∙ all-within s n))
         go none (exceeds m k) = refl
 
     pub within-some : ((n : ℕ) → within lent (tableAfter rules own n) ≡ true) → (T : Saturated) × (saturate rules lent own ≡ some T)
-    within-some h = go (saturate rules lent own) saturate-outcome
+    within-some h = go (saturate rules lent own) saturate-to
       where
-        go : (o : Option Saturated) → Outcome o → (T : Saturated) × (o ≡ some T)
+        go : (o : Option Saturated) → SaturatesTo o → (T : Saturated) × (o ≡ some T)
         go (some U) (saturated s) = (U, refl)
         go none (exceeds n k) = absurd (false≢true (sym k ∙ h n))

@@ -23,7 +23,7 @@ pub record SameResult (A C : Automaton) (x y : Result) : Type 0 where
   pub set-same : y .S ≡ x .S
   pub symbol-same : y .symbol ≡ x .symbol
   pub order-same : y .order ≡ x .order
-  pub note-same : Matched (SameIn A C (x .order)) (x .B) (y .B)
+  pub annotation-same : Matched (SameIn A C (x .order)) (x .B) (y .B)
   pub rest-same : Matched (Same A C) (x .R) (y .R)
 
 module _ {A C : Automaton} (c : Contains A C) {P : ℕ} (F : TableFacts P A) (onceC : Once (C .entries)) (n : ℕ) (ρ : Rule) where
@@ -42,7 +42,7 @@ module _ {A C : Automaton} (c : Contains A C) {P : ℕ} (F : TableFacts P A) (on
         set-same = e ∙ sym (h .set-is);
         symbol-same = sym (h .symbol-is);
         order-same = s .order-same ∙ sym (h .order-is);
-        note-same = rw (h .order-is, h .B-is) (s .note-same);
+        annotation-same = rw (h .order-is, h .B-is) (s .annotation-same);
         rest-same = rw (h .R-is) (s .rest-same);
       }
 
@@ -129,24 +129,24 @@ module _ {A C : Automaton} (c : Contains A C) {P : ℕ} (F : TableFacts P A) (on
   -- ---- each operation
 
   none-same : (r s : ℕ) → Matched (Same A C) r s → SameJoins A C (record { order = 0; B = 0; R = r }) (record { order = 0; B = 0; R = s })
-  none-same r s m = record { order-same = refl; note-same = matched-empty (SameIn A C 0); rest-same = m }
+  none-same r s m = record { order-same = refl; annotation-same = matched-empty (SameIn A C 0); rest-same = m }
 
   -- an annotation set that is empty or of order o
-  note-at : (o : ℕ) {m m′ : Move} → SameMove A C m m′ → Fits o (m .order) → Matched (SameIn A C o) (m .B) (m′ .B)
-  note-at o {m} t f = matched-map (λ x y z. sameIn-fits A C o (m .order) x y f z) (t .note-same)
+  annotation-at : (o : ℕ) {m m′ : Move} → SameMove A C m m′ → Fits o (m .order) → Matched (SameIn A C o) (m .B) (m′ .B)
+  annotation-at o {m} t f = matched-map (λ x y z. sameIn-fits A C o (m .order) x y f z) (t .annotation-same)
 
   says-same : (op : Operation) (d : Derivation) → Says A ρ op d → Like (Says C ρ op) (d .result)
   says-same (rewrite b) d h = rewrite-same b h
-  says-same (push1 b) d h = push-same 1 b _ _ (λ m m′ t f. none-same (m .B) (m′ .B) (note-at 1 t f)) (λ S m m′ t f. refl) h
+  says-same (push1 b) d h = push-same 1 b _ _ (λ m m′ t f. none-same (m .B) (m′ .B) (annotation-at 1 t f)) (λ S m m′ t f. refl) h
   says-same (push2 b) d h =
-      push-same 2 b _ _ (λ m m′ t f. none-same 0 0 (matched-empty (Same A C))) (λ S m m′ t f. ap (join S) (sym (matched-equal (note-at 2 t f)))) h
+      push-same 2 b _ _ (λ m m′ t f. none-same 0 0 (matched-empty (Same A C))) (λ S m m′ t f. ap (join S) (sym (matched-equal (annotation-at 2 t f)))) h
   says-same copy d h = copy-same h
   says-same pop1 d h = entry-result _ (λ r s t. none-same (single r) (single s) (matched-single (Same A C) r s t)) h
   says-same pop2 d h = plain-same _ _ (none-same 0 0 (matched-empty (Same A C))) h
   says-same collapse1 d h =
-      entry-result _ (λ r s t. record { order-same = refl; note-same = matched-single (Same A C) r s t; rest-same = matched-empty (Same A C) }) h
+      entry-result _ (λ r s t. record { order-same = refl; annotation-same = matched-single (Same A C) r s t; rest-same = matched-empty (Same A C) }) h
   says-same collapse2 d h =
-      plain-same _ _ (record { order-same = refl; note-same = equal-matched refl; rest-same = matched-empty (Same A C) }) h
+      plain-same _ _ (record { order-same = refl; annotation-same = equal-matched refl; rest-same = matched-empty (Same A C) }) h
 
 -- ---- the law
 

@@ -35,14 +35,14 @@ module _ {A C : Automaton} (c : Contains A C) where
         (n, record { below = l; state-is = same-function onceC x z; symbol-is = t .symbol-same ∙ h .symbol-is }, t)
 
     -- move n of C is a move of s on a, and the like of one of these moves of A
-    record Like (a : ℕ) (ms : List ℕ) (s n : ℕ) : Type 0 where
+    record LikeReading (a : ℕ) (ms : List ℕ) (s n : ℕ) : Type 0 where
       move-of : MoveOf C a s n
       number : ℕ
       there : List·Memᴰ number ms
       same : SameMove A C (moveAt A number) (moveAt C n)
 
     -- Both ways: a state of R′ is the like of one state of R, which has one move in the reading.
-    like-moves : {a R R′ : ℕ} {ms ns : List ℕ} → Matched (Same A C) R R′ → Paired (MoveOf A a) (members R) ms → Paired (Like a ms) (members R′) ns
+    like-moves : {a R R′ : ℕ} {ms ns : List ℕ} → Matched (Same A C) R R′ → Paired (MoveOf A a) (members R) ms → Paired (LikeReading a ms) (members R′) ns
         → SameMoves A C (map (λ i. moveAt A i) ms) (map (λ i. moveAt C i) ns)
     like-moves {a} {R} {R′} {ms} {ns} z ps qs = record { forth = forth; back = back }
       where
@@ -67,14 +67,14 @@ module _ {A C : Automaton} (c : Contains A C) where
         → (ns : List ℕ) × Paired (MoveOf C a) (members R′) ns × SameMoves A C (map (λ i. moveAt A i) ms) (map (λ i. moveAt C i) ns)
     reading-same {a} {R} {R′} {ms} z ps = go (paired-of (members R′) like)
       where
-        like : (s : ℕ) → List·Memᴰ s (members R′) → (n : ℕ) × Like a ms s n
+        like : (s : ℕ) → List·Memᴰ s (members R′) → (n : ℕ) × LikeReading a ms s n
         like s j =
             let (r, h, t) = z .back s (in-has R′ j) in
             let (i, k, x) = paired-number ps (has-in h) in
             let (n, y, m) = moveOf-same t x in
             (n, record { move-of = y; number = i; there = k; same = m })
 
-        go : (ns : List ℕ) × Paired (Like a ms) (members R′) ns
+        go : (ns : List ℕ) × Paired (LikeReading a ms) (members R′) ns
             → (ns : List ℕ) × Paired (MoveOf C a) (members R′) ns × SameMoves A C (map (λ i. moveAt A i) ms) (map (λ i. moveAt C i) ns)
         go (ns, qs) = (ns, paired-map (λ s n y. y .move-of) qs, like-moves z ps qs)
 

@@ -14,7 +14,7 @@ use Rattle.automata.specs.Derivation.{Result, Derivation, derivations}
 use Rattle.automata.specs.Saturation.{held, results, round, tableAfter}
 use Rattle.automata.specs.Facts.{Extends, Closed}
 use Rattle.automata.specs.Facts.Laws.{extends-refl, extends-trans, moves-grow}
-use Rattle.automata.specs.Saturation.Laws.{Stands, results-in, results-out}
+use Rattle.automata.specs.Saturation.Laws.{StandsFor, results-in, results-out}
 use Rattle.rounds.specs.Added.{extend-extends, extend-holds, extend-nothing, extend-held, extend-new}
 
 module _ (rules : List Rule) where
@@ -49,18 +49,14 @@ module _ (rules : List Rule) where
 
   -- a move that a round adds is the result of a derivation from the table before
   pub round-new : (A : Automaton) (i : ℕ) → length (A .moves) ≤ i → i < length (round rules A .moves)
-      → (d : Derivation) × List·Memᴰ d (derivations A rules) × (held A (d .result) ≡ false) × Stands (round rules A) i (d .result)
+      → (d : Derivation) × List·Memᴰ d (derivations A rules) × (held A (d .result) ≡ false) × StandsFor (round rules A) i (d .result)
   unfolding round
   round-new A i l h =
       let (x, j, n, s) = extend-new A (results rules A) i l h in
       let (d, k, e) = results-out rules A j in
-      (d, k, ap (held A) e ∙ n, subst (λ (y : Result). Stands (round rules A) i y) (sym e) s)
+      (d, k, ap (held A) e ∙ n, subst (λ (y : Result). StandsFor (round rules A) i y) (sym e) s)
 
   -- ---- the table after n rounds
-
-  pub after-zero : (own : Automaton) → tableAfter rules own 0 ≡ own
-  unfolding tableAfter
-  after-zero own = refl
 
   pub after-suc : (own : Automaton) (n : ℕ) → tableAfter rules own (suc n) ≡ round rules (tableAfter rules own n)
   unfolding tableAfter

@@ -8,7 +8,8 @@ use mathlib.Core.List.{List}
 use lib.ListN.{length}
 use Rattle.automata.specs.Saturation.{saturate}
 use Rattle.files.specs.Case.{ownOf, rulesOf}
-use Rattle.services.specs.Memory.{zeros, lent}
+use Rattle.services.specs.Memory.{lent}
+use Rattle.words.specs.Lists.{zeros}
 use Rattle.tables.specs.declared.Table.{Table}
 use Rattle.tables.specs.Rows.{rowsIn}
 use Rattle.tables.specs.Records.{entryRow, moveRow}

@@ -2,11 +2,10 @@
 ghost use mathlib.Core.Path.{_≡_};
 ghost use mathlib.Core.Bool.{false};
 ghost use mathlib.Core.Logic.{_↔_};
-ghost use Prim.Native.Nat.{_≤_};
 ghost use lib.ListN.{length};
 ghost use Rattle.automata.specs.Saturation.{within};
 ghost use Rattle.files.specs.Case.{ownOf, caseRefusal};
-ghost use Rattle.services.specs.Memory.{zeros, lent};
+ghost use Rattle.services.specs.Memory.{lent};
 ghost use Rattle.services.specs.Saturate.{saturateService};
 ghost use Rattle.demands.specs.Demand1.{SaturateStates};
 ghost use Rattle.demands.specs.Demand2.{Exceeds};
@@ -54,7 +53,7 @@ fn nothing() -> Saturated
     ensures { λ r. ⌜ (r .fits ≡ false) × (r .sizes ≡ 0) ⌝ }
 {
     let table = tables::Table {
-        states: 0,
+        inner1: 0,
         final1: 0,
         final2: 0,
         edges: 0,

@@ -28,11 +28,11 @@ pub record Entered (t : List ℕ) (n most : ℕ) (e : Entry) (i : ℕ) (t′ : L
 pub record Growing (z : Table) (most : ℕ) (entries : List ℕ) : Type 0 where
   pub entries-few : z .entries ≤ most
   pub entries-lent : most * 2 ≤ length entries
-  pub states-few : z .states + most ≤ 64
+  pub states-few : z .inner1 + most ≤ 64
 
 -- The tables of z′ are those of z with the results xs added.
 pub record Grows (z : Table) (entries moves : List ℕ) (xs : List Result) (z′ : Table) (entries′ moves′ : List ℕ) : Type 0 where
-  pub same-states : z′ .states ≡ z .states
+  pub same-states : z′ .states ≡ z .inner1
   pub same-edges : z′ .edges ≡ z .edges
   pub table-is : (inner : List ℕ) → automatonOf z′ inner entries′ moves′ ≡ addAll (automatonOf z inner entries moves) xs
   pub moves-more : z′ .moves ≡ z .moves + length xs

@@ -10,7 +10,7 @@ use native.Mathlib.Omega.{arith}
 use lib.ListN.{length}
 use lib.Dec.{leb}
 use borrow.Author.Tests.{leb-true, leb-false}
-use Rattle.words.specs.Lists.Laws.{by-test}
+use Rattle.words.specs.Tests.{by-test}
 use Rattle.stacks.specs.System.{Rule}
 use Rattle.automata.specs.Automaton.{Automaton}
 use Rattle.automata.specs.Derivation.{Result}
@@ -37,7 +37,7 @@ pub standing-entries : (z : Table) (mostMoves mostEntries : ℕ) (inner entries 
 standing-entries z mostMoves mostEntries inner entries moves s =
     let a : z .entries ≤ mostEntries = s .growing .entries-few in
     let b : mostEntries * 2 ≤ length entries = s .growing .entries-lent in
-    let c : z .states + mostEntries ≤ 64 = s .growing .states-few in
+    let c : z .inner1 + mostEntries ≤ 64 = s .growing .states-few in
     record { entries-lent = omega arith; states-few = omega arith }
 
 pub standing-moves : (z : Table) (mostMoves mostEntries : ℕ) (inner entries moves : List ℕ) → Standing z mostMoves mostEntries inner entries moves → MovesStand z moves
@@ -120,13 +120,13 @@ module _ (rules : List Rule) (inner : List ℕ) where
         grown-standing fits z′ entries′ moves′ b e m =
             let g : Grows z entries moves (newResults rules (automatonOf z inner entries moves)) z′ entries′ moves′ = b .grows e in
             let more : z′ .moves ≡ z .moves + length (newResults rules (automatonOf z inner entries moves)) = g .moves-more in
-            let states : z′ .states ≡ z .states = g .same-states in
+            let states : z′ .states ≡ z .inner1 = g .same-states in
             let edges : z′ .edges ≡ z .edges = g .same-edges in
             let el : length entries′ ≡ length entries = g .entries-long in
             let ml : length moves′ ≡ length moves = g .moves-long in
             let lent : mostMoves * 5 ≤ length moves = s .moves-lent in
             let first : mostEntries * 2 ≤ length entries = s .growing .entries-lent in
-            let few : z .states + mostEntries ≤ 64 = s .growing .states-few in
+            let few : z .inner1 + mostEntries ≤ 64 = s .growing .states-few in
             let room : z .edges * 3 ≤ length inner = s .edges .edges-lent in
             record {
               edges = record { edges-lent = omega arith; firsts-small = λ i h. s .edges .firsts-small i (omega arith) };

@@ -85,18 +85,18 @@ module _ (rules : List Rule) (inner : List ℕ) (z : Table) (entries moves : Lis
   pub record Ends (fits : Bool) (z′ : Table) (k : ℕ) (entries′ moves′ sizes : List ℕ) : Type 0 where
     pub saturated : saturate rules (lent (length moves) (length entries)) (automatonOf z inner entries moves)
         ≡ ended fits (automatonOf z′ inner entries′ moves′) (rowsIn sizeRow k sizes)
-    pub standing : fits ≡ true → Standing z′ (mostMoves (length moves)) (mostEntries (length entries) (z .states)) inner entries′ moves′
+    pub standing : fits ≡ true → Standing z′ (mostMoves (length moves)) (mostEntries (length entries) (z .inner1)) inner entries′ moves′
     pub entries-filled : fits ≡ true → Filled entryRow (z .entries) entries → Filled entryRow (z′ .entries) entries′
     pub moves-filled : fits ≡ true → Filled moveRow (z .moves) moves → Filled moveRow (z′ .moves) moves′
     pub few : k ≤ 1025
 
   -- After k rounds: what is left to do from here gives the whole.
-  pub record Runs (z′ : Table) (k : ℕ) (entries′ moves′ sizes : List ℕ) : Type 0 where
-    pub standing : Standing z′ (mostMoves (length moves)) (mostEntries (length entries) (z .states)) inner entries′ moves′
+  pub record RunsRounds (z′ : Table) (k : ℕ) (entries′ moves′ sizes : List ℕ) : Type 0 where
+    pub standing : Standing z′ (mostMoves (length moves)) (mostEntries (length entries) (z .inner1)) inner entries′ moves′
     pub left : saturate rules (lent (length moves) (length entries)) (automatonOf z inner entries moves)
         ≡ saturateFrom rules (lent (length moves) (length entries)) (1025 - k) (rowsIn sizeRow k sizes) (automatonOf z′ inner entries′ moves′)
     pub count : k ≤ z′ .moves
-    pub same-states : z′ .states ≡ z .states
+    pub same-states : z′ .states ≡ z .inner1
     pub entries-filled : Filled entryRow (z .entries) entries → Filled entryRow (z′ .entries) entries′
     pub moves-filled : Filled moveRow (z .moves) moves → Filled moveRow (z′ .moves) moves′
     pub entries-long : length entries′ ≡ length entries

@@ -39,7 +39,7 @@ fn add_result(
     entries: &mut [u64],
     moves: &mut [u64],
     most: usize,
-    x: tables::Outcome,
+    x: tables::Result,
 ) -> Grown
     requires { ⌜ Growing z most (now entries) × (z .moves * 5 + 5 ≤ length (now moves)) ⌝ }
     ensures { λ g. ⌜ Added z most (now (entries .entry)) (now (moves .entry)) (asResult x ∷ []) (g .fits) (g .table) (now (entries .exit)) (now (moves .exit)) ⌝ }
@@ -56,7 +56,7 @@ fn add_result(
         };
     }
     let m = tables::Move {
-        state: z.states + i as u64,
+        state: z.inner1 + i as u64,
         symbol: x.symbol,
         order: x.order,
         b: x.b,
@@ -64,7 +64,7 @@ fn add_result(
     };
     tables::put_move(moves, z.moves, m);
     let table = tables::Table {
-        states: z.states,
+        inner1: z.inner1,
         final1: z.final1,
         final2: z.final2,
         edges: z.edges,
@@ -106,7 +106,7 @@ pub fn add_results(
 }
 
 // The most moves and entries that there may be.
-pub struct Limits {
+pub struct Capacity {
     pub moves: usize,
     pub entries: usize,
 }
@@ -120,7 +120,7 @@ pub fn add_round(
     body: &[u8],
     count: usize,
     pending: &mut [u64],
-    most: Limits,
+    most: Capacity,
 ) -> Grown
     requires { ⌜ Standing z (most .moves) (most .entries) (now inner) (now entries) (now moves) × RulesStand count (now body) × (most .moves * 6 ≤ length (now pending)) ⌝ }
     ensures { λ g. ⌜ Rounded (rulesIn count (now (body .entry))) (now (inner .entry)) z (most .moves) (most .entries) (now (entries .entry)) (now (moves .entry)) (g .fits) (g .table) (now (entries .exit)) (now (moves .exit)) ⌝ }
@@ -138,11 +138,11 @@ pub fn add_round(
 
 // The limits of tables of so many words, where there are so many inner order-1 states: only whole records count, there are at most 1,024 moves
 // and at most 64 order-1 states.
-fn limits_of(moves: usize, entries: usize, states: u64) -> Limits
+fn limits_of(moves: usize, entries: usize, states: u64) -> Capacity
     requires { ⌜ states ≤ 64 ⌝ }
     ensures { λ r. ⌜ (r .moves ≡ mostMoves moves) × (r .entries ≡ mostEntries entries states) ⌝ }
 {
-    Limits {
+    Capacity {
         moves: numbers::smaller(moves as u64 / 5, 1024) as usize,
         entries: numbers::smaller(entries as u64 / 2, 64 - states) as usize,
     }
@@ -180,7 +180,7 @@ pub fn saturate_tables(
     requires { ⌜ Given z (now inner) (now entries) (now moves) × RulesStand count (now body) × (6144 ≤ length (now pending)) × (2050 ≤ length (now sizes)) ⌝ }
     ensures { λ r. ⌜ Ends (rulesIn count (now (body .entry))) (now (inner .entry)) z (now (entries .entry)) (now (moves .entry)) (r .fits) (r .table) (r .sizes) (now (entries .exit)) (now (moves .exit)) (now (sizes .exit)) ⌝ }
 {
-    let most = limits_of(moves.len(), entries.len(), z.states);
+    let most = limits_of(moves.len(), entries.len(), z.inner1);
     let mut table = z;
     let mut k: usize = 0;
     loop {

@@ -11,11 +11,12 @@ use Rattle.automata.specs.Saturation.{Saturated}
 use Rattle.replies.specs.declared.Reply.{Reply}
 use Rattle.replies.specs.declared.Reply.the-variants.{Refused}
 use Rattle.replies.specs.declared.Halt.the-variants.{CellsShort}
-use Rattle.walks.specs.Guide.{Outcome, outcome, noOutcome, startWalk, guided}
+use Rattle.walks.specs.Guide.{Report, walkedBy, noRun, startWalk, guided}
 use Rattle.files.specs.Bytes.{Test, firstHit, testsOn}
 use Rattle.files.specs.Case.{caseTests, rulesOf}
 use Rattle.files.specs.Start.{Files, Start, startTests, startsOf, cellsOf}
-use Rattle.services.specs.Memory.{zeros, padded}
+use Rattle.services.specs.Memory.{padded}
+use Rattle.words.specs.Lists.{zeros}
 use Rattle.services.specs.Saturate.{Lent, saturated, sizeTests}
 use Rattle.services.specs.Judge.{accepted}
 
@@ -57,16 +58,16 @@ unfoldable pub startNamed : GuideInput → Start
 startNamed x = getD (startsOf (x .start)) (x .number) (record { control = 0; root = 0 })
 
 -- "It is short if the lent cells .. are fewer than the start file's cells (tested before arrival, with 0 steps and 0 cells)."
-unfoldable pub guideWalk : GuideInput → Saturated → Outcome
+unfoldable pub guideWalk : GuideInput → Saturated → Report
 guideWalk x T = elim (leb (length (cellsOf (x .start))) (cellsLent x)) [
   | true ↦ guided (rulesOf (x .case)) T (cellsLent x) (x .trace) []
       (startWalk (T .table) (cellsOf (x .start)) (startNamed x .control) (startNamed x .root))
-  | false ↦ outcome (CellsShort (record { steps = 0; cells = 0 })) []
+  | false ↦ walkedBy (CellsShort (record { steps = 0; cells = 0 })) []
 ]
 
 -- "No run (the start is marked no, tested before the cells lent)."
-unfoldable pub guideRun : GuideInput → Saturated → Outcome
-guideRun x T = elim (accepted (T .table) (x .start) (startNamed x)) [ true ↦ guideWalk x T | false ↦ noOutcome ]
+unfoldable pub guideRun : GuideInput → Saturated → Report
+guideRun x T = elim (accepted (T .table) (x .start) (startNamed x)) [ true ↦ guideWalk x T | false ↦ noRun ]
 
 -- the reply, and all four lent slices afterwards
 pub record GuideDone : Type 0 where
@@ -76,7 +77,7 @@ pub record GuideDone : Type 0 where
   pub cells : List ℕ
   pub trace : List ℕ
 
-unfoldable pub guideLeft : GuideInput → Outcome → GuideDone
+unfoldable pub guideLeft : GuideInput → Report → GuideDone
 guideLeft x o =
     record {
       reply = o .reply;
@@ -86,7 +87,7 @@ guideLeft x o =
       trace = padded (x .trace) (o .trace);
     }
 
-unfoldable pub refused : ℕ → Outcome
+unfoldable pub refused : ℕ → Report
 refused n = record { reply = Refused n; trace = [] }
 
 unfoldable pub guideAnswer : GuideInput → ℕ → GuideDone

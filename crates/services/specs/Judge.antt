@@ -12,7 +12,8 @@ use Rattle.automata.specs.Acceptance.{accepts2}
 use Rattle.files.specs.Bytes.{Test, firstHit, testsOn}
 use Rattle.files.specs.Case.{caseTests}
 use Rattle.files.specs.Start.{Files, Start, startTests, startsOf, configurationOf}
-use Rattle.services.specs.Memory.{zeros, padded}
+use Rattle.services.specs.Memory.{padded}
+use Rattle.words.specs.Lists.{zeros}
 use Rattle.services.specs.Saturate.{Lent, saturated, sizeTests}
 
 -- the two files, and the lengths of the move and entry tables and of the answers lent

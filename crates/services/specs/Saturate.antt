@@ -11,7 +11,8 @@ use Rattle.automata.specs.Saturation.{Saturated, saturate}
 use Rattle.replies.specs.declared.Saturation.{Saturation}
 use Rattle.files.specs.Bytes.{Test, firstHit, testsOn}
 use Rattle.files.specs.Case.{caseTests, ownOf, rulesOf}
-use Rattle.services.specs.Memory.{zeros, padded, moveTable, entryTable, lent}
+use Rattle.services.specs.Memory.{padded, moveTable, entryTable, lent}
+use Rattle.words.specs.Lists.{zeros}
 
 -- a case file and the lengths of the move and entry tables lent
 pub record Lent : Type 0 where

@@ -7,9 +7,9 @@ ghost use Prim.Native.Nat.{_≤_};
 ghost use lib.ListN.{length, drop};
 ghost use Rattle.files.specs.Bytes.{placed};
 ghost use Rattle.files.specs.Start.{startBodies, cellsOf};
-ghost use Rattle.services.specs.Memory.{zeros};
+ghost use Rattle.words.specs.Lists.{zeros};
 ghost use Rattle.tables.specs.Held.{automatonOf};
-ghost use Rattle.acceptance.specs.Named.{Stands};
+ghost use Rattle.acceptance.specs.Named.{TablesNamed};
 ghost use Rattle.acceptance.specs.Cells.{cellWords};
 ghost use Rattle.sound_files.specs.Refusal.{filesRefusal, refusedBefore};
 use tables::Table;
@@ -49,7 +49,7 @@ pub fn start_words(
     start: &[u8],
     words: &mut [u64],
 )
-    requires { ⌜ Stands z (now inner) (now entries) (now moves) × (placed startBodies (now start) ≡ true) × (256 ≤ length (now words)) ⌝ }
+    requires { ⌜ TablesNamed z (now inner) (now entries) (now moves) × (placed startBodies (now start) ≡ true) × (256 ≤ length (now words)) ⌝ }
     ensures { λ _. ⌜ now (words .exit) ≡ cellWords (automatonOf z (now (inner .entry)) (now (entries .entry)) (now (moves .entry))) (cellsOf (now (start .entry))) ++ drop (length (cellsOf (now (start .entry)))) (now (words .entry)) ⌝ }
 {
     let cells = start_file::cell_body(start);

@@ -1,4 +1,4 @@
--- What the cells of a stack choose: the least choices of a start, and those of the new cells of a step.
+-- What the cells of a stack choose: the firstOrZero choices of a start, and those of the new cells of a step.
 -- Assumes nothing.
 use Prim.Native.Nat.{ℕ, _+_, _-_}
 use mathlib.Core.Path.{_≡_, refl, ap, sym, subst}
@@ -14,27 +14,27 @@ use Rattle.stacks.specs.Stack.{Stack1, cons1, Stack2, cons2, Annotation, of1, o
 use Rattle.automata.specs.Automaton.{Automaton, moveAt, edgeAt, movesOf, edgesOf, entryEdge}
 use Rattle.automata.specs.Automaton.Laws.{MoveOf, EdgeOf, movesOf-in, movesOf-out, edgesOf-in, edgesOf-out}
 use Rattle.automata.specs.Acceptance.{moveFits, edgeFits}
-use Rattle.automata.specs.Acceptance.Laws.{Accepts1, Accepts2, AcceptsNote, moveFits-in, moveFits-out, edgeFits-in, edgeFits-out}
+use Rattle.automata.specs.Acceptance.Laws.{Accepts1, Accepts2, AcceptsAnnotation, moveFits-in, moveFits-out, edgeFits-in, edgeFits-out}
 use Rattle.automata.specs.Derivation.{Derivation}
 use Rattle.automata.specs.Derivation.Numbers.{Paired, empty, also}
-use Rattle.walks.specs.Guide.{least, leastChoice, chooses, choosesAll, premise, topChoice, rootChoice}
+use Rattle.walks.specs.Guide.{firstOrZero, leastChoice, chooses, choosesAll, premise, topChoice, rootChoice}
 
--- ---- the least choices of a start
+-- ---- the firstOrZero choices of a start
 
--- the least of a list that is not empty
-pub least-in : {n : ℕ} {l : List ℕ} → List·Memᴰ n l → List·Memᴰ (least l) l
-unfolding least
+-- the firstOrZero of a list that is not empty
+pub least-in : {n : ℕ} {l : List ℕ} → List·Memᴰ n l → List·Memᴰ (firstOrZero l) l
+unfolding firstOrZero
 least-in (List·Memᴰ·head e) = List·Memᴰ·head refl
 least-in (List·Memᴰ·tail i) = List·Memᴰ·head refl
 
 module _ (A : Automaton) where
-  -- the least choice of an accepting state is a move of its that the annotation and the rest fit
+  -- the firstOrZero choice of an accepting state is a move of its that the annotation and the rest fit
   pub least-move : (a : ℕ) (u : Annotation) (s : Stack1) (r : ℕ) → Accepts1 A (cons1 a u s) r
-      → (n : ℕ) × (leastChoice A (of1 (cons1 a u s)) r ≡ n) × MoveOf A a r n × AcceptsNote A u (moveAt A n .order) (moveAt A n .B)
+      → (n : ℕ) × (leastChoice A (of1 (cons1 a u s)) r ≡ n) × MoveOf A a r n × AcceptsAnnotation A u (moveAt A n .order) (moveAt A n .B)
       × All (moveAt A n .R) (Accepts1 A s)
   unfolding Accepts1 leastChoice
   least-move a u s r h =
-      let k = only-in (λ i. moveFits A u s (moveAt A i)) (movesOf-in A (h .move)) (moveFits-in A u s (moveAt A (h .number)) (h .note) (h .rest)) in
+      let k = only-in (λ i. moveFits A u s (moveAt A i)) (movesOf-in A (h .move)) (moveFits-in A u s (moveAt A (h .number)) (h .annotation) (h .rest)) in
       let o = only-out (λ i. moveFits A u s (moveAt A i)) (movesOf A r a) (least-in k) in
       let f = moveFits-out A u s (moveAt A (leastChoice A (of1 (cons1 a u s)) r)) (o .1) in
       (leastChoice A (of1 (cons1 a u s)) r, refl, movesOf-out A r a (o .0), f .0, f .1)
@@ -68,8 +68,8 @@ choosesAll-it {X = X} {q = q} (also {q = y} {n = n} {qs = qs} {ns = ns} x ps) i 
 
 module _ (A : Automaton) (d : Derivation) (p′ : ℕ) where
   pub premise-is : {n : ℕ} → d .premise ≡ n ∷ [] → premise A d p′ ≡ n
-  unfolding premise least
-  premise-is e = ap least e
+  unfolding premise firstOrZero
+  premise-is e = ap firstOrZero e
 
   pub topChoice-is : (n : ℕ) → d .premise ≡ n ∷ [] → topChoice A d p′ (moveAt A n .state) ≡ n
   unfolding topChoice

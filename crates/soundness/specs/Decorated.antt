@@ -21,44 +21,44 @@ use Rattle.walks.specs.Guide.{leastChoice, choicesAfter}
 mutual
   pub data Decorated1 : Type 0 where
     nil1′ : Decorated1
-    cons1′ : ℕ → DecoratedNote → Decorated1 → (ℕ → ℕ) → Decorated1
+    cons1′ : ℕ → DecoratedAnnotation → Decorated1 → (ℕ → ℕ) → Decorated1
 
   pub data Decorated2 : Type 0 where
     nil2′ : Decorated2
     cons2′ : Decorated1 → Decorated2 → (ℕ → ℕ) → Decorated2
 
-  pub data DecoratedNote : Type 0 where
-    of1′ : Decorated1 → DecoratedNote
-    of2′ : Decorated2 → DecoratedNote
+  pub data DecoratedAnnotation : Type 0 where
+    of1′ : Decorated1 → DecoratedAnnotation
+    of2′ : Decorated2 → DecoratedAnnotation
 
 -- the stack without the choices
 unfoldable mutual
   pub erase1 : Decorated1 → Stack1
   erase1 nil1′ = nil1
-  erase1 (cons1′ a u s f) = cons1 a (eraseNote u) (erase1 s)
+  erase1 (cons1′ a u s f) = cons1 a (eraseAnnotation u) (erase1 s)
 
   pub erase2 : Decorated2 → Stack2
   erase2 nil2′ = nil2
   erase2 (cons2′ w t g) = cons2 (erase1 w) (erase2 t)
 
-  pub eraseNote : DecoratedNote → Annotation
-  eraseNote (of1′ s) = of1 (erase1 s)
-  eraseNote (of2′ t) = of2 (erase2 t)
+  pub eraseAnnotation : DecoratedAnnotation → Annotation
+  eraseAnnotation (of1′ s) = of1 (erase1 s)
+  eraseAnnotation (of2′ t) = of2 (erase2 t)
 
 -- "Each cell and each state accepting it gets the choice of least number."
 module _ (A : Automaton) where
   unfoldable mutual
     pub decorate1 : Stack1 → Decorated1
     decorate1 nil1 = nil1′
-    decorate1 (cons1 a u s) = cons1′ a (decorateNote u) (decorate1 s) (leastChoice A (of1 (cons1 a u s)))
+    decorate1 (cons1 a u s) = cons1′ a (decorateAnnotation u) (decorate1 s) (leastChoice A (of1 (cons1 a u s)))
 
     pub decorate2 : Stack2 → Decorated2
     decorate2 nil2 = nil2′
     decorate2 (cons2 w t) = cons2′ (decorate1 w) (decorate2 t) (leastChoice A (of2 (cons2 w t)))
 
-    pub decorateNote : Annotation → DecoratedNote
-    decorateNote (of1 s) = of1′ (decorate1 s)
-    decorateNote (of2 t) = of2′ (decorate2 t)
+    pub decorateAnnotation : Annotation → DecoratedAnnotation
+    decorateAnnotation (of1 s) = of1′ (decorate1 s)
+    decorateAnnotation (of2 t) = of2′ (decorate2 t)
 
 -- a control and a decorated stack
 pub record DecoratedWalk : Type 0 where
@@ -75,7 +75,7 @@ decorated A c = record { control = c .control; stack = decorate2 A (c .stack) }
 -- the top of a walk: its symbol a, annotation u, s and t, and the number of the chosen move
 pub record DecoratedTop : Type 0 where
   pub a : ℕ
-  pub u : DecoratedNote
+  pub u : DecoratedAnnotation
   pub s : Decorated1
   pub t : Decorated2
   pub move : ℕ
@@ -90,7 +90,7 @@ abbrev pub choicesOf : List (ℕ → ℕ) → ℕ → ℕ → ℕ
 choicesOf fs n = getD fs n (λ q. 0)
 
 -- "top afterwards", where the new cells carry these choices, in the order of `cellsAfter`
-unfoldable pub afterDecorated : Operation → List (ℕ → ℕ) → ℕ → DecoratedNote → Decorated1 → Decorated2 → Option Decorated2
+unfoldable pub afterDecorated : Operation → List (ℕ → ℕ) → ℕ → DecoratedAnnotation → Decorated1 → Decorated2 → Option Decorated2
 afterDecorated (rewrite b) fs a u s t = some (cons2′ (cons1′ b u s (choicesOf fs 0)) t (choicesOf fs 1))
 afterDecorated (push1 b) fs a u s t = some (cons2′ (cons1′ b (of1′ s) (cons1′ a u s (choicesOf fs 0)) (choicesOf fs 1)) t (choicesOf fs 2))
 afterDecorated (push2 b) fs a u s t = some (cons2′ (cons1′ b (of2′ t) (cons1′ a u s (choicesOf fs 0)) (choicesOf fs 1)) t (choicesOf fs 2))

@@ -18,10 +18,10 @@ use Rattle.automata.specs.Derivation.Joining.{Into, joinAll-into, named-in, edg
 use Rattle.automata.specs.Derivation.Laws.{Says, ByRewrite, ByPush, ByCopy, Concludes}
 use Rattle.automata.specs.Saturation.{Saturated}
 use Rattle.walks.specs.Guide.{choosesAll, chooses, premise, topChoice, rootChoice, choicesAfter}
-use Rattle.soundness.specs.Decorated.{Decorated1, cons1′, Decorated2, cons2′, DecoratedNote, of1′, of2′, afterDecorated, Arrives}
+use Rattle.soundness.specs.Decorated.{Decorated1, cons1′, Decorated2, cons2′, DecoratedAnnotation, of1′, of2′, afterDecorated, Arrives}
 use Rattle.soundness.specs.Facts.{SaturatedFacts}
 use Rattle.soundness.specs.Choices.{chooses-it, choosesAll-it, premise-is, topChoice-is, rootChoice-is}
-use Rattle.soundness.specs.Meaning.{Ok1, Ok2, OkNote, any, one, two, okNote-part, okNote-same, okNote-order1, okNote-order2}
+use Rattle.soundness.specs.Meaning.{Ok1, Ok2, OkAnnotation, any, one, two, okAnnotation-part, okAnnotation-same, okAnnotation-order1, okAnnotation-order2}
 use Rattle.soundness.specs.Own.{edge-ok}
 use Rattle.soundness.specs.Used.{usedMoves}
 
@@ -31,13 +31,13 @@ all-same {X = X} e f = subst (λ (y : ℕ). All y X) e f
 module _ {P : ℕ} {own : Automaton} {rules : List Rule} {T : Saturated} (F : SaturatedFacts P own rules T) where
   -- Move j is right: its state is right about each symbol cell that chooses it and whose annotation and rest are as the move asks.
   abbrev pub Good : ℕ → Type 0
-  Good j = (r a : ℕ) (u : DecoratedNote) (s : Decorated1) (f : ℕ → ℕ) → MoveOf (T .table) a r j
-      → OkNote F (moveAt (T .table) j .order) (moveAt (T .table) j .B) u → All (moveAt (T .table) j .R) (λ q. Ok1 F q s) → f r ≡ j
+  Good j = (r a : ℕ) (u : DecoratedAnnotation) (s : Decorated1) (f : ℕ → ℕ) → MoveOf (T .table) a r j
+      → OkAnnotation F (moveAt (T .table) j .order) (moveAt (T .table) j .B) u → All (moveAt (T .table) j .R) (λ q. Ok1 F q s) → f r ≡ j
       → Ok1 F r (cons1′ a u s f)
 
   -- The derivation d by rule ρ, with a result that is right about u, s and t.
-  module _ (d : Derivation) (ρ : Rule) (next-exists : ρ .next < P) (u : DecoratedNote) (s : Decorated1) (t : Decorated2)
-      (note : OkNote F (d .result .order) (d .result .B) u) (rest : All (d .result .R) (λ q. Ok1 F q s))
+  module _ (d : Derivation) (ρ : Rule) (next-exists : ρ .next < P) (u : DecoratedAnnotation) (s : Decorated1) (t : Decorated2)
+      (annotation : OkAnnotation F (d .result .order) (d .result .B) u) (rest : All (d .result .R) (λ q. Ok1 F q s))
       (under : All (d .result .S) (λ q. Ok2 F q t)) where
     -- the walk arrives from control p′ with this stack
     abbrev pub Goes : Decorated2 → Type 0
@@ -47,8 +47,8 @@ module _ {P : ℕ} {own : Automaton} {rules : List Rule} {T : Saturated} (F : Sa
     Left o = (v : Decorated2) × (afterDecorated o (choicesAfter (T .table) d (ρ .next) o) (ρ .symbol) u s t ≡ some v) × Goes v
 
     -- a new top that chooses the premise, under a root that chooses its entry
-    enter : {S b j : ℕ} (v : DecoratedNote) (w : Decorated1) (y : Decorated2) → Good j → d .premise ≡ j ∷ [] → EntryMove (T .table) (ρ .next) S b j
-        → OkNote F (moveAt (T .table) j .order) (moveAt (T .table) j .B) v → All (moveAt (T .table) j .R) (λ q. Ok1 F q w)
+    enter : {S b j : ℕ} (v : DecoratedAnnotation) (w : Decorated1) (y : Decorated2) → Good j → d .premise ≡ j ∷ [] → EntryMove (T .table) (ρ .next) S b j
+        → OkAnnotation F (moveAt (T .table) j .order) (moveAt (T .table) j .B) v → All (moveAt (T .table) j .R) (λ q. Ok1 F q w)
         → All S (λ q. Ok2 F q y)
         → Goes (cons2′ (cons1′ b v w (topChoice (T .table) d (ρ .next))) y (rootChoice (T .table) d (ρ .next)))
     enter {S} {b} {j} v w y good e h x z k =
@@ -62,7 +62,7 @@ module _ {P : ℕ} {own : Automaton} {rules : List Rule} {T : Saturated} (F : Sa
     -- a new cell of symbol a that chooses the moves of a reading
     reads : (k : Joins) (rs : List ℕ) → Paired (MoveOf (T .table) (ρ .symbol)) rs (d .moves) → ((n : ℕ) → List·Memᴰ n (d .moves) → Good n)
         → ((n : ℕ) → List·Memᴰ n (d .moves) → Into (joinsOf (moveAt (T .table) n)) k)
-        → OkNote F (k .order) (k .B) u → All (k .R) (λ q. Ok1 F q s)
+        → OkAnnotation F (k .order) (k .B) u → All (k .R) (λ q. Ok1 F q s)
         → (r : ℕ) → List·Memᴰ r rs → Ok1 F r (cons1′ (ρ .symbol) u s (choosesAll rs (d .moves)))
     reads k rs ps good into x y r j =
         let n : ℕ = choosesAll rs (d .moves) r in
@@ -70,11 +70,11 @@ module _ {P : ℕ} {own : Automaton} {rules : List Rule} {T : Saturated} (F : Sa
         let i = into n (c .1) in
         let m : Move = moveAt (T .table) n in
         good n (c .1) r (ρ .symbol) u s (choosesAll rs (d .moves)) (c .0)
-        (okNote-part F (m .order) (m .B) (i .order-fits) (i .B-part) x) (all-part (m .R) (k .R) (i .R-part) y) refl
+        (okAnnotation-part F (m .order) (m .B) (i .order-fits) (i .B-part) x) (all-part (m .R) (k .R) (i .R-part) y) refl
 
     -- the result's joins
-    joined-note : {es ms ps : List ℕ} {S : ℕ} {j : Joins} → Concludes ρ ps es ms S j d → OkNote F (j .order) (j .B) u
-    joined-note c = okNote-same F (c .order-is) (c .B-is) note
+    joined-annotation : {es ms ps : List ℕ} {S : ℕ} {j : Joins} → Concludes ρ ps es ms S j d → OkAnnotation F (j .order) (j .B) u
+    joined-annotation c = okAnnotation-same F (c .order-is) (c .B-is) annotation
 
     joined-rest : {es ms ps : List ℕ} {S : ℕ} {j : Joins} → Concludes ρ ps es ms S j d → All (j .R) (λ q. Ok1 F q s)
     joined-rest c = all-same (c .R-is) rest
@@ -90,13 +90,13 @@ module _ {P : ℕ} {own : Automaton} {rules : List Rule} {T : Saturated} (F : Sa
     unfolding usedMoves afterDecorated choicesAfter
     left-rewrite b h good =
         let c = h .concluded in
-        let goes = enter u s t (good (h .move) (premise-in (c .premise-is))) (c .premise-is) (h .premise) (joined-note c) (joined-rest c) (joined-under c) in
+        let goes = enter u s t (good (h .move) (premise-in (c .premise-is))) (c .premise-is) (h .premise) (joined-annotation c) (joined-rest c) (joined-under c) in
         (_, refl, goes)
 
     -- a push whose new annotation v is as the premise asks: the new a-cell is right for all of the premise's R
     pushed : {k b : ℕ} {start : Move → Joins} {set : ℕ → Move → ℕ} (h : ByPush (T .table) ρ k b start set d)
-        → ((j : ℕ) → List·Memᴰ j (d .premise ++ d .moves) → Good j) → (v : DecoratedNote)
-        → OkNote F (moveAt (T .table) (h .move) .order) (moveAt (T .table) (h .move) .B) v → All (h .S) (λ q. Ok2 F q t)
+        → ((j : ℕ) → List·Memᴰ j (d .premise ++ d .moves) → Good j) → (v : DecoratedAnnotation)
+        → OkAnnotation F (moveAt (T .table) (h .move) .order) (moveAt (T .table) (h .move) .B) v → All (h .S) (λ q. Ok2 F q t)
         → Goes (cons2′ (cons1′ b v (cons1′ (ρ .symbol) u s (choosesAll (members (moveAt (T .table) (premise (T .table) d (ρ .next)) .R)) (d .moves)))
         (topChoice (T .table) d (ρ .next))) t (rootChoice (T .table) d (ρ .next)))
     pushed {start = start} h good v x z =
@@ -104,7 +104,7 @@ module _ {P : ℕ} {own : Automaton} {rules : List Rule} {T : Saturated} (F : Sa
         let into = joinAll-into (T .table) (start (moveAt (T .table) (h .move))) (d .moves) (h .joined) in
         let rs : List ℕ = members (moveAt (T .table) (h .move) .R) in
         let cell : (r : ℕ) → List·Memᴰ r rs → Ok1 F r (cons1′ (ρ .symbol) u s (choosesAll rs (d .moves))) =
-        reads (h .joins) rs (h .reading) (λ i l. good i (Memᴰ·append-right (d .premise) l)) (into .1) (joined-note c) (joined-rest c) in
+        reads (h .joins) rs (h .reading) (λ i l. good i (Memᴰ·append-right (d .premise) l)) (into .1) (joined-annotation c) (joined-rest c) in
         rw (premise-is (T .table) d (ρ .next) (c .premise-is))
         (enter v (cons1′ (ρ .symbol) u s (choosesAll rs (d .moves))) t (good (h .move) (Memᴰ·append-left (d .moves) (premise-in (c .premise-is))))
         (c .premise-is) (h .premise) x (λ r n. cell r (has-in n)) z)
@@ -116,7 +116,7 @@ module _ {P : ℕ} {own : Automaton} {rules : List Rule} {T : Saturated} (F : Sa
         let c = h .concluded in
         let m : Move = moveAt (T .table) (h .move) in
         let into = joinAll-into (T .table) (record { order = 0; B = 0; R = m .B }) (d .moves) (h .joined) in
-        let fits : OkNote F (m .order) (m .B) (of1′ s) =
+        let fits : OkAnnotation F (m .order) (m .B) (of1′ s) =
         ⊎-elim any (λ e. one e (all-part (m .B) (h .joins .R) (into .0 .R-part) (joined-rest c))) (h .order-fits) in
         (_, refl, pushed h good (of1′ s) fits (joined-under c))
 
@@ -126,7 +126,7 @@ module _ {P : ℕ} {own : Automaton} {rules : List Rule} {T : Saturated} (F : Sa
     left-push2 b h good =
         let c = h .concluded in
         let m : Move = moveAt (T .table) (h .move) in
-        let fits : OkNote F (m .order) (m .B) (of2′ t) =
+        let fits : OkAnnotation F (m .order) (m .B) (of2′ t) =
         ⊎-elim any (λ e. two e (all-right (h .S) (m .B) (joined-under c))) (h .order-fits) in
         (_, refl, pushed h good (of2′ t) fits (all-left (h .S) (m .B) (joined-under c)))
 
@@ -143,13 +143,13 @@ module _ {P : ℕ} {own : Automaton} {rules : List Rule} {T : Saturated} (F : Sa
         let w : Decorated1 = cons1′ (ρ .symbol) u s (choosesAll rs (d .moves)) in
         let g : ℕ → ℕ = choosesAll (members (h .S)) (d .edges) in
         let cell : (r : ℕ) → List·Memᴰ r rs → Ok1 F r w =
-        reads (h .joins) rs (h .reading) (λ i l. good i (Memᴰ·append-right (d .premise) l)) (into .1) (joined-note c) (joined-rest c) in
+        reads (h .joins) rs (h .reading) (λ i l. good i (Memᴰ·append-right (d .premise) l)) (into .1) (joined-annotation c) (joined-rest c) in
         let lower : All (h .S) (λ q. Ok2 F q (cons2′ w t g)) = λ q n.
         let e = choosesAll-it (h .chosen) (has-in n) in
         edge-ok F w t g (e .0) refl (cell (edgeAt A (g q) .first) (has-in (named-in A (e .1))))
         (all-part (edgeAt A (g q) .S) (edgeSets A (d .edges)) (edgeSets-part A (e .1)) (joined-under c)) in
         let goes = enter u s (cons2′ w t g) (good (h .move) (Memᴰ·append-left (d .moves) (premise-in (c .premise-is)))) (c .premise-is) (h .premise)
-        (okNote-part F (m .order) (m .B) (into .0 .order-fits) (into .0 .B-part) (joined-note c))
+        (okAnnotation-part F (m .order) (m .B) (into .0 .order-fits) (into .0 .B-part) (joined-annotation c))
         (all-part (m .R) (h .joins .R) (into .0 .R-part) (joined-rest c)) lower in
         let sets : entrySet A (moveAt A (premise A d (ρ .next)) .state) ≡ h .S =
         ap (λ (n : ℕ). entrySet A (moveAt A n .state)) (premise-is A d (ρ .next) (c .premise-is)) ∙ entryMove-set A (h .premise) in
@@ -177,10 +177,10 @@ module _ {P : ℕ} {own : Automaton} {rules : List Rule} {T : Saturated} (F : Sa
     unfolding afterDecorated choicesAfter
     left-collapse1 h =
         let c = h .concluded in
-        let r = okNote-order1 F refl (joined-note c) in
+        let r = okAnnotation-order1 F refl (joined-annotation c) in
         let n : ℕ → ℕ = chooses (ρ .next) (entryEdge (T .table) (premise (T .table) d (ρ .next))) in (
           cons2′ (r .0) t n,
-          ap (λ (x : DecoratedNote). afterDecorated collapse1 (n ∷ []) (ρ .symbol) x s t) (r .1),
+          ap (λ (x : DecoratedAnnotation). afterDecorated collapse1 (n ∷ []) (ρ .symbol) x s t) (r .1),
           entered (r .0) (c .premise-is) (h .premise) (joined-under c) (all-one (T .table .J + h .entry) (r .2)),
         )
 
@@ -188,9 +188,9 @@ module _ {P : ℕ} {own : Automaton} {rules : List Rule} {T : Saturated} (F : Sa
     left-collapse2 : Says (T .table) ρ collapse2 d → Left collapse2
     unfolding afterDecorated
     left-collapse2 c =
-        let r = okNote-order2 F refl (joined-note c) in (
+        let r = okAnnotation-order2 F refl (joined-annotation c) in (
           r .0,
-          ap (λ (x : DecoratedNote). afterDecorated collapse2 (choicesAfter (T .table) d (ρ .next) collapse2) (ρ .symbol) x s t) (r .1),
+          ap (λ (x : DecoratedAnnotation). afterDecorated collapse2 (choicesAfter (T .table) d (ρ .next) collapse2) (ρ .symbol) x s t) (r .1),
           all-one (ρ .next) (r .2) .control next-exists,
         )
 

@@ -23,9 +23,9 @@ use Rattle.automata.specs.Derivation.Kept.{says-kept}
 use Rattle.automata.specs.Saturation.{Saturated, before, ownMoves}
 use Rattle.automata.specs.Saturation.Laws.{before-extends, before-small}
 use Rattle.walks.specs.Guide.{choicesAfter}
-use Rattle.soundness.specs.Decorated.{Decorated1, cons1′, Decorated2, cons2′, DecoratedNote, erase1, afterDecorated, Arrives}
+use Rattle.soundness.specs.Decorated.{Decorated1, cons1′, Decorated2, cons2′, DecoratedAnnotation, erase1, afterDecorated, Arrives}
 use Rattle.soundness.specs.Facts.{SaturatedFacts}
-use Rattle.soundness.specs.Meaning.{Ok1, Ok2, OkNote, okNote-same}
+use Rattle.soundness.specs.Meaning.{Ok1, Ok2, OkAnnotation, okAnnotation-same}
 use Rattle.soundness.specs.Step.{arrives-onward}
 use Rattle.soundness.specs.Own.{own-accepts, own-arrives}
 use Rattle.soundness.specs.Used.{usedMoves, says-below}
@@ -54,9 +54,9 @@ module _ {P : ℕ} {own : Automaton} {rules : List Rule} {T : Saturated} (F : Sa
       }
 
   -- A cell of symbol a that chooses move i, under a root that chooses entry e, of which the move is.
-  module _ (i p S e a : ℕ) (u : DecoratedNote) (s : Decorated1) (f : ℕ → ℕ) (t : Decorated2) (g : ℕ → ℕ)
+  module _ (i p S e a : ℕ) (u : DecoratedAnnotation) (s : Decorated1) (f : ℕ → ℕ) (t : Decorated2) (g : ℕ → ℕ)
       (h : MoveOf (T .table) a (T .table .J + e) i) (E : EntryIs (T .table) p S e)
-      (x : OkNote F (moveAt (T .table) i .order) (moveAt (T .table) i .B) u)
+      (x : OkAnnotation F (moveAt (T .table) i .order) (moveAt (T .table) i .B) u)
       (y : All (moveAt (T .table) i .R) (λ q. Ok1 F q s)) (z : All S (λ q. Ok2 F q t))
       (c : f (edgeAt (T .table) (g p) .first) ≡ i) where
     -- the walk goes on by the first derivation of the move
@@ -73,12 +73,12 @@ module _ {P : ℕ} {own : Automaton} {rules : List Rule} {T : Saturated} (F : Sa
         sym (goes .0) ∙ ap (λ (m : Result). m .control) same ∙ ap (entryControl (T .table)) (h .state-is) ∙ entryControl-is (T .table) E in
         let symbol : ρ .symbol ≡ a = sym (goes .1) ∙ ap (λ (m : Result). m .symbol) same ∙ h .symbol-is in
         let set : d .result .S ≡ S = ap (λ (m : Result). m .S) same ∙ ap (entrySet (T .table)) (h .state-is) ∙ entrySet-is (T .table) E in
-        let note : OkNote F (d .result .order) (d .result .B) u =
-        okNote-same F (ap (λ (m : Result). m .order) (sym same)) (ap (λ (m : Result). m .B) (sym same)) x in
+        let annotation : OkAnnotation F (d .result .order) (d .result .B) u =
+        okAnnotation-same F (ap (λ (m : Result). m .order) (sym same)) (ap (λ (m : Result). m .B) (sym same)) x in
         let rest : All (d .result .R) (λ q. Ok1 F q s) = subst (λ (m : Result). All (m .R) (λ q. Ok1 F q s)) (sym same) y in
         let under : All (d .result .S) (λ q. Ok2 F q t) = subst (λ (m : ℕ). All m (λ q. Ok2 F q t)) (sym set) z in
         let exists = F .rule-facts ρ (getElem?-in rules (d .rule) (from .numbered)) .next-exists in
-        let v = left F d ρ exists u s t note rest under o (from .says) (λ j l. below j (from .uses-smaller j l)) in
+        let v = left F d ρ exists u s t annotation rest under o (from .says) (λ j l. below j (from .uses-smaller j l)) in
         let own-moves = F .own-moves in
         let late : ownMoves (T .sizes) ≤ n = omega arith in
         arrives-onward own rules T p a u s f t g d ρ (v .0) late

@@ -16,7 +16,7 @@ use Rattle.automata.specs.Acceptance.Laws.{Accepts1, Accepts2}
 use Rattle.automata.specs.Derivation.Joining.{Fits}
 use Rattle.automata.specs.Saturation.{Saturated}
 use Rattle.soundness.specs.Facts.{SaturatedFacts}
-use Rattle.soundness.specs.Decorated.{Decorated1, Decorated2, cons2′, DecoratedNote, of1′, of2′, erase1, erase2, Arrives}
+use Rattle.soundness.specs.Decorated.{Decorated1, Decorated2, cons2′, DecoratedAnnotation, of1′, of2′, erase1, erase2, Arrives}
 
 -- F stands for P, own, rules and T.
 module _ {P : ℕ} {own : Automaton} {rules : List Rule} {T : Saturated} (F : SaturatedFacts P own rules T) where
@@ -32,28 +32,28 @@ module _ {P : ℕ} {own : Automaton} {rules : List Rule} {T : Saturated} (F : Sa
         → (g : ℕ → ℕ) → g p ≡ entryEdge (T .table) e → Arrives rules T own (record { control = p; stack = cons2′ w t g })
 
   -- the annotation is as a move of order k and annotation set B asks
-  pub data OkNote (k B : ℕ) : DecoratedNote → Type 0 where
-    any : {u : DecoratedNote} → k ≡ 0 → OkNote k B u
-    one : {w : Decorated1} → k ≡ 1 → All B (λ r. Ok1 r w) → OkNote k B (of1′ w)
-    two : {t : Decorated2} → k ≡ 2 → All B (λ q. Ok2 q t) → OkNote k B (of2′ t)
+  pub data OkAnnotation (k B : ℕ) : DecoratedAnnotation → Type 0 where
+    any : {u : DecoratedAnnotation} → k ≡ 0 → OkAnnotation k B u
+    one : {w : Decorated1} → k ≡ 1 → All B (λ r. Ok1 r w) → OkAnnotation k B (of1′ w)
+    two : {t : Decorated2} → k ≡ 2 → All B (λ q. Ok2 q t) → OkAnnotation k B (of2′ t)
 
   -- a part of an annotation set asks no more
-  pub okNote-part : {k B : ℕ} {u : DecoratedNote} (l C : ℕ) → Fits k l → partOf C B ≡ true → OkNote k B u → OkNote l C u
-  okNote-part l C (inl e) h x = any e
-  okNote-part l C (inr e) h (any z) = any (e ∙ z)
-  okNote-part {B = B} l C (inr e) h (one z f) = one (e ∙ z) (all-part C B h f)
-  okNote-part {B = B} l C (inr e) h (two z f) = two (e ∙ z) (all-part C B h f)
+  pub okAnnotation-part : {k B : ℕ} {u : DecoratedAnnotation} (l C : ℕ) → Fits k l → partOf C B ≡ true → OkAnnotation k B u → OkAnnotation l C u
+  okAnnotation-part l C (inl e) h x = any e
+  okAnnotation-part l C (inr e) h (any z) = any (e ∙ z)
+  okAnnotation-part {B = B} l C (inr e) h (one z f) = one (e ∙ z) (all-part C B h f)
+  okAnnotation-part {B = B} l C (inr e) h (two z f) = two (e ∙ z) (all-part C B h f)
 
-  pub okNote-same : {k B l C : ℕ} {u : DecoratedNote} → k ≡ l → B ≡ C → OkNote k B u → OkNote l C u
-  okNote-same {u = u} e f x = rw (← e, ← f) x
+  pub okAnnotation-same : {k B l C : ℕ} {u : DecoratedAnnotation} → k ≡ l → B ≡ C → OkAnnotation k B u → OkAnnotation l C u
+  okAnnotation-same {u = u} e f x = rw (← e, ← f) x
 
   -- at order 1 or 2 the annotation has that order
-  pub okNote-order1 : {k B : ℕ} {u : DecoratedNote} → k ≡ 1 → OkNote k B u → (w : Decorated1) × (u ≡ of1′ w) × All B (λ r. Ok1 r w)
-  okNote-order1 e (any z) = absurd (omega arith)
-  okNote-order1 e (one {w = w} z f) = (w, refl, f)
-  okNote-order1 e (two z f) = absurd (omega arith)
+  pub okAnnotation-order1 : {k B : ℕ} {u : DecoratedAnnotation} → k ≡ 1 → OkAnnotation k B u → (w : Decorated1) × (u ≡ of1′ w) × All B (λ r. Ok1 r w)
+  okAnnotation-order1 e (any z) = absurd (omega arith)
+  okAnnotation-order1 e (one {w = w} z f) = (w, refl, f)
+  okAnnotation-order1 e (two z f) = absurd (omega arith)
 
-  pub okNote-order2 : {k B : ℕ} {u : DecoratedNote} → k ≡ 2 → OkNote k B u → (t : Decorated2) × (u ≡ of2′ t) × All B (λ q. Ok2 q t)
-  okNote-order2 e (any z) = absurd (omega arith)
-  okNote-order2 e (one z f) = absurd (omega arith)
-  okNote-order2 e (two {t = t} z f) = (t, refl, f)
+  pub okAnnotation-order2 : {k B : ℕ} {u : DecoratedAnnotation} → k ≡ 2 → OkAnnotation k B u → (t : Decorated2) × (u ≡ of2′ t) × All B (λ q. Ok2 q t)
+  okAnnotation-order2 e (any z) = absurd (omega arith)
+  okAnnotation-order2 e (one z f) = absurd (omega arith)
+  okAnnotation-order2 e (two {t = t} z f) = (t, refl, f)

@@ -14,12 +14,12 @@ use Rattle.stacks.specs.System.{Rule}
 use Rattle.automata.specs.Automaton.{Automaton, Move, Edge, noEdge, noEntry, edges, moveAt, edgeAt, entryEdge}
 use Rattle.automata.specs.Automaton.Laws.{MoveOf, EdgeOf, EntryIs, moveAt-in, entry-edge, edge-cases, edgeAt-inner, length-edges}
 use Rattle.automata.specs.Acceptance.{inTarget}
-use Rattle.automata.specs.Acceptance.Laws.{Accepts1, Accepts2, AcceptsNote, accepts2-in, note-any}
+use Rattle.automata.specs.Acceptance.Laws.{Accepts1, Accepts2, AcceptsAnnotation, accepts2-in, annotation-any}
 use Rattle.automata.specs.Facts.Laws.{control-edge, moveAt-kept, edgeAt-kept, entryIs-own}
 use Rattle.automata.specs.Saturation.{Saturated}
-use Rattle.soundness.specs.Decorated.{Decorated1, cons1′, Decorated2, cons2′, DecoratedNote, erase1, erase2, eraseNote, erased, Arrives, here}
+use Rattle.soundness.specs.Decorated.{Decorated1, cons1′, Decorated2, cons2′, DecoratedAnnotation, erase1, erase2, eraseAnnotation, erased, Arrives, here}
 use Rattle.soundness.specs.Facts.{SaturatedFacts}
-use Rattle.soundness.specs.Meaning.{Ok1, Ok2, OkNote, any, one, two}
+use Rattle.soundness.specs.Meaning.{Ok1, Ok2, OkAnnotation, any, one, two}
 use Rattle.soundness.specs.Step.{next-arrived, at}
 
 module _ {P : ℕ} {own : Automaton} {rules : List Rule} {T : Saturated} (F : SaturatedFacts P own rules T) where
@@ -27,44 +27,44 @@ module _ {P : ℕ} {own : Automaton} {rules : List Rule} {T : Saturated} (F : Sa
   table = T .table
 
   -- the annotation is as a move of round 0 asks
-  pub note-own : (m : Move) → List·Memᴰ m (own .moves) → {u : DecoratedNote} → OkNote F (m .order) (m .B) u → AcceptsNote own (eraseNote u) (m .order) (m .B)
+  pub annotation-own : (m : Move) → List·Memᴰ m (own .moves) → {u : DecoratedAnnotation} → OkAnnotation F (m .order) (m .B) u → AcceptsAnnotation own (eraseAnnotation u) (m .order) (m .B)
   unfolding Accepts1 erase1
-  note-own m i {u} (any e) = note-any own (eraseNote u) (m .order) (m .B) e
-  note-own m i (one {w = w} e f) =
-      let g = F .own-inner .note1-inner m i e in
+  annotation-own m i {u} (any e) = annotation-any own (eraseAnnotation u) (m .order) (m .B) e
+  annotation-own m i (one {w = w} e f) =
+      let g = F .own-inner .annotation1-inner m i e in
       rw e (λ r h. f r h .inner (subst (λ (j : ℕ). r < j) (sym (F .extends .same-J)) (g r h)))
-  note-own m i (two {t = t} e f) =
-      let g = F .own-inner .note2-inner m i e in
+  annotation-own m i (two {t = t} e f) =
+      let g = F .own-inner .annotation2-inner m i e in
       rw e (λ q h. f q h .inner (g q h))
 
   -- a move of round 0 makes the own automaton accept
-  pub own-accepts : {a r i : ℕ} {u : DecoratedNote} {s : Decorated1} → i < length (own .moves) → MoveOf table a r i
-      → OkNote F (moveAt table i .order) (moveAt table i .B) u → All (moveAt table i .R) (λ q. Ok1 F q s)
-      → Accepts1 own (cons1 a (eraseNote u) (erase1 s)) r
+  pub own-accepts : {a r i : ℕ} {u : DecoratedAnnotation} {s : Decorated1} → i < length (own .moves) → MoveOf table a r i
+      → OkAnnotation F (moveAt table i .order) (moveAt table i .B) u → All (moveAt table i .R) (λ q. Ok1 F q s)
+      → Accepts1 own (cons1 a (eraseAnnotation u) (erase1 s)) r
   unfolding Accepts1
   own-accepts {i = i} {u = u} {s = s} l h x y =
       let e = moveAt-kept (F .extends) i l in
       let g = F .own-inner .rest-inner (moveAt own i) (moveAt-in own i l) in
-      let x′ : OkNote F (moveAt own i .order) (moveAt own i .B) u = rw e at x in
+      let x′ : OkAnnotation F (moveAt own i .order) (moveAt own i .B) u = rw e at x in
       let y′ : All (moveAt own i .R) (λ q. Ok1 F q s) = rw e at y in
       record {
         number = i;
         move = record { below = l; state-is = rw e at (h .state-is); symbol-is = rw e at (h .symbol-is) };
-        note = note-own (moveAt own i) (moveAt-in own i l) x′;
+        annotation = annotation-own (moveAt own i) (moveAt-in own i l) x′;
         rest = λ q k. y′ q k .inner (subst (λ (j : ℕ). q < j) (sym (F .extends .same-J)) (g q k));
       }
 
   -- a walk whose chosen move is from round 0 has arrived, in the target
-  pub own-arrives : (p S e i a : ℕ) (u : DecoratedNote) (s : Decorated1) (f : ℕ → ℕ) (t : Decorated2) (g : ℕ → ℕ) → i < length (own .moves)
+  pub own-arrives : (p S e i a : ℕ) (u : DecoratedAnnotation) (s : Decorated1) (f : ℕ → ℕ) (t : Decorated2) (g : ℕ → ℕ) → i < length (own .moves)
       → MoveOf table a (table .J + e) i → EntryIs table p S e
-      → OkNote F (moveAt table i .order) (moveAt table i .B) u → All (moveAt table i .R) (λ q. Ok1 F q s)
+      → OkAnnotation F (moveAt table i .order) (moveAt table i .B) u → All (moveAt table i .R) (λ q. Ok1 F q s)
       → All S (λ q. Ok2 F q t) → f (edgeAt table (g p) .first) ≡ i
       → Arrives rules T own (record { control = p; stack = cons2′ (cons1′ a u s f) t g })
   unfolding Accepts1 inTarget erased erase1
   own-arrives p S e i a u s f t g l h k x y z c =
       let b : i < length (own .moves) = l in
       let n : f (edgeAt table (g p) .first) < length (own .moves) = omega arith in
-      here (next-arrived own rules T p a u s f t g (rw (F .own-moves) n)) (accepts2-in own (cons2 (cons1 a (eraseNote u) (erase1 s)) (erase2 t)) p accepted)
+      here (next-arrived own rules T p a u s f t g (rw (F .own-moves) n)) (accepts2-in own (cons2 (cons1 a (eraseAnnotation u) (erase1 s)) (erase2 t)) p accepted)
     where
       E : EntryIs own p S e
       E =
@@ -74,7 +74,7 @@ module _ {P : ℕ} {own : Automaton} {rules : List Rule} {T : Saturated} (F : Sa
           let below : e < length (own .entries) = omega arith in
           entryIs-own (F .extends) below k
 
-      accepted : Accepts2 own (cons2 (cons1 a (eraseNote u) (erase1 s)) (erase2 t)) p
+      accepted : Accepts2 own (cons2 (cons1 a (eraseAnnotation u) (erase1 s)) (erase2 t)) p
       accepted =
           let c = entry-edge own E in
           let first : edgeAt own (entryEdge own e) .first ≡ table .J + e = c .first-is ∙ ap (λ (j : ℕ). j + e) (sym (F .extends .same-J)) in

@@ -12,11 +12,11 @@ use Rattle.automata.specs.Automaton.{Automaton, moveAt, edgeAt}
 use Rattle.automata.specs.Derivation.{Derivation, resultOf, firstDerivation}
 use Rattle.automata.specs.Saturation.{Saturated, before, ownMoves}
 use Rattle.walks.specs.Guide.{choicesAfter}
-use Rattle.soundness.specs.Decorated.{Decorated1, cons1′, Decorated2, cons2′, DecoratedNote, of1′, of2′, erase1, erase2, eraseNote, erased, topOf, afterDecorated, DecoratedWalk, arrived, to, leaves, byDerivation, atTop, next, Arrives, onward}
+use Rattle.soundness.specs.Decorated.{Decorated1, cons1′, Decorated2, cons2′, DecoratedAnnotation, of1′, of2′, erase1, erase2, eraseAnnotation, erased, topOf, afterDecorated, DecoratedWalk, arrived, to, leaves, byDerivation, atTop, next, Arrives, onward}
 
 -- without the choices, an operation leaves what document 01's table says
-pub after-erased : (o : Operation) (fs : List (ℕ → ℕ)) (a : ℕ) (u : DecoratedNote) (s : Decorated1) (t : Decorated2)
-    → after o a (eraseNote u) (erase1 s) (erase2 t) ≡ Option·map erase2 (afterDecorated o fs a u s t)
+pub after-erased : (o : Operation) (fs : List (ℕ → ℕ)) (a : ℕ) (u : DecoratedAnnotation) (s : Decorated1) (t : Decorated2)
+    → after o a (eraseAnnotation u) (erase1 s) (erase2 t) ≡ Option·map erase2 (afterDecorated o fs a u s t)
 unfolding after afterDecorated erase1
 after-erased (rewrite b) fs a u s t = refl
 after-erased (push1 b) fs a u s t = refl
@@ -30,7 +30,7 @@ after-erased collapse2 fs a (of1′ u) s t = refl
 after-erased collapse2 fs a (of2′ u) s t = refl
 
 -- A walk from control p: symbol a annotated u, then s, then t. The symbol has the choices f, and the root has the choices g.
-module _ (own : Automaton) (rules : List Rule) (T : Saturated) (p a : ℕ) (u : DecoratedNote) (s : Decorated1) (f : ℕ → ℕ) (t : Decorated2) (g : ℕ → ℕ) where
+module _ (own : Automaton) (rules : List Rule) (T : Saturated) (p a : ℕ) (u : DecoratedAnnotation) (s : Decorated1) (f : ℕ → ℕ) (t : Decorated2) (g : ℕ → ℕ) where
   -- the walk with this top
   abbrev pub at : DecoratedWalk
   at = record { control = p; stack = cons2′ (cons1′ a u s f) t g }
@@ -55,7 +55,7 @@ module _ (own : Automaton) (rules : List Rule) (T : Saturated) (p a : ℕ) (u : 
     pub step-to : p ≡ ρ .control → a ≡ ρ .symbol → step ρ (erased at) ≡ some (erased (record { control = ρ .next; stack = v }))
     unfolding step stepOn entered erased erase1
     step-to x y =
-        let z : after (ρ .operation) a (eraseNote u) (erase1 s) (erase2 t) ≡ some (erase2 v) =
+        let z : after (ρ .operation) a (eraseAnnotation u) (erase1 s) (erase2 t) ≡ some (erase2 v) =
         after-erased (ρ .operation) (choicesAfter (T .table) d (ρ .next) (ρ .operation)) a u s t ∙ ap (Option·map erase2) l in
         rw (step, stepOn, eq-eqb p (ρ .control) x, eq-eqb a (ρ .symbol) y, z)
 

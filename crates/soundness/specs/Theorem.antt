@@ -15,14 +15,14 @@ use Rattle.stacks.specs.Stack.{Stack1, nil1, cons1, Stack2, nil2, cons2, Annota
 use Rattle.stacks.specs.System.{Rule, Configuration, Run, stay, go}
 use Rattle.automata.specs.Automaton.{Automaton, moveAt, edgeAt}
 use Rattle.automata.specs.Acceptance.{accepts2, inTarget}
-use Rattle.automata.specs.Acceptance.Laws.{Accepts1, Accepts2, AcceptsNote, accepts2-in, accepts2-out}
+use Rattle.automata.specs.Acceptance.Laws.{Accepts1, Accepts2, AcceptsAnnotation, accepts2-in, accepts2-out}
 use Rattle.automata.specs.Saturation.{Saturated}
 use Rattle.automata.specs.Facts.Laws.{moveAt-facts}
 use Rattle.walks.specs.Guide.{leastChoice}
-use Rattle.soundness.specs.Decorated.{erase1, erase2, eraseNote, decorate1, decorate2, decorateNote, DecoratedWalk, erased, decorated, arrived, next, walkAfter, traceAfter, Arrives, here, onward}
+use Rattle.soundness.specs.Decorated.{erase1, erase2, eraseAnnotation, decorate1, decorate2, decorateAnnotation, DecoratedWalk, erased, decorated, arrived, next, walkAfter, traceAfter, Arrives, here, onward}
 use Rattle.soundness.specs.Facts.{SaturatedFacts}
 use Rattle.soundness.specs.Choices.{least-move, least-edge}
-use Rattle.soundness.specs.Meaning.{Ok1, Ok2, OkNote, any, one, two}
+use Rattle.soundness.specs.Meaning.{Ok1, Ok2, OkAnnotation, any, one, two}
 use Rattle.soundness.specs.Own.{edge-ok}
 use Rattle.soundness.specs.Lemma.{good}
 
@@ -34,15 +34,15 @@ module _ (A : Automaton) where
 
     pub erase-decorate1 : (s : Stack1) → erase1 (decorate1 A s) ≡ s
     erase-decorate1 nil1 = refl
-    erase-decorate1 (cons1 a u s) = ap₂ (λ (x : Annotation) (y : Stack1). cons1 a x y) (erase-decorateNote u) (erase-decorate1 s)
+    erase-decorate1 (cons1 a u s) = ap₂ (λ (x : Annotation) (y : Stack1). cons1 a x y) (erase-decorateAnnotation u) (erase-decorate1 s)
 
     pub erase-decorate2 : (t : Stack2) → erase2 (decorate2 A t) ≡ t
     erase-decorate2 nil2 = refl
     erase-decorate2 (cons2 w t) = ap₂ (λ (x : Stack1) (y : Stack2). cons2 x y) (erase-decorate1 w) (erase-decorate2 t)
 
-    pub erase-decorateNote : (u : Annotation) → eraseNote (decorateNote A u) ≡ u
-    erase-decorateNote (of1 s) = ap of1 (erase-decorate1 s)
-    erase-decorateNote (of2 t) = ap of2 (erase-decorate2 t)
+    pub erase-decorateAnnotation : (u : Annotation) → eraseAnnotation (decorateAnnotation A u) ≡ u
+    erase-decorateAnnotation (of1 s) = ap of1 (erase-decorate1 s)
+    erase-decorateAnnotation (of2 t) = ap of2 (erase-decorate2 t)
 
 pub erased-decorated : (A : Automaton) (c : Configuration) → erased (decorated A c) ≡ c
 unfolding erased decorated
@@ -64,8 +64,8 @@ module _ {P : ℕ} {own : Automaton} {rules : List Rule} {T : Saturated} (F : Sa
     accepts-ok1 (cons1 a u s) r h =
         let x = least-move (T .table) a u s r h in
         let n : ℕ = x .0 in
-        good F n r a (decorateNote (T .table) u) (decorate1 (T .table) s) (leastChoice (T .table) (of1 (cons1 a u s))) (x .2)
-        (accepts-okNote u (moveAt (T .table) n .order) (moveAt (T .table) n .B) (moveAt-facts (F .table) n (x .2 .below) .order-small) (x .3)) (λ q k. accepts-ok1 s q (x .4 q k)) (x .1)
+        good F n r a (decorateAnnotation (T .table) u) (decorate1 (T .table) s) (leastChoice (T .table) (of1 (cons1 a u s))) (x .2)
+        (accepts-okAnnotation u (moveAt (T .table) n .order) (moveAt (T .table) n .B) (moveAt-facts (F .table) n (x .2 .below) .order-small) (x .3)) (λ q k. accepts-ok1 s q (x .4 q k)) (x .1)
 
     pub accepts-ok2 : (t : Stack2) (q : ℕ) → Accepts2 (T .table) t q → Ok2 F q (decorate2 (T .table) t)
     accepts-ok2 nil2 q h =
@@ -80,13 +80,13 @@ module _ {P : ℕ} {own : Automaton} {rules : List Rule} {T : Saturated} (F : Sa
         edge-ok F (decorate1 (T .table) w) (decorate2 (T .table) t) (leastChoice (T .table) (of2 (cons2 w t))) (x .2) (x .1)
         (accepts-ok1 w (edgeAt (T .table) (x .0) .first) (x .3)) (λ y k. accepts-ok2 t y (x .4 y k))
 
-    pub accepts-okNote : (u : Annotation) (k B : ℕ) → k ≤ 2 → AcceptsNote (T .table) u k B → OkNote F k B (decorateNote (T .table) u)
-    accepts-okNote (of1 u) zero B l h = any refl
-    accepts-okNote (of1 u) (suc zero) B l h = one refl (λ r k. accepts-ok1 u r (h r k))
-    accepts-okNote (of1 u) (suc (suc k)) B l h = absurd h
-    accepts-okNote (of2 u) zero B l h = any refl
-    accepts-okNote (of2 u) (suc zero) B l h = absurd h
-    accepts-okNote (of2 u) (suc (suc k)) B l h = let e : suc (suc k) ≡ 2 = omega arith in two e (λ q n. accepts-ok2 u q (h q n))
+    pub accepts-okAnnotation : (u : Annotation) (k B : ℕ) → k ≤ 2 → AcceptsAnnotation (T .table) u k B → OkAnnotation F k B (decorateAnnotation (T .table) u)
+    accepts-okAnnotation (of1 u) zero B l h = any refl
+    accepts-okAnnotation (of1 u) (suc zero) B l h = one refl (λ r k. accepts-ok1 u r (h r k))
+    accepts-okAnnotation (of1 u) (suc (suc k)) B l h = absurd h
+    accepts-okAnnotation (of2 u) zero B l h = any refl
+    accepts-okAnnotation (of2 u) (suc zero) B l h = absurd h
+    accepts-okAnnotation (of2 u) (suc (suc k)) B l h = let e : suc (suc k) ≡ 2 = omega arith in two e (λ q n. accepts-ok2 u q (h q n))
 
   -- the guided walk of an accepted configuration arrives
   pub accepted-arrives : (c : Configuration) → c .control < P → accepts2 (T .table) (c .stack) (c .control) ≡ true

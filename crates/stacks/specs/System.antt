@@ -1,13 +1,13 @@
 -- Rules, configurations, one step and finite runs.
 -- Assumes nothing.
 use Prim.Native.Nat.{ℕ}
-use mathlib.Core.Bool.{Bool, true, false, _&&_}
+use mathlib.Core.Bool.{true, false, _&&_}
 use mathlib.Core.Path.{_≡_}
 use mathlib.Core.Option.{Option, none, some}
 use mathlib.Core.List.{List, [], _∷_}
 use lib.ListN.{getElem?}
 use lib.Dec.{eqb}
-use Rattle.stacks.specs.Stack.{Stack1, nil1, cons1, Stack2, nil2, cons2, Operation, after}
+use Rattle.stacks.specs.Stack.{nil1, cons1, Stack2, nil2, cons2, Operation, after}
 
 -- a control p and an order-2 stack
 pub record Configuration : Type 0 where

@@ -1,19 +1,18 @@
 -- Tables with zeros behind their last row: what the services leave in lent memory.
 -- Assumes nothing.
 use Prim.Native.Nat.{ℕ, zero, suc, _+_, _-_, _*_, _≤_}
-use mathlib.Core.Path.{_≡_, refl, ap, ap₂, sym, _∙_}
-use mathlib.Core.List.{List, [], _∷_, _++_}
-use native.Mathlib.Nat.{zero-mul, sub-zero, suc-mul, add-zero}
+use mathlib.Core.Path.{_≡_, ap, ap₂, sym, _∙_}
+use mathlib.Core.List.{List, _++_}
+use native.Mathlib.Nat.{sub-zero, suc-mul}
 use native.Mathlib.Numerals.{add-one}
 use native.Mathlib.Omega.{arith}
 use lib.ListN.{length, drop, replicate, length-replicate}
 use lib.Seq.{drop-drop, drop-nil}
 use Rattle.words.specs.Lists.{each}
-use Rattle.automata.specs.Automaton.{Automaton}
-use Rattle.services.specs.Memory.{zeros, padded, moveWords, entryWords, moveTable, entryTable}
+use Rattle.services.specs.Memory.{padded}
+use Rattle.words.specs.Lists.{zeros}
 use Rattle.tables.specs.Rows.{Layout, rowsIn, putRow}
-use Rattle.tables.specs.Rows.Laws.{length-rowsIn, length-putRow, drop-putRow, words-rowsIn, rowsIn-whole, length-each-words}
-use Rattle.tables.specs.Records.{moveRow, entryRow}
+use Rattle.tables.specs.Rows.Laws.{length-rowsIn, length-putRow, drop-putRow, rowsIn-whole, length-each-words}
 
 pub drop-zeros : (k n : ℕ) → drop k (zeros n) ≡ zeros (n - k)
 unfolding zeros
@@ -54,13 +53,3 @@ module _ {A : Type 0} (L : Layout A) where
       length-each-words L (rowsIn L n t) ∙ ap (λ (k : ℕ). k * L .width) (length-rowsIn L n t) in
       rowsIn-whole L n t h
       ∙ ap (λ (x : List ℕ). each (rowsIn L n t) (L .words) ++ x) (f .behind ∙ ap (λ (k : ℕ). zeros (length t - k)) (sym e))
-
--- ---- the tables that the services leave hold the automaton's moves and entries
-
-pub moveTable-read : (A : Automaton) (n : ℕ) → rowsIn moveRow (length (A .moves)) (padded n (moveTable A)) ≡ A .moves
-unfolding padded moveTable
-moveTable-read A n = words-rowsIn moveRow (A .moves) (zeros (n - length (each (A .moves) moveWords)))
-
-pub entryTable-read : (A : Automaton) (n : ℕ) → rowsIn entryRow (length (A .entries)) (padded n (entryTable A)) ≡ A .entries
-unfolding padded entryTable
-entryTable-read A n = words-rowsIn entryRow (A .entries) (zeros (n - length (each (A .entries) entryWords)))

@@ -16,7 +16,7 @@ use Rattle.tables.specs.Records.{moveRow, entryRow, edgeRow, asEntry}
 abbrev pub automatonOf : Table → List ℕ → List ℕ → List ℕ → Automaton
 automatonOf z inner entries moves =
     record {
-      J = z .states;
+      J = z .inner1;
       final1 = z .final1;
       final2 = z .final2;
       inner = rowsIn edgeRow (z .edges) inner;
@@ -28,7 +28,7 @@ automatonOf z inner entries moves =
 abbrev pub tableOf : Table → List ℕ → List ℕ → Automaton
 tableOf z entries moves =
     record {
-      J = z .states;
+      J = z .inner1;
       final1 = z .final1;
       final2 = z .final2;
       inner = [];
@@ -38,7 +38,7 @@ tableOf z entries moves =
 
 -- all its edges
 abbrev pub edgesIn : Table → List ℕ → List ℕ → List Edge
-edgesIn z inner entries = rowsIn edgeRow (z .edges) inner ++ entryEdges (z .states) (rowsIn entryRow (z .entries) entries)
+edgesIn z inner entries = rowsIn edgeRow (z .edges) inner ++ entryEdges (z .inner1) (rowsIn entryRow (z .entries) entries)
 
 -- the entry that was found
 abbrev pub foundEntry : Found → Option Entry
@@ -57,7 +57,7 @@ pub record EdgesStand (z : Table) (inner : List ℕ) : Type 0 where
 -- The entries are in the slice, and there are at most 64 order-1 states.
 pub record EntriesStand (z : Table) (entries : List ℕ) : Type 0 where
   pub entries-lent : z .entries * 2 ≤ length entries
-  pub states-few : z .states + z .entries ≤ 64
+  pub states-few : z .inner1 + z .entries ≤ 64
 
 -- The moves are in the slice.
 pub record MovesStand (z : Table) (moves : List ℕ) : Type 0 where

@@ -1,8 +1,7 @@
 -- The records of this crate: as records of the automaton, and as rows of words.
 -- Assumes nothing.
-use Prim.Native.Nat.{ℕ, _+_, _<_}
+use Prim.Native.Nat.{ℕ, _<_}
 use mathlib.Core.Path.{_≡_, refl}
-use mathlib.Core.List.{List, [], _∷_}
 use native.Mathlib.Omega.{arith}
 use lib.ListN.{length, getD}
 use Rattle.automata.specs.Automaton.{Move, Entry, Edge, choiceKey}
@@ -11,7 +10,7 @@ use Rattle.services.specs.Memory.{moveWords, entryWords}
 use Rattle.tables.specs.declared.Move.{Move as MoveWords}
 use Rattle.tables.specs.declared.Entry.{Entry as EntryWords}
 use Rattle.tables.specs.declared.Edge.{Edge as EdgeWords}
-use Rattle.tables.specs.declared.Outcome.{Outcome}
+use Rattle.tables.specs.declared.Result.{Result as ResultWords}
 use Rattle.tables.specs.Rows.{firstOf, Layout}
 
 -- ---- as records of the automaton
@@ -25,7 +24,7 @@ asEntry e = record { control = e .control; S = e .s }
 abbrev pub asEdge : EdgeWords → Edge
 asEdge e = record { state = e .state; first = e .first; S = e .s }
 
-abbrev pub asResult : Outcome → Result
+abbrev pub asResult : ResultWords → Result
 asResult x = record { control = x .control; S = x .s; symbol = x .symbol; order = x .order; B = x .b; R = x .r }
 
 -- ---- as rows of words

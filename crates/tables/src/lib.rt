@@ -37,7 +37,7 @@ pub struct Edge {
 }
 
 // A result: the move (symbol, order, B, R) of entry [p,S].
-pub struct Outcome {
+pub struct Result {
     pub control: u64,
     pub s: u64,
     pub symbol: u64,
@@ -49,7 +49,7 @@ pub struct Outcome {
 // An automaton whose inner edges, entries and moves stand in the first rows of three slices: the numbers of these rows, the number J of
 // inner order-1 states, and the final sets.
 pub struct Table {
-    pub states: u64,
+    pub inner1: u64,
     pub final1: u64,
     pub final2: u64,
     pub edges: usize,
@@ -121,12 +121,12 @@ pub fn edge_at(t: &[u64], i: usize) -> Edge
 }
 
 // The result in row i.
-pub fn result_at(t: &[u64], i: usize) -> Outcome
+pub fn result_at(t: &[u64], i: usize) -> Result
     requires { ⌜ i * 6 + 6 ≤ length (now t) ⌝ }
     ensures { λ x. ⌜ asResult x ≡ rowAt resultRow (now (t .entry)) i ⌝ }
 {
     let at = i * 6;
-    Outcome {
+    Result {
         control: t[at],
         s: t[at + 1],
         symbol: t[at + 2],
@@ -259,7 +259,7 @@ fn insert_row(t: &mut [u64], n: usize, room: usize, x: &[u64]) -> usize
 }
 
 // Inserts a result into the first n rows, as `insert_row` does. Where there was no room before, there is none now.
-pub fn insert_result(t: &mut [u64], n: usize, room: usize, x: Outcome) -> usize
+pub fn insert_result(t: &mut [u64], n: usize, room: usize, x: Result) -> usize
     requires { ⌜ (room * 6 ≤ length (now t)) × (n ≤ room + 1) ⌝ }
     ensures { λ r. ⌜ pendingIn room r (now (t .exit)) ≡ insertWithin room (asResult x) (pendingIn room n (now (t .entry))) ⌝ }
     ensures { λ r. ⌜ r ≤ room + 1 ⌝ }
@@ -296,7 +296,7 @@ pub fn edge_of(z: Table, inner: &[u64], entries: &[u64], n: usize) -> Edge
     let e = entry_at(entries, k);
     Edge {
         state: e.control,
-        first: z.states + k as u64,
+        first: z.inner1 + k as u64,
         s: e.s,
     }
 }
@@ -312,10 +312,10 @@ fn find_entry(z: Table, entries: &[u64], r: u64) -> Found
     requires { ⌜ EntriesStand z (now entries) ⌝ }
     ensures { λ f. ⌜ foundEntry f ≡ entryAt (tableOf z (now (entries .entry)) []) r ⌝ }
 {
-    if r < z.states {
+    if r < z.inner1 {
         return Found::Nothing;
     }
-    let k = (r - z.states) as usize;
+    let k = (r - z.inner1) as usize;
     if z.entries <= k {
         return Found::Nothing;
     }

@@ -1,9 +1,9 @@
 -- The guided run on cells: the choices of the start's cells, one step, the full run, and the halt for c cells and t trace words.
 -- Assumes nothing.
-use Prim.Native.Nat.{ℕ, zero, suc, _+_, _-_}
-use mathlib.Core.Bool.{Bool, true, false}
+use Prim.Native.Nat.{ℕ, zero, suc, _-_}
+use mathlib.Core.Bool.{true, false}
 use mathlib.Core.Option.{Option, none, some}
-use mathlib.Core.List.{List, [], _∷_, _++_, map, zipWith}
+use mathlib.Core.List.{List, [], _∷_, _++_, zipWith}
 use lib.ListN.{length, getD, getElem?}
 use lib.Dec.{eqb, ltb, leb}
 use Rattle.words.specs.Sets.{members}
@@ -38,17 +38,17 @@ pub record Walk : Type 0 where
   pub cells : List Guided
 
 -- the first number of a list
-unfoldable pub least : List ℕ → ℕ
-least [] = 0
-least (n ∷ ns) = n
+unfoldable pub firstOrZero : List ℕ → ℕ
+firstOrZero [] = 0
+firstOrZero (n ∷ ns) = n
 
--- "Each cell and each state accepting it gets the choice of least number: the edge with least order-1 state, then least S; the least
+-- "Each cell and each state accepting it gets the choice of firstOrZero number: the edge with firstOrZero order-1 state, then firstOrZero S; the firstOrZero
 -- move." (0 where no state asks.)
 unfoldable pub leastChoice : Automaton → Annotation → ℕ → ℕ
 leastChoice A (of1 nil1) r = 0
-leastChoice A (of1 (cons1 a u s)) r = least (only (λ i. moveFits A u s (moveAt A i)) (movesOf A r a))
+leastChoice A (of1 (cons1 a u s)) r = firstOrZero (only (λ i. moveFits A u s (moveAt A i)) (movesOf A r a))
 leastChoice A (of2 nil2) q = 0
-leastChoice A (of2 (cons2 w t)) q = least (only (λ e. edgeFits A w t (edgeAt A e)) (edgesOf A q))
+leastChoice A (of2 (cons2 w t)) q = firstOrZero (only (λ e. edgeFits A w t (edgeAt A e)) (edgesOf A q))
 
 -- "All start cells are taken first."
 unfoldable pub startWalk : Automaton → List Cell → ℕ → ℕ → Walk
@@ -73,7 +73,7 @@ choosesAll (q ∷ qs) (n ∷ ns) x = elim (eqb q x) [ true ↦ n | false ↦ cho
 module _ (A : Automaton) (d : Derivation) (p′ : ℕ) where
   -- the first number of the premise: a move's or an entry's
   unfoldable pub premise : ℕ
-  premise = least (d .premise)
+  premise = firstOrZero (d .premise)
 
   -- the new top symbol chooses the premise for its entry
   unfoldable pub topChoice : ℕ → ℕ
@@ -167,32 +167,32 @@ module _ (rules : List Rule) (T : Saturated) where
   traceAfter (suc m) w = elim (next w) [ arrived ↦ [] | to n v ↦ n ∷ traceAfter m v | stuck ↦ [] ]
 
 -- what a walk answers, and the rule numbers that it has written
-pub record Outcome : Type 0 where
+pub record Report : Type 0 where
   pub reply : Reply
   pub trace : List ℕ
 
 unfoldable pub counts : List ℕ → Walk → Counts
 counts trace w = record { steps = length trace; cells = length (w .cells) }
 
-unfoldable pub outcome : Halt → List ℕ → Outcome
-outcome h trace = record { reply = Walked h; trace = trace }
+unfoldable pub walkedBy : Halt → List ℕ → Report
+walkedBy h trace = record { reply = Walked h; trace = trace }
 
-unfoldable pub noOutcome : Outcome
-noOutcome = record { reply = NoRun; trace = [] }
+unfoldable pub noRun : Report
+noRun = record { reply = NoRun; trace = [] }
 
 module _ (rules : List Rule) (T : Saturated) (c : ℕ) where
   -- "A walk is tested for arrival first, then trace, then cells": with t trace words left, these written already.
-  unfoldable pub guided : ℕ → List ℕ → Walk → Outcome
+  unfoldable pub guided : ℕ → List ℕ → Walk → Report
   guided zero trace w = elim (next rules T w) [
-    | arrived ↦ outcome (Arrived (counts trace w)) trace
-    | to n v ↦ outcome (TraceFull (counts trace w)) trace
-    | stuck ↦ noOutcome
+    | arrived ↦ walkedBy (Arrived (counts trace w)) trace
+    | to n v ↦ walkedBy (TraceFull (counts trace w)) trace
+    | stuck ↦ noRun
   ]
   guided (suc t) trace w = elim (next rules T w) [
-    | arrived ↦ outcome (Arrived (counts trace w)) trace
+    | arrived ↦ walkedBy (Arrived (counts trace w)) trace
     | to n v ↦ elim (leb (length (v .cells)) c) [
       | true ↦ guided t (trace ++ (n ∷ [])) v
-      | false ↦ outcome (CellsShort (counts trace w)) trace
+      | false ↦ walkedBy (CellsShort (counts trace w)) trace
     ]
-    | stuck ↦ noOutcome
+    | stuck ↦ noRun
   ]

@@ -10,7 +10,7 @@ use Rattle.automata.specs.Automaton.{Automaton}
 use Rattle.automata.specs.Saturation.{Saturated, saturate}
 use Rattle.replies.specs.declared.Halt.the-variants.{Arrived}
 use Rattle.walks.specs.Cell.{Cell, empty1, symbol, empty2, above}
-use Rattle.walks.specs.Guide.{Outcome, outcome, noOutcome, startWalk, guided}
+use Rattle.walks.specs.Guide.{Report, walkedBy, noRun, startWalk, guided}
 use Rattle.walks.specs.Computing.{computed}
 
 -- Model C with entry [0,empty] in the file, so that it is numbered before [0,{1}]: the target is control 1 on symbol 0; rule 0 copies
@@ -37,13 +37,13 @@ unfoldable pub cellsCircle : List Cell
 cellsCircle = empty1 ∷ symbol 0 0 0 ∷ empty2 ∷ above 1 2 ∷ []
 
 -- the walk from control 0 with so many cells and trace words, on the saturated table
-unfoldable pub walkCircle : ℕ → ℕ → Option Saturated → Outcome
-walkCircle c t none = noOutcome
+unfoldable pub walkCircle : ℕ → ℕ → Option Saturated → Report
+walkCircle c t none = noRun
 walkCircle c t (some T) = guided rulesCircle T c t [] (startWalk (T .table) cellsCircle 0 3)
 
 -- The least choice at the start is the copy, by entry [0,empty]. The copy's new cells keep the choice of its derivation, so the next step
 -- is the pop; the least choice afresh would be the copy again.
 pub arrives : walkCircle 40 6 (saturate rulesCircle (record { moves = 9; entries = 9 }) ownCircle)
-    ≡ outcome (Arrived (record { steps = 2; cells = 8 })) (0 ∷ 1 ∷ [])
+    ≡ walkedBy (Arrived (record { steps = 2; cells = 8 })) (0 ∷ 1 ∷ [])
 unfolding computed rulesCircle ownCircle cellsCircle walkCircle
 arrives = refl

@@ -1,7 +1,7 @@
 -- `acceptance::annotation_order` meets its contract.
 -- Assumes nothing.
 use Rattle.cell_memory.specs.Memory.{cellOf}
-use Rattle.acceptance.specs.Cells.{annotationOrder}
+use Rattle.acceptance.specs.Cells.{annotationOrderAt}
 use borrow.Author.Needs.{needs}
 use Rattle.acceptance.proofs.annotation_order.Statement.{statement}
 use Rattle.acceptance.proofs.annotation_order.Tie as tie
@@ -25,19 +25,19 @@ enum-told-3 : tie.Need-enum-told-3
 enum-told-3 c = search needs
 
 returns : tie.Need-returns
-unfolding annotationOrder cellOf
+unfolding annotationOrderAt cellOf
 returns c = rw (c .enum-told .given .1)
 
 returns-2 : tie.Need-returns-2
-unfolding annotationOrder cellOf
+unfolding annotationOrderAt cellOf
 returns-2 c = rw (c .before .before .cell .given .1) (c .order-at .ensures)
 
 returns-3 : tie.Need-returns-3
-unfolding annotationOrder cellOf
+unfolding annotationOrderAt cellOf
 returns-3 c = rw (c .enum-told2 .given .1)
 
 returns-4 : tie.Need-returns-4
-unfolding annotationOrder cellOf
+unfolding annotationOrderAt cellOf
 returns-4 c = rw (c .enum-told3 .given .1)
 
 pub annotation-order-spec : {M : Type 1} → statement M

@@ -5,13 +5,14 @@ use borrow.Author.Needs.{needs}
 use Rattle.tables.specs.Held.{automatonOf}
 use Rattle.acceptance.specs.Cells.{cellWords}
 use Rattle.acceptance.specs.Cells.Body.{cellsIn, words-more, words-all}
-use Rattle.acceptance.specs.Written.{Written, written-none}
+use Rattle.acceptance.specs.WrittenBelow.{WrittenBelow}
+use Rattle.acceptance.specs.WrittenBelow.Laws.{written-none}
 use Rattle.acceptance.proofs.fill_words.Statement.{statement}
 use Rattle.acceptance.proofs.fill_words.Tie as tie
 
 abbrev Inv-loop : tie.InvT-loop
 Inv-loop z inner entries moves body n words₀ i₀ words i =
-    (i ≤ n) × Written (cellWords (automatonOf z inner entries moves) (cellsIn n body)) words₀ words i
+    (i ≤ n) × WrittenBelow (cellWords (automatonOf z inner entries moves) (cellsIn n body)) words₀ words i
 
 abbrev μ-loop : tie.MeasureT-loop
 μ-loop z inner entries moves body n words₀ i₀ words i = n - i

@@ -12,8 +12,8 @@ returns : tie.Need-returns
 unfolding moveMet
 returns c = let a = c .before .before .args in not-first _ _ refl (not-first _ _ refl (sym (ne-eqb (a .m .symbol) (a .a) (c .if1 .taken))))
 
-note-met-requires : tie.Need-note-met-requires
-note-met-requires c κs = search needs
+annotation-met-requires : tie.Need-annotation-met-requires
+annotation-met-requires c κs = search needs
 
 part-of-requires : tie.Need-part-of-requires
 part-of-requires c κs = search needs
@@ -23,7 +23,7 @@ unfolding moveMet
 returns-2 c =
     let a = c .before .before .before .before .before .args in
     both _ _ (c .before .if2 .taken)
-    (both _ _ refl (sym (eq-eqb (a .m .symbol) (a .a) (c .before .before .before .if1 .left))) (c .before .before .note-met .ensures))
+    (both _ _ refl (sym (eq-eqb (a .m .symbol) (a .a) (c .before .before .before .if1 .left))) (c .before .before .annotation-met .ensures))
     (c .part-of .ensures)
 
 returns-3 : tie.Need-returns-3
@@ -31,7 +31,7 @@ unfolding moveMet
 returns-3 c =
     let a = c .before .before .before .before .args in
     not-first _ _ (c .if2 .left)
-    (both _ _ refl (sym (eq-eqb (a .m .symbol) (a .a) (c .before .before .if1 .left))) (c .before .note-met .ensures))
+    (both _ _ refl (sym (eq-eqb (a .m .symbol) (a .a) (c .before .before .if1 .left))) (c .before .annotation-met .ensures))
 
 pub move-met-spec : {M : Type 1} → statement M
-move-met-spec = tie.close (tie.spec returns note-met-requires part-of-requires returns-2 returns-3)
+move-met-spec = tie.close (tie.spec returns annotation-met-requires part-of-requires returns-2 returns-3)

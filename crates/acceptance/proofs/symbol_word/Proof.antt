@@ -9,17 +9,17 @@ use Rattle.tables.specs.Rows.Laws.{length-rowsIn}
 use Rattle.tables.specs.Records.{moveRow}
 use Rattle.acceptance.specs.Words.{moveMet, statesMet}
 use Rattle.acceptance.specs.Words.Turns.{states-none, states-more, states-all}
-use Rattle.acceptance.specs.Named.{move-small, move-row}
+use Rattle.acceptance.specs.Named.Laws.{move-small, move-row}
 use borrow.Author.Needs.{needs}
 use Rattle.acceptance.proofs.symbol_word.Statement.{statement}
 use Rattle.acceptance.proofs.symbol_word.Tie as tie
 
 abbrev Inv-loop : tie.InvT-loop
-Inv-loop moves a k note rest n word₀ i₀ word i =
-    (i ≤ n) × (word ≡ statesMet (λ m. m .state) (moveMet a k note rest) (take i (rowsIn moveRow n moves)))
+Inv-loop moves a k annotation rest n word₀ i₀ word i =
+    (i ≤ n) × (word ≡ statesMet (λ m. m .state) (moveMet a k annotation rest) (take i (rowsIn moveRow n moves)))
 
 abbrev μ-loop : tie.MeasureT-loop
-μ-loop moves a k note rest n word₀ i₀ word i = n - i
+μ-loop moves a k annotation rest n word₀ i₀ word i = n - i
 
 loop-holds : tie.Need-loop-holds Inv-loop μ-loop
 loop-holds c = (search needs, states-none _ _)

@@ -7,7 +7,6 @@ use native.Mathlib.Omega.{arith}
 use lib.ListN.{length, getD, take, List·getD-eq-default}
 use lib.Seq.{getD-take, length-take-le}
 use Rattle.automata.specs.Automaton.{Automaton, edges}
-use Rattle.walks.specs.Cell as walks
 use Rattle.cell_memory.specs.declared.Cell.{Cell}
 use Rattle.cell_memory.specs.declared.Cell.the-variants.{Empty1, Symbol, Empty2, Above}
 use Rattle.cell_memory.specs.Memory.{cellOf}
@@ -31,8 +30,8 @@ module _ (A : Automaton) (k : ℕ) (ws : List ℕ) (c : Cell) where
   unfolding wordBy cellOf
   by-empty1 e = rw e
 
-  pub by-symbol : (a u s : ℕ) {note rest r : ℕ} → c ≡ Symbol a u s → note ≡ getD ws u 0 → rest ≡ getD ws s 0
-      → r ≡ statesMet (λ m. m .state) (moveMet a k note rest) (A .moves) → r ≡ wordBy A k ws (cellOf c)
+  pub by-symbol : (a u s : ℕ) {annotation rest r : ℕ} → c ≡ Symbol a u s → annotation ≡ getD ws u 0 → rest ≡ getD ws s 0
+      → r ≡ statesMet (λ m. m .state) (moveMet a k annotation rest) (A .moves) → r ≡ wordBy A k ws (cellOf c)
   unfolding wordBy cellOf
   by-symbol a u s e f g h = rw (e, ← f, ← g) h
 

@@ -8,12 +8,13 @@ use lib.Dec.{eqb}
 use Rattle.words.specs.Sets.{member, partOf, members}
 use Rattle.words.specs.Sets.Laws.{member-join, member-empty, member-single, has-in, in-has, part-has, has-part}
 use Rattle.words.specs.Lists.{only, every, some-of}
-use Rattle.words.specs.Lists.Laws.{by-test, every-in, in-every, only-yes, only-no, some-of-cons}
+use Rattle.words.specs.Lists.Laws.{every-in, in-every, only-yes, only-no, some-of-cons}
+use Rattle.words.specs.Tests.{by-test}
 use Rattle.stacks.specs.Stack.{Stack1, nil1, cons1, Stack2, nil2, cons2, Annotation, of1, of2}
 use Rattle.automata.specs.Automaton.{Automaton, edges}
-use Rattle.automata.specs.Acceptance.{accepts1, accepts2, acceptsNote}
-use Rattle.walks.specs.Cell.Laws.{noteOrder}
-use Rattle.acceptance.specs.Words.{noteMet, moveMet, edgeMet, statesMet, word1, word2, wordNote}
+use Rattle.automata.specs.Acceptance.{accepts1, accepts2, acceptsAnnotation}
+use Rattle.walks.specs.Cell.Laws.{annotationOrder}
+use Rattle.acceptance.specs.Words.{annotationMet, moveMet, edgeMet, statesMet, word1, word2, wordAnnotation}
 
 -- two tests that hold together are equal
 pub equal-tests : (x y : Bool) → (x ≡ true → y ≡ true) → (y ≡ true → x ≡ true) → x ≡ y
@@ -51,11 +52,11 @@ module _ {X : Type 0} (state : X → ℕ) (met : X → Bool) where
 
 -- ---- the words of stacks
 
-reorder : (own read note rest : Bool) → (read && note && rest) && own ≡ (own && read) && (note && rest)
-reorder true true note rest = and-true (note && rest)
-reorder true false note rest = refl
-reorder false true note rest = and-false (note && rest)
-reorder false false note rest = refl
+reorder : (own read annotation rest : Bool) → (read && annotation && rest) && own ≡ (own && read) && (annotation && rest)
+reorder true true annotation rest = and-true (annotation && rest)
+reorder true false annotation rest = refl
+reorder false true annotation rest = and-false (annotation && rest)
+reorder false false annotation rest = refl
 
 and-swap : (x y : Bool) → x && y ≡ y && x
 and-swap true y = sym (and-true y)
@@ -63,15 +64,15 @@ and-swap false y = sym (and-false y)
 
 -- one symbol, given its annotation and its rest
 move-member : (A : Automaton) (a : ℕ) (u : Annotation) (s : Stack1)
-    → ((o B : ℕ) → noteMet (noteOrder u) (wordNote A u) o B ≡ acceptsNote A u o B) → ((q : ℕ) → member (word1 A s) q ≡ accepts1 A s q)
+    → ((o B : ℕ) → annotationMet (annotationOrder u) (wordAnnotation A u) o B ≡ acceptsAnnotation A u o B) → ((q : ℕ) → member (word1 A s) q ≡ accepts1 A s q)
     → (r : ℕ) → member (word1 A (cons1 a u s)) r ≡ accepts1 A (cons1 a u s) r
 unfolding word1 accepts1 moveMet
-move-member A a u s note rest r =
-    statesMet-member (λ m. m .state) (moveMet a (noteOrder u) (wordNote A u) (word1 A s))
+move-member A a u s annotation rest r =
+    statesMet-member (λ m. m .state) (moveMet a (annotationOrder u) (wordAnnotation A u) (word1 A s))
     (λ m. eqb (m .state) r && eqb (m .symbol) a)
-    (λ m. acceptsNote A u (m .order) (m .B) && every (λ q. accepts1 A s q) (members (m .R))) r
+    (λ m. acceptsAnnotation A u (m .order) (m .B) && every (λ q. accepts1 A s q) (members (m .R))) r
     (λ m. reorder (eqb (m .state) r) (eqb (m .symbol) a) _ _
-    ∙ ap₂ (λ (x y : Bool). (eqb (m .state) r && eqb (m .symbol) a) && (x && y)) (note (m .order) (m .B))
+    ∙ ap₂ (λ (x y : Bool). (eqb (m .state) r && eqb (m .symbol) a) && (x && y)) (annotation (m .order) (m .B))
     (every-part (m .R) (word1 A s) (λ q. accepts1 A s q) rest)) (A .moves)
 
 -- one order-1 stack on an order-2 stack
@@ -87,21 +88,21 @@ edge-member A w t top rest q =
     (every-part (e .S) (word2 A t) (λ x. accepts2 A t x) rest)) (edges A)
 
 mutual
-  unfolding word1 accepts1 noteMet noteOrder
+  unfolding word1 accepts1 annotationMet annotationOrder
 
   pub word1-member : (A : Automaton) (s : Stack1) (r : ℕ) → member (word1 A s) r ≡ accepts1 A s r
   word1-member A nil1 r = refl
   word1-member A (cons1 a u s) r =
-      move-member A a u s (λ o B. note-met A u o B) (λ q. word1-member A s q) r
+      move-member A a u s (λ o B. annotation-met A u o B) (λ q. word1-member A s q) r
 
   pub word2-member : (A : Automaton) (t : Stack2) (q : ℕ) → member (word2 A t) q ≡ accepts2 A t q
   word2-member A nil2 q = refl
   word2-member A (cons2 w t) q = edge-member A w t (λ r. word1-member A w r) (λ x. word2-member A t x) q
 
-  pub note-met : (A : Automaton) (u : Annotation) (o B : ℕ) → noteMet (noteOrder u) (wordNote A u) o B ≡ acceptsNote A u o B
-  note-met A (of1 u) zero B = refl
-  note-met A (of1 u) (suc zero) B = every-part B (word1 A u) (accepts1 A u) (λ q. word1-member A u q)
-  note-met A (of1 u) (suc (suc o)) B = refl
-  note-met A (of2 u) zero B = refl
-  note-met A (of2 u) (suc zero) B = refl
-  note-met A (of2 u) (suc (suc o)) B = every-part B (word2 A u) (accepts2 A u) (λ q. word2-member A u q)
+  pub annotation-met : (A : Automaton) (u : Annotation) (o B : ℕ) → annotationMet (annotationOrder u) (wordAnnotation A u) o B ≡ acceptsAnnotation A u o B
+  annotation-met A (of1 u) zero B = refl
+  annotation-met A (of1 u) (suc zero) B = every-part B (word1 A u) (accepts1 A u) (λ q. word1-member A u q)
+  annotation-met A (of1 u) (suc (suc o)) B = refl
+  annotation-met A (of2 u) zero B = refl
+  annotation-met A (of2 u) (suc zero) B = refl
+  annotation-met A (of2 u) (suc (suc o)) B = every-part B (word2 A u) (accepts2 A u) (λ q. word2-member A u q)

@@ -11,21 +11,21 @@ use lib.Seq.{take-suc, take-all}
 use lib.Dec.{eqb}
 use Rattle.words.specs.Sets.{join, single, partOf}
 use Rattle.words.specs.Sets.Laws.{join-comm, join-assoc}
-use Rattle.words.specs.Lists.Laws.{by-test}
-use Rattle.acceptance.specs.Words.{noteMet, statesMet, withState}
+use Rattle.words.specs.Tests.{by-test}
+use Rattle.acceptance.specs.Words.{annotationMet, statesMet, withState}
 
 -- ---- an annotation
 
-pub noteMet-first : (k note o B : ℕ) → o ≡ 1 → noteMet k note o B ≡ eqb k 1 && partOf B note
-unfolding noteMet
-noteMet-first k note o B e = rw e
+pub annotationMet-first : (k annotation o B : ℕ) → o ≡ 1 → annotationMet k annotation o B ≡ eqb k 1 && partOf B annotation
+unfolding annotationMet
+annotationMet-first k annotation o B e = rw e
 
 -- every order but 0 and 1
-pub noteMet-second : (k note o B : ℕ) → (o ≡ 0 → ⊥) → (o ≡ 1 → ⊥) → noteMet k note o B ≡ eqb k 2 && partOf B note
-unfolding noteMet
-noteMet-second k note zero B f g = absurd (f refl)
-noteMet-second k note (suc zero) B f g = absurd (g refl)
-noteMet-second k note (suc (suc o)) B f g = refl
+pub annotationMet-second : (k annotation o B : ℕ) → (o ≡ 0 → ⊥) → (o ≡ 1 → ⊥) → annotationMet k annotation o B ≡ eqb k 2 && partOf B annotation
+unfolding annotationMet
+annotationMet-second k annotation zero B f g = absurd (f refl)
+annotationMet-second k annotation (suc zero) B f g = absurd (g refl)
+annotationMet-second k annotation (suc (suc o)) B f g = refl
 
 -- two tests one after the other
 pub both : (x y : Bool) {a b : Bool} → a ≡ true → a ≡ x → b ≡ y → b ≡ x && y

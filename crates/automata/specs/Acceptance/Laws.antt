@@ -15,8 +15,7 @@ use Rattle.words.specs.Lists.Laws.{only-in, only-out, every-in, in-every, some-
 use Rattle.stacks.specs.Stack.{Stack1, nil1, cons1, Stack2, nil2, cons2, Annotation, of1, of2}
 use Rattle.automata.specs.Automaton.{Automaton, Move, Edge, noMove, noEdge, edges, edgeAt, moveAt, edgesOf, movesOf}
 use Rattle.automata.specs.Automaton.Laws.{MoveOf, EdgeOf, movesOf-in, movesOf-out, edgesOf-in, edgesOf-out}
-pub use Rattle.automata.specs.Automaton.Laws.{length-entryEdges, entryEdges-at, length-edges, edgeAt-inner, edge-cases, entry-edge}
-use Rattle.automata.specs.Acceptance.{accepts1, accepts2, acceptsNote, moveFits, edgeFits}
+use Rattle.automata.specs.Acceptance.{accepts1, accepts2, acceptsAnnotation, moveFits, edgeFits}
 use Rattle.automata.specs.Facts.{Extends}
 use Rattle.automata.specs.Facts.Laws.{moveAt-kept, moveOf-kept, edgeAt-kept, edgeOf-kept}
 
@@ -26,7 +25,7 @@ use Rattle.automata.specs.Facts.Laws.{moveAt-kept, moveOf-kept, edgeAt-k
 pub record ByMove (A : Automaton) (a r : ℕ) (Note : ℕ → ℕ → Type 0) (Rest : ℕ → Type 0) : Type 0 where
   pub number : ℕ
   pub move : MoveOf A a r number
-  pub note : Note (moveAt A number .order) (moveAt A number .B)
+  pub annotation : Note (moveAt A number .order) (moveAt A number .B)
   pub rest : All (moveAt A number .R) Rest
 
 -- An edge of q whose order-1 state meets First and whose set's members meet Rest.
@@ -40,25 +39,25 @@ module _ (A : Automaton) where
   unfoldable mutual
     pub Accepts1 : Stack1 → ℕ → Type 0
     Accepts1 nil1 r = Has (A .final1) r
-    Accepts1 (cons1 a u s) r = ByMove A a r (λ k B. AcceptsNote u k B) (λ q. Accepts1 s q)
+    Accepts1 (cons1 a u s) r = ByMove A a r (λ k B. AcceptsAnnotation u k B) (λ q. Accepts1 s q)
 
     pub Accepts2 : Stack2 → ℕ → Type 0
     Accepts2 nil2 q = Has (A .final2) q
     Accepts2 (cons2 w t) q = ByEdge A q (λ r. Accepts1 w r) (λ x. Accepts2 t x)
 
-    pub AcceptsNote : Annotation → ℕ → ℕ → Type 0
-    AcceptsNote (of1 u) zero B = Unit {0}
-    AcceptsNote (of1 u) (suc zero) B = All B (λ q. Accepts1 u q)
-    AcceptsNote (of1 u) (suc (suc k)) B = ⊥
-    AcceptsNote (of2 u) zero B = Unit {0}
-    AcceptsNote (of2 u) (suc zero) B = ⊥
-    AcceptsNote (of2 u) (suc (suc k)) B = All B (λ q. Accepts2 u q)
+    pub AcceptsAnnotation : Annotation → ℕ → ℕ → Type 0
+    AcceptsAnnotation (of1 u) zero B = Unit {0}
+    AcceptsAnnotation (of1 u) (suc zero) B = All B (λ q. Accepts1 u q)
+    AcceptsAnnotation (of1 u) (suc (suc k)) B = ⊥
+    AcceptsAnnotation (of2 u) zero B = Unit {0}
+    AcceptsAnnotation (of2 u) (suc zero) B = ⊥
+    AcceptsAnnotation (of2 u) (suc (suc k)) B = All B (λ q. Accepts2 u q)
 
 -- at order 0 a move asks nothing of the annotation
-pub note-any : (A : Automaton) (u : Annotation) (k B : ℕ) → k ≡ 0 → AcceptsNote A u k B
+pub annotation-any : (A : Automaton) (u : Annotation) (k B : ℕ) → k ≡ 0 → AcceptsAnnotation A u k B
 unfolding Accepts1
-note-any A (of1 u) k B e = rw e tt
-note-any A (of2 u) k B e = rw e tt
+annotation-any A (of1 u) k B e = rw e tt
+annotation-any A (of2 u) k B e = rw e tt
 
 -- ---- the tests and the meaning
 
@@ -90,13 +89,13 @@ module _ (A : Automaton) where
     accepts1-out (cons1 a u s) r e =
         let (i, j, g) = some-only-out (λ m. eqb (m .state) r && eqb (m .symbol) a) (moveFits A u s) (A .moves) noMove e in
         let m : Move = moveAt A i in
-        let note : Bool = acceptsNote A u (m .order) (m .B) in
+        let annotation : Bool = acceptsAnnotation A u (m .order) (m .B) in
         let rest : Bool = every (λ q. accepts1 A s q) (members (m .R)) in
         record {
           number = i;
           move = movesOf-out A r a j;
-          note = acceptsNote-out u (m .order) (m .B) (and-left note rest g);
-          rest = λ q k. accepts1-out s q (all-out (m .R) (λ x. accepts1 A s x) (and-right note rest g) q k);
+          annotation = acceptsAnnotation-out u (m .order) (m .B) (and-left annotation rest g);
+          rest = λ q k. accepts1-out s q (all-out (m .R) (λ x. accepts1 A s x) (and-right annotation rest g) q k);
         }
 
     pub accepts2-out : (t : Stack2) (q : ℕ) → accepts2 A t q ≡ true → Accepts2 A t q
@@ -113,13 +112,13 @@ module _ (A : Automaton) where
           rest = λ y k. accepts2-out t y (all-out (x .S) (λ z. accepts2 A t z) (and-right top rest g) y k);
         }
 
-    pub acceptsNote-out : (u : Annotation) (k B : ℕ) → acceptsNote A u k B ≡ true → AcceptsNote A u k B
-    acceptsNote-out (of1 u) zero B e = tt
-    acceptsNote-out (of1 u) (suc zero) B e = λ q h. accepts1-out u q (all-out B (λ x. accepts1 A u x) e q h)
-    acceptsNote-out (of1 u) (suc (suc k)) B e = absurd (false≢true e)
-    acceptsNote-out (of2 u) zero B e = tt
-    acceptsNote-out (of2 u) (suc zero) B e = absurd (false≢true e)
-    acceptsNote-out (of2 u) (suc (suc k)) B e = λ q h. accepts2-out u q (all-out B (λ x. accepts2 A u x) e q h)
+    pub acceptsAnnotation-out : (u : Annotation) (k B : ℕ) → acceptsAnnotation A u k B ≡ true → AcceptsAnnotation A u k B
+    acceptsAnnotation-out (of1 u) zero B e = tt
+    acceptsAnnotation-out (of1 u) (suc zero) B e = λ q h. accepts1-out u q (all-out B (λ x. accepts1 A u x) e q h)
+    acceptsAnnotation-out (of1 u) (suc (suc k)) B e = absurd (false≢true e)
+    acceptsAnnotation-out (of2 u) zero B e = tt
+    acceptsAnnotation-out (of2 u) (suc zero) B e = absurd (false≢true e)
+    acceptsAnnotation-out (of2 u) (suc (suc k)) B e = λ q h. accepts2-out u q (all-out B (λ x. accepts2 A u x) e q h)
 
   mutual
     unfolding accepts1 Accepts1 moveFits edgeFits moveAt edgeAt movesOf edgesOf
@@ -129,7 +128,7 @@ module _ (A : Automaton) where
     accepts1-in (cons1 a u s) r x =
         let m : Move = moveAt A (x .number) in
         some-only-in (λ z. eqb (z .state) r && eqb (z .symbol) a) (moveFits A u s) (A .moves) noMove (x .number) (movesOf-in A (x .move))
-        (ap₂ _&&_ (acceptsNote-in u (m .order) (m .B) (x .note)) (all-in (m .R) (λ q. accepts1 A s q) (λ q h. accepts1-in s q (x .rest q h))))
+        (ap₂ _&&_ (acceptsAnnotation-in u (m .order) (m .B) (x .annotation)) (all-in (m .R) (λ q. accepts1 A s q) (λ q h. accepts1-in s q (x .rest q h))))
 
     pub accepts2-in : (t : Stack2) (q : ℕ) → Accepts2 A t q → accepts2 A t q ≡ true
     accepts2-in nil2 q x = x .has
@@ -138,25 +137,25 @@ module _ (A : Automaton) where
         some-only-in (λ z. eqb (z .state) q) (edgeFits A w t) (edges A) noEdge (x .number) (edgesOf-in A (x .edge))
         (ap₂ _&&_ (accepts1-in w (y .first) (x .first)) (all-in (y .S) (λ z. accepts2 A t z) (λ z h. accepts2-in t z (x .rest z h))))
 
-    pub acceptsNote-in : (u : Annotation) (k B : ℕ) → AcceptsNote A u k B → acceptsNote A u k B ≡ true
-    acceptsNote-in (of1 u) zero B x = refl
-    acceptsNote-in (of1 u) (suc zero) B x = all-in B (λ q. accepts1 A u q) (λ q h. accepts1-in u q (x q h))
-    acceptsNote-in (of1 u) (suc (suc k)) B x = absurd x
-    acceptsNote-in (of2 u) zero B x = refl
-    acceptsNote-in (of2 u) (suc zero) B x = absurd x
-    acceptsNote-in (of2 u) (suc (suc k)) B x = all-in B (λ q. accepts2 A u q) (λ q h. accepts2-in u q (x q h))
+    pub acceptsAnnotation-in : (u : Annotation) (k B : ℕ) → AcceptsAnnotation A u k B → acceptsAnnotation A u k B ≡ true
+    acceptsAnnotation-in (of1 u) zero B x = refl
+    acceptsAnnotation-in (of1 u) (suc zero) B x = all-in B (λ q. accepts1 A u q) (λ q h. accepts1-in u q (x q h))
+    acceptsAnnotation-in (of1 u) (suc (suc k)) B x = absurd x
+    acceptsAnnotation-in (of2 u) zero B x = refl
+    acceptsAnnotation-in (of2 u) (suc zero) B x = absurd x
+    acceptsAnnotation-in (of2 u) (suc (suc k)) B x = all-in B (λ q. accepts2 A u q) (λ q h. accepts2-in u q (x q h))
 
   -- the annotation and the rest are as the move asks, exactly if the test says so; the same of an edge
-  pub moveFits-out : (u : Annotation) (s : Stack1) (m : Move) → moveFits A u s m ≡ true → AcceptsNote A u (m .order) (m .B) × All (m .R) (Accepts1 A s)
+  pub moveFits-out : (u : Annotation) (s : Stack1) (m : Move) → moveFits A u s m ≡ true → AcceptsAnnotation A u (m .order) (m .B) × All (m .R) (Accepts1 A s)
   unfolding moveFits
   moveFits-out u s m e =
-      let note : Bool = acceptsNote A u (m .order) (m .B) in
+      let annotation : Bool = acceptsAnnotation A u (m .order) (m .B) in
       let rest : Bool = every (λ q. accepts1 A s q) (members (m .R)) in
-      (acceptsNote-out u (m .order) (m .B) (and-left note rest e), λ q h. accepts1-out s q (all-out (m .R) (λ x. accepts1 A s x) (and-right note rest e) q h))
+      (acceptsAnnotation-out u (m .order) (m .B) (and-left annotation rest e), λ q h. accepts1-out s q (all-out (m .R) (λ x. accepts1 A s x) (and-right annotation rest e) q h))
 
-  pub moveFits-in : (u : Annotation) (s : Stack1) (m : Move) → AcceptsNote A u (m .order) (m .B) → All (m .R) (Accepts1 A s) → moveFits A u s m ≡ true
+  pub moveFits-in : (u : Annotation) (s : Stack1) (m : Move) → AcceptsAnnotation A u (m .order) (m .B) → All (m .R) (Accepts1 A s) → moveFits A u s m ≡ true
   unfolding moveFits
-  moveFits-in u s m x y = ap₂ _&&_ (acceptsNote-in u (m .order) (m .B) x) (all-in (m .R) (λ q. accepts1 A s q) (λ q h. accepts1-in s q (y q h)))
+  moveFits-in u s m x y = ap₂ _&&_ (acceptsAnnotation-in u (m .order) (m .B) x) (all-in (m .R) (λ q. accepts1 A s q) (λ q h. accepts1-in s q (y q h)))
 
   pub edgeFits-out : (w : Stack1) (t : Stack2) (e : Edge) → edgeFits A w t e ≡ true → Accepts1 A w (e .first) × All (e .S) (Accepts2 A t)
   unfolding edgeFits
@@ -182,7 +181,7 @@ module _ {own A : Automaton} (X : Extends own A) where
         record {
           number = x .number;
           move = moveOf-kept X (x .move);
-          note = rw e (AcceptsNote-kept u _ _ (x .note));
+          annotation = rw e (AcceptsAnnotation-kept u _ _ (x .annotation));
           rest = rw e (λ q k. Accepts1-kept s q (x .rest q k));
         }
 
@@ -197,16 +196,13 @@ module _ {own A : Automaton} (X : Extends own A) where
           rest = rw e (λ y k. Accepts2-kept t y (x .rest y k));
         }
 
-    pub AcceptsNote-kept : (u : Annotation) (k B : ℕ) → AcceptsNote own u k B → AcceptsNote A u k B
-    AcceptsNote-kept (of1 u) zero B x = tt
-    AcceptsNote-kept (of1 u) (suc zero) B x = λ q h. Accepts1-kept u q (x q h)
-    AcceptsNote-kept (of1 u) (suc (suc k)) B x = x
-    AcceptsNote-kept (of2 u) zero B x = tt
-    AcceptsNote-kept (of2 u) (suc zero) B x = x
-    AcceptsNote-kept (of2 u) (suc (suc k)) B x = λ q h. Accepts2-kept u q (x q h)
-
-  pub accepts1-kept : (s : Stack1) (r : ℕ) → accepts1 own s r ≡ true → accepts1 A s r ≡ true
-  accepts1-kept s r e = accepts1-in A s r (Accepts1-kept s r (accepts1-out own s r e))
+    pub AcceptsAnnotation-kept : (u : Annotation) (k B : ℕ) → AcceptsAnnotation own u k B → AcceptsAnnotation A u k B
+    AcceptsAnnotation-kept (of1 u) zero B x = tt
+    AcceptsAnnotation-kept (of1 u) (suc zero) B x = λ q h. Accepts1-kept u q (x q h)
+    AcceptsAnnotation-kept (of1 u) (suc (suc k)) B x = x
+    AcceptsAnnotation-kept (of2 u) zero B x = tt
+    AcceptsAnnotation-kept (of2 u) (suc zero) B x = x
+    AcceptsAnnotation-kept (of2 u) (suc (suc k)) B x = λ q h. Accepts2-kept u q (x q h)
 
   pub accepts2-kept : (t : Stack2) (q : ℕ) → accepts2 own t q ≡ true → accepts2 A t q ≡ true
   accepts2-kept t q e = accepts2-in A t q (Accepts2-kept t q (accepts2-out own t q e))

@@ -11,7 +11,7 @@ use lib.Dec.{eqb, leb}
 use borrow.Author.Tests.{eqb-true, eq-eqb, leb-true, leb-false}
 use Rattle.words.specs.Sets.{join, single, partOf}
 use Rattle.words.specs.Sets.Laws.{Has, All, all-empty, all-join, has-empty, has-join-left, has-join-right, has-single, all-single, join-empty-left, join-zero, part-refl, part-trans, part-join-left, part-join-right}
-use Rattle.words.specs.Lists.Laws.{by-test}
+use Rattle.words.specs.Tests.{by-test}
 use Rattle.automata.specs.Automaton.{Automaton, Move, moveAt, edgeAt}
 use Rattle.automata.specs.Derivation.{Joins, joinsOf, clash, joinMove, joinMoves, joinAll, named, edgeSets}
 
@@ -47,14 +47,6 @@ pub max-either : (k l : ℕ) → (max k l ≡ k) ⊎ (max k l ≡ l)
 max-either k l = by-test (leb l k)
     (λ t. let h : l ≤ k = leb-true l k t in let e : max k l ≡ k = omega arith in inl e)
     (λ t. let h : k < l = leb-false l k t in let e : max k l ≡ l = omega arith in inr e)
-
--- where B is empty only at order 0, orders clash only if both annotation sets have members
-pub clash-nonempty : (j : Joins) (m : Move) → (j .B ≡ 0 → j .order ≡ 0) → (m .B ≡ 0 → m .order ≡ 0) → clash (j .order) (m .order) ≡ true
-    → (j .B ≡ 0 → ⊥) × (m .B ≡ 0 → ⊥)
-clash-nonempty j m f g h = (
-  λ e. false≢true (sym (fits-clash (m .order) (inl (f e)) (inr refl)) ∙ h),
-  λ e. false≢true (sym (fits-clash (j .order) (inr refl) (inl (g e))) ∙ h),
-)
 
 -- ---- joins of moves
 
@@ -152,25 +144,25 @@ joinMoves-all P Q j ms h x f = joinMoves-keeps (λ k. All (k .B) P × All (k .R)
     let z = f m l in (all-join (y .0) (z .0), all-join (y .1) (z .1)))
 
 -- B is empty exactly at order 0, and the order is at most 2
-pub record NoteFacts (j : Joins) : Type 0 where
+pub record AnnotationFacts (j : Joins) : Type 0 where
   pub order-small : j .order ≤ 2
   pub none-empty : j .order ≡ 0 → j .B ≡ 0
   pub empty-none : j .B ≡ 0 → j .order ≡ 0
 
 -- the empty set, of order 0
-pub note-none : (R : ℕ) → NoteFacts (record { order = 0; B = 0; R = R })
-note-none R = record { order-small = omega arith; none-empty = λ e. refl; empty-none = λ e. refl }
+pub annotation-none : (R : ℕ) → AnnotationFacts (record { order = 0; B = 0; R = R })
+annotation-none R = record { order-small = omega arith; none-empty = λ e. refl; empty-none = λ e. refl }
 
 -- a set with one member, of order 1 or 2
-pub note-single : (k q : ℕ) → k ≤ 2 → (k ≡ 0 → ⊥) → NoteFacts (record { order = k; B = single q; R = 0 })
-note-single k q l n =
+pub annotation-single : (k q : ℕ) → k ≤ 2 → (k ≡ 0 → ⊥) → AnnotationFacts (record { order = k; B = single q; R = 0 })
+annotation-single k q l n =
     record {
       order-small = l;
       none-empty = λ e. absurd (n e);
       empty-none = λ e. absurd (has-empty (subst (λ (s : ℕ). Has s q) e (has-single q)));
     }
 
-pub both-facts : (j : Joins) (m : Move) → NoteFacts j → NoteFacts (joinsOf m) → NoteFacts (both j m)
+pub both-facts : (j : Joins) (m : Move) → AnnotationFacts j → AnnotationFacts (joinsOf m) → AnnotationFacts (both j m)
 both-facts j m x y =
     let a = x .order-small in
     let b = y .order-small in
@@ -187,9 +179,9 @@ both-facts j m x y =
           omega arith;
     }
 
-pub joinMoves-facts : (j : Joins) (ms : List Move) {k : Joins} → joinMoves j ms ≡ some k → NoteFacts j
-    → ((m : Move) → List·Memᴰ m ms → NoteFacts (joinsOf m)) → NoteFacts k
-joinMoves-facts j ms h x f = joinMoves-keeps NoteFacts j ms h x (λ i m l c y. both-facts i m y (f m l))
+pub joinMoves-facts : (j : Joins) (ms : List Move) {k : Joins} → joinMoves j ms ≡ some k → AnnotationFacts j
+    → ((m : Move) → List·Memᴰ m ms → AnnotationFacts (joinsOf m)) → AnnotationFacts k
+joinMoves-facts j ms h x f = joinMoves-keeps AnnotationFacts j ms h x (λ i m l c y. both-facts i m y (f m l))
 
 -- ---- joins of moves by number
 
@@ -217,10 +209,10 @@ module _ (A : Automaton) where
   unfolding joinAll
   joinAll-all P Q j ns h x f = joinMoves-all P Q j (map (λ i. moveAt A i) ns) h x (at-numbers (λ m. All (m .B) P × All (m .R) Q) ns f)
 
-  pub joinAll-facts : (j : Joins) (ns : List ℕ) {k : Joins} → joinAll A j ns ≡ some k → NoteFacts j
-      → ((i : ℕ) → List·Memᴰ i ns → NoteFacts (joinsOf (moveAt A i))) → NoteFacts k
+  pub joinAll-facts : (j : Joins) (ns : List ℕ) {k : Joins} → joinAll A j ns ≡ some k → AnnotationFacts j
+      → ((i : ℕ) → List·Memᴰ i ns → AnnotationFacts (joinsOf (moveAt A i))) → AnnotationFacts k
   unfolding joinAll
-  joinAll-facts j ns h x f = joinMoves-facts j (map (λ i. moveAt A i) ns) h x (at-numbers (λ m. NoteFacts (joinsOf m)) ns f)
+  joinAll-facts j ns h x f = joinMoves-facts j (map (λ i. moveAt A i) ns) h x (at-numbers (λ m. AnnotationFacts (joinsOf m)) ns f)
 
   -- ---- joins of edges by number
 

@@ -16,7 +16,7 @@ use Rattle.words.specs.Order.{rising}
 use Rattle.words.specs.Order.Laws.{risingFrom-less, rising-tail, rising-cons, one-less}
 use Rattle.words.specs.Lists.{choices}
 use Rattle.words.specs.Lists.Laws.{places-in, places-out}
-use Rattle.words.specs.Lists.Choices.{Chosen, choices-in, choices-out}
+use Rattle.words.specs.Lists.Choices.{OneOfEach, choices-in, choices-out}
 use Rattle.automata.specs.Automaton.{Automaton, noMove, noEntry, moveAt, edgesOf, movesOf, entryOf, entrySet}
 use Rattle.automata.specs.Automaton.Laws.{MoveOf, EdgeOf, EntryIs, EntryMove, movesOf-in, movesOf-out, edgesOf-in, edgesOf-out, entryOf-in, entryOf-out}
 use Rattle.automata.specs.Derivation.{readings, edgeChoices, controlMoves, controlEntries}
@@ -110,16 +110,16 @@ module _ (X : ℕ → ℕ → Type 0) (numbers : ℕ → List ℕ) where
   pub choices-paired : ((q n : ℕ) → List·Memᴰ n (numbers q) → X q n) → (qs : List ℕ) {ns : List ℕ} → List·Memᴰ ns (choices (map numbers qs)) → Paired X qs ns
   choices-paired f qs j = go qs (choices-out (map numbers qs) j)
     where
-      go : (qs : List ℕ) {ns : List ℕ} → Chosen ns (map numbers qs) → Paired X qs ns
-      go [] Chosen.none = empty
-      go (q ∷ qs) (Chosen.also i c) = also (f q _ i) (go qs c)
+      go : (qs : List ℕ) {ns : List ℕ} → OneOfEach ns (map numbers qs) → Paired X qs ns
+      go [] OneOfEach.none = empty
+      go (q ∷ qs) (OneOfEach.also i c) = also (f q _ i) (go qs c)
 
   pub paired-choices : ((q n : ℕ) → X q n → List·Memᴰ n (numbers q)) → {qs ns : List ℕ} → Paired X qs ns → List·Memᴰ ns (choices (map numbers qs))
   paired-choices f ps = choices-in (go ps)
     where
-      go : {qs ns : List ℕ} → Paired X qs ns → Chosen ns (map numbers qs)
-      go empty = Chosen.none
-      go (also x ps) = Chosen.also (f _ _ x) (go ps)
+      go : {qs ns : List ℕ} → Paired X qs ns → OneOfEach ns (map numbers qs)
+      go empty = OneOfEach.none
+      go (also x ps) = OneOfEach.also (f _ _ x) (go ps)
 
 -- a reading is one move for each member, and a choice of edges one edge for each
 module _ (A : Automaton) where

@@ -2,7 +2,7 @@
 -- has which it extends, under the same numbers.
 -- Assumes nothing.
 use Prim.Native.Nat.{ℕ, _+_, _-_, _≤_, _<_}
-use mathlib.Core.Bool.{true, false}
+use mathlib.Core.Bool.{false}
 use mathlib.Core.Path.{_≡_, refl, ap, sym, _∙_}
 use mathlib.Core.Logic.{⊎-elim}
 use mathlib.Core.Option.{some}
@@ -13,10 +13,10 @@ use lib.Dec.{leb, ltb}
 use borrow.Author.Tests.{leb-true, ltb-true, ltb-false}
 use Rattle.words.specs.Tests.{by-test}
 use Rattle.words.specs.Lists.Laws.{getD-in, getElem?-below}
-use Rattle.automata.specs.Automaton.{Automaton, Move, Edge, Entry, noMove, noEdge, noEntry, entryEdges, edges, edgeAt, moveAt, entryAt, entryOf, entryControl, entrySet, entryEdge}
-use Rattle.automata.specs.Automaton.Laws.{MoveOf, EdgeOf, EntryIs, EntryMove, EntryEdge, moveAt-in, entryAt-entry, entryAt-range, entryOf-entry, entryEdges-append, edgeAt-inner, edge-cases, entry-edge}
-use Rattle.automata.specs.Derivation.{joinsOf, resultOf}
-use Rattle.automata.specs.Derivation.Joining.{NoteFacts, note-none}
+use Rattle.automata.specs.Automaton.{Automaton, Move, Edge, Entry, noMove, noEdge, noEntry, entryEdges, edges, edgeAt, moveAt, entryAt, entryEdge}
+use Rattle.automata.specs.Automaton.Laws.{MoveOf, EdgeOf, EntryIs, EntryMove, EntryEdge, moveAt-in, entryAt-entry, entryAt-range, entryEdges-append, edgeAt-inner, edge-cases, entry-edge}
+use Rattle.automata.specs.Derivation.{joinsOf}
+use Rattle.automata.specs.Derivation.Joining.{AnnotationFacts, annotation-none}
 use Rattle.automata.specs.Facts.{MoveFacts, TableFacts, Extends, states}
 
 -- ---- moves and edges of a table
@@ -26,13 +26,13 @@ module _ {P : ℕ} {A : Automaton} (F : TableFacts P A) where
   moveAt-facts i h = F .move-facts (moveAt A i) (moveAt-in A i h)
 
   -- also of the move past the last
-  pub moveAt-note : (i : ℕ) → NoteFacts (joinsOf (moveAt A i))
+  pub moveAt-annotation : (i : ℕ) → AnnotationFacts (joinsOf (moveAt A i))
   unfolding moveAt
-  moveAt-note i = by-test (ltb i (length (A .moves)))
+  moveAt-annotation i = by-test (ltb i (length (A .moves)))
       (λ t.
       let f = moveAt-facts i (ltb-true i (length (A .moves)) t) in
       record { order-small = f .order-small; none-empty = f .none-empty; empty-none = f .empty-none })
-      (λ t. rw (List·getD-eq-default (A .moves) noMove (ltb-false i (length (A .moves)) t)) (note-none 0))
+      (λ t. rw (List·getD-eq-default (A .moves) noMove (ltb-false i (length (A .moves)) t)) (annotation-none 0))
 
   -- the edges of a control are its entries
   pub control-edge : {p i : ℕ} → p < P → EdgeOf A p i → (e : ℕ) × EntryEdge A p (edgeAt A i .S) e i
@@ -177,31 +177,8 @@ module _ {A C : Automaton} (x : Extends A C) where
       ∙ sym (getElem?-below (A .entries) e noEntry below) ∙ sym (entryAt-entry A e) ∙ ap (entryAt A) (sym a))
       (λ t. let u : leb (C .J) r ≡ false = ap (λ (n : ℕ). leb n r) j ∙ t in rw (entryAt, t, u))
 
-  pub entryOf-same : (p r : ℕ) → r < states A → entryOf C p r ≡ entryOf A p r
-  unfolding entryOf
-  entryOf-same p r h = rw (entryOf, entryAt-same r h)
-
-  pub entryControl-same : (r : ℕ) → r < states A → entryControl C r ≡ entryControl A r
-  unfolding entryControl
-  entryControl-same r h = rw (entryControl, entryAt-same r h)
-
-  pub entrySet-same : (r : ℕ) → r < states A → entrySet C r ≡ entrySet A r
-  unfolding entrySet
-  entrySet-same r h = rw (entrySet, entryAt-same r h)
-
   pub entryAt-kept : (r : ℕ) {e : Entry} → entryAt A r ≡ some e → entryAt C r ≡ some e
   entryAt-kept r h = entryAt-same r (entryAt-range A r h .1) ∙ h
-
-  pub entryOf-kept : (p r : ℕ) → entryOf A p r ≡ true → entryOf C p r ≡ true
-  entryOf-kept p r h = entryOf-same p r (entryAt-range A r (entryOf-entry A p r h) .1) ∙ h
-
-  -- a move of a state that is there stands for the same result
-  pub resultOf-same : (m : Move) → m .state < states A → resultOf C m ≡ resultOf A m
-  unfolding resultOf
-  resultOf-same m h =
-      let p = entryControl-same (m .state) h in
-      let q = entrySet-same (m .state) h in
-      rw (p, q)
 
   -- ---- edges
 

@@ -25,13 +25,13 @@ use Rattle.automata.specs.Facts.Laws.{moveAt-kept, entryMove-kept}
 -- ---- the move that stands for a result
 
 -- Move i is a move of entry [p,S] with the result's symbol, order and sets.
-pub record Stands (A : Automaton) (i : ℕ) (x : Result) : Type 0 where
+pub record StandsFor (A : Automaton) (i : ℕ) (x : Result) : Type 0 where
   pub move : EntryMove A (x .control) (x .S) (x .symbol) i
   pub order-is : moveAt A i .order ≡ x .order
   pub B-is : moveAt A i .B ≡ x .B
   pub R-is : moveAt A i .R ≡ x .R
 
-module _ (A : Automaton) {i : ℕ} {x : Result} (h : Stands A i x) where
+module _ (A : Automaton) {i : ℕ} {x : Result} (h : StandsFor A i x) where
   pub stands-result : resultOf A (moveAt A i) ≡ x
   unfolding resultOf
   stands-result =
@@ -53,7 +53,7 @@ module _ (A : Automaton) {i : ℕ} {x : Result} (h : Stands A i x) where
       (ap (entryOf A (x .control)) (h .move .state-is) ∙ entryOf-in A (h .move .entry-is))
       (eq-same (resultKey (resultOf A (moveAt A i))) (resultKey x) (ap resultKey stands-result)))
 
-pub held-stands : (A : Automaton) (x : Result) → held A x ≡ true → (i : ℕ) × Stands A i x
+pub held-stands : (A : Automaton) (x : Result) → held A x ≡ true → (i : ℕ) × StandsFor A i x
 unfolding held isResult resultOf
 held-stands A x h =
     let (m, j, t) = some-of-out (isResult A x) (A .moves) h in
@@ -75,7 +75,7 @@ held-stands A x h =
       },
     )
 
-pub stands-kept : {A C : Automaton} {i : ℕ} {x : Result} → Extends A C → Stands A i x → Stands C i x
+pub stands-kept : {A C : Automaton} {i : ℕ} {x : Result} → Extends A C → StandsFor A i x → StandsFor C i x
 stands-kept {i = i} e h =
     let k = moveAt-kept e i (h .move .below) in
     record {

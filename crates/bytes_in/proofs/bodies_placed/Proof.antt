@@ -2,7 +2,8 @@
 -- Assumes nothing.
 use Prim.Native.Nat.{_≤_, _-_}
 use mathlib.Core.Path.{sym, _∙_}
-use Rattle.bytes_in.specs.Contents.{From, from-first, from-next, from-wrong, from-last}
+use Rattle.bytes_in.specs.Contents.{From}
+use Rattle.bytes_in.specs.Contents.Laws.{from-first, from-next, from-wrong, from-last}
 use borrow.Author.Needs.{needs}
 use Rattle.bytes_in.proofs.bodies_placed.Statement.{statement}
 use Rattle.bytes_in.proofs.bodies_placed.Tie as tie

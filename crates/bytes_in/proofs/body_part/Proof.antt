@@ -4,8 +4,8 @@ use Prim.Native.Nat.{ℕ, _<_, _*_}
 use mathlib.Core.Path.{_≡_, ap}
 use native.Mathlib.Omega.{arith}
 use Rattle.files.specs.Bytes.{countOf}
-use Rattle.bytes_in.specs.Contents.{product-small}
-use Rattle.bytes_in.specs.Records.{body-is}
+use Rattle.bytes_in.specs.Contents.Laws.{product-small}
+use Rattle.bytes_in.specs.Records.Laws.{body-is}
 use borrow.Author.Needs.{needs}
 use Rattle.bytes_in.proofs.body_part.Statement.{statement}
 use Rattle.bytes_in.proofs.body_part.Tie as tie

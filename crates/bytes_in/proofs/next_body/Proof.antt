@@ -3,7 +3,7 @@
 use Prim.Native.Nat.{_<_, _*_}
 use mathlib.Core.Path.{sym, _∙_}
 use native.Mathlib.Omega.{arith}
-use Rattle.bytes_in.specs.Contents.{product-small, nextBody-right, nextBody-wrong}
+use Rattle.bytes_in.specs.Contents.Laws.{product-small, nextBody-right, nextBody-wrong}
 use borrow.Author.Needs.{needs}
 use Rattle.bytes_in.proofs.next_body.Statement.{statement}
 use Rattle.bytes_in.proofs.next_body.Tie as tie

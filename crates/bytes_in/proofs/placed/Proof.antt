@@ -1,7 +1,7 @@
 -- `bytes_in::placed` meets its contract.
 -- Assumes nothing.
 use mathlib.Core.Path.{sym, _∙_}
-use Rattle.bytes_in.specs.Contents.{table-short, table-number, table-bodies}
+use Rattle.bytes_in.specs.Contents.Laws.{table-short, table-number, table-bodies}
 use borrow.Author.Needs.{needs}
 use Rattle.bytes_in.proofs.placed.Statement.{statement}
 use Rattle.bytes_in.proofs.placed.Tie as tie

@@ -2,7 +2,8 @@
 -- Assumes nothing.
 use mathlib.Core.Path.{sym, _∙_}
 use borrow.Author.Tests.{not-true, not-false}
-use Rattle.case_file.specs.Refusal.{refusalBy, refusal-is}
+use Rattle.case_file.specs.Refusal.{refusalBy}
+use Rattle.case_file.specs.Refusal.Laws.{refusal-is}
 use borrow.Author.Needs.{needs}
 use Rattle.case_file.proofs.check_case.Statement.{statement}
 use Rattle.case_file.proofs.check_case.Tie as tie

@@ -8,7 +8,7 @@ use borrow.Author.Tests.{not-true, not-false}
 use Rattle.words.specs.Order.{less, rising}
 use Rattle.files.specs.Bytes.{records}
 use Rattle.files.specs.Case.{EdgeBytes, edgeBytes, edgeKey}
-use Rattle.bytes_in.specs.Records.{rising-one, rising-more, rising-not, rising-fewer}
+use Rattle.bytes_in.specs.Records.Laws.{rising-one, rising-more, rising-not, rising-fewer}
 use borrow.Author.Needs.{needs}
 use Rattle.case_file.proofs.edges_rising.Statement.{statement}
 use Rattle.case_file.proofs.edges_rising.Tie as tie

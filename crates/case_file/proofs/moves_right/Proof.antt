@@ -10,7 +10,7 @@ use Rattle.words.specs.Lists.{every}
 use Rattle.files.specs.Bytes.{records}
 use Rattle.files.specs.Case.{moveOf, moveRight}
 use Rattle.case_records.specs.Values.{theHead}
-use Rattle.bytes_in.specs.Records.{every-none, every-more, every-not}
+use Rattle.bytes_in.specs.Records.Laws.{every-none, every-more, every-not}
 use borrow.Author.Needs.{needs}
 use Rattle.case_file.proofs.moves_right.Statement.{statement}
 use Rattle.case_file.proofs.moves_right.Tie as tie

@@ -9,7 +9,7 @@ use Rattle.words.specs.Order.{less, rising}
 use Rattle.automata.specs.Automaton.{Move}
 use Rattle.files.specs.Bytes.{records}
 use Rattle.files.specs.Case.{moveOf, moveKey}
-use Rattle.bytes_in.specs.Records.{rising-one, rising-more, rising-not, rising-fewer}
+use Rattle.bytes_in.specs.Records.Laws.{rising-one, rising-more, rising-not, rising-fewer}
 use borrow.Author.Needs.{needs}
 use Rattle.case_file.proofs.moves_rising.Statement.{statement}
 use Rattle.case_file.proofs.moves_rising.Tie as tie

@@ -7,7 +7,7 @@ use Rattle.words.specs.Order.{rising}
 use Rattle.files.specs.Case.{edgeBytes, edgeKey, edgeRecords, moveOf, moveKey, moveRecords}
 use native.Mathlib.Omega.{arith}
 use Rattle.files.specs.Case.Laws.{CasePlaces, case-places}
-use Rattle.bytes_in.specs.Records.{body-fits, records-here}
+use Rattle.bytes_in.specs.Records.Laws.{body-fits, records-here}
 use borrow.Author.Needs.{needs}
 use Rattle.case_file.proofs.records_rising.Statement.{statement}
 use Rattle.case_file.proofs.records_rising.Tie as tie

@@ -10,7 +10,7 @@ use Rattle.words.specs.Lists.{every}
 use Rattle.files.specs.Bytes.{records}
 use Rattle.files.specs.Case.{ruleBytes, ruleRight}
 use Rattle.case_records.specs.Values.{theHead}
-use Rattle.bytes_in.specs.Records.{every-none, every-more, every-not, part-is}
+use Rattle.bytes_in.specs.Records.Laws.{every-none, every-more, every-not, part-is}
 use borrow.Author.Needs.{needs}
 use Rattle.case_file.proofs.rules_right.Statement.{statement}
 use Rattle.case_file.proofs.rules_right.Tie as tie

@@ -1,7 +1,7 @@
 -- `case_records::edge_before` meets its contract.
 -- Assumes nothing.
 use Rattle.files.specs.Case.{edgeKey}
-use Rattle.case_records.specs.Keys.{less-none, less-more}
+use Rattle.case_records.specs.Keys.Laws.{less-none, less-more}
 use borrow.Author.Needs.{needs}
 use Rattle.case_records.proofs.edge_before.Statement.{statement}
 use Rattle.case_records.proofs.edge_before.Tie as tie

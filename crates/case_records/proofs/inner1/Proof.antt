@@ -1,7 +1,7 @@
 -- `case_records::inner1` meets its contract.
 -- Assumes nothing.
 use mathlib.Core.Path.{sym}
-use Rattle.case_records.specs.Bounds.{inner1-is}
+use Rattle.case_records.specs.Bounds.Laws.{inner1-is}
 use borrow.Author.Needs.{needs}
 use Rattle.case_records.proofs.inner1.Statement.{statement}
 use Rattle.case_records.proofs.inner1.Tie as tie

@@ -3,7 +3,7 @@
 use borrow.Author.Tests.{ne-eqb, eq-eqb}
 use lib.Pow.{pow-pos}
 use Rattle.words.specs.Sets.{single}
-use Rattle.case_records.specs.Bounds.{inner2-is}
+use Rattle.case_records.specs.Bounds.Laws.{inner2-is}
 use borrow.Author.Needs.{needs}
 use Rattle.case_records.proofs.inner2.Statement.{statement}
 use Rattle.case_records.proofs.inner2.Tie as tie

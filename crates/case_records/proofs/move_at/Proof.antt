@@ -2,7 +2,7 @@
 -- Assumes nothing.
 use mathlib.Core.Path.{ap, _∙_}
 use Rattle.files.specs.Case.{moveOf}
-use Rattle.bytes_in.specs.Records.{part-is}
+use Rattle.bytes_in.specs.Records.Laws.{part-is}
 use borrow.Author.Needs.{needs}
 use Rattle.case_records.proofs.move_at.Statement.{statement}
 use Rattle.case_records.proofs.move_at.Tie as tie

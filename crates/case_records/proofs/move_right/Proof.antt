@@ -16,20 +16,20 @@ returns-2 : tie.Need-returns-2
 unfolding moveRight
 returns-2 c = simp (lt-ltb _ _ (c .before .before .before .if1 .left), le-ltb _ _ (c .if2 .taken))
 
-note-right-requires : tie.Need-note-right-requires
-note-right-requires c κs = search needs
+annotation-right-requires : tie.Need-annotation-right-requires
+annotation-right-requires c κs = search needs
 
 inner1-requires : tie.Need-inner1-requires
 inner1-requires c κs = head-bounds _ (c .before .before .before .before .before .before .before .pre) .inner1-few
 
 returns-3 : tie.Need-returns-3
 unfolding moveRight
-returns-3 c = simp (lt-ltb _ _ (c .before .before .before .before .before .before .if1 .left), lt-ltb _ _ (c .before .before .before .if2 .left), sym (c .before .before .note-right .ensures) ∙ c .before .if3 .taken) (c .inner1 .ensures)
+returns-3 c = simp (lt-ltb _ _ (c .before .before .before .before .before .before .if1 .left), lt-ltb _ _ (c .before .before .before .if2 .left), sym (c .before .before .annotation-right .ensures) ∙ c .before .if3 .taken) (c .inner1 .ensures)
 
 returns-4 : tie.Need-returns-4
 unfolding moveRight
-returns-4 c = simp (lt-ltb _ _ (c .before .before .before .before .before .if1 .left), lt-ltb _ _ (c .before .before .if2 .left), sym (c .before .note-right .ensures) ∙ c .if3 .left)
+returns-4 c = simp (lt-ltb _ _ (c .before .before .before .before .before .if1 .left), lt-ltb _ _ (c .before .before .if2 .left), sym (c .before .annotation-right .ensures) ∙ c .if3 .left)
 
 pub move-right-spec : {M : Type 1} → statement M
 move-right-spec =
-    tie.close (tie.spec returns returns-2 note-right-requires inner1-requires returns-3 returns-4)
+    tie.close (tie.spec returns returns-2 annotation-right-requires inner1-requires returns-3 returns-4)

@@ -3,7 +3,7 @@
 use mathlib.Core.Path.{sym}
 use native.Mathlib.Omega.{arith}
 use Rattle.files.specs.Case.{operationOf}
-use Rattle.case_records.specs.Values.{operation-first, operation-last}
+use Rattle.case_records.specs.Values.Laws.{operation-first, operation-last}
 use Rattle.case_records.proofs.operation_of.Statement.{statement}
 use Rattle.case_records.proofs.operation_of.Tie as tie
 

@@ -4,7 +4,7 @@ use mathlib.Core.Path.{ap, _∙_}
 use mathlib.Core.List.{List}
 use Prim.Native.Nat.{ℕ}
 use Rattle.files.specs.Case.{ruleOf, ruleBytes}
-use Rattle.bytes_in.specs.Records.{part-is}
+use Rattle.bytes_in.specs.Records.Laws.{part-is}
 use borrow.Author.Needs.{needs}
 use Rattle.case_records.proofs.rule_at.Statement.{statement}
 use Rattle.case_records.proofs.rule_at.Tie as tie

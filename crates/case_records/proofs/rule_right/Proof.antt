@@ -2,7 +2,7 @@
 -- Assumes nothing.
 use borrow.Author.Tests.{le-leb, lt-leb, lt-ltb, le-ltb}
 use Rattle.files.specs.Case.{ruleBytes}
-use Rattle.case_records.specs.Bounds.{rule-parts}
+use Rattle.case_records.specs.Bounds.Laws.{rule-parts}
 use borrow.Author.Needs.{needs}
 use Rattle.case_records.proofs.rule_right.Statement.{statement}
 use Rattle.case_records.proofs.rule_right.Tie as tie

@@ -2,7 +2,7 @@
 -- Assumes nothing.
 use Rattle.case_records.specs.Values.{theHead, theEdge}
 use Rattle.case_file.specs.Bodies.{entry-yes, entry-no}
-use Rattle.case_tables.specs.Written.{written}
+use Rattle.case_tables.specs.WrittenRows.{written}
 use borrow.Author.Needs.{needs}
 use Rattle.case_tables.proofs.add_entry.Statement.{statement}
 use Rattle.case_tables.proofs.add_entry.Tie as tie

@@ -1,6 +1,6 @@
 -- `case_tables::add_inner` meets its contract.
 -- Assumes nothing.
-use Rattle.case_tables.specs.Decoded.{more-entry, more-inner}
+use Rattle.case_tables.specs.Decoded.Laws.{more-entry, more-inner}
 use borrow.Author.Needs.{needs}
 use Rattle.case_tables.proofs.add_inner.Statement.{statement}
 use Rattle.case_tables.proofs.add_inner.Tie as tie

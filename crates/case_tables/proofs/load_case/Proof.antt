@@ -5,8 +5,9 @@ use native.Mathlib.Omega.{arith}
 use Rattle.files.specs.Case.{ownOf}
 use Rattle.files.specs.Case.Laws.{CasePlaces, case-places}
 use Rattle.tables.specs.Records.{edgeRow, entryRow, moveRow}
-use Rattle.bytes_in.specs.Records.{body-fits}
-use Rattle.case_tables.specs.Own.{Holds, own-entries, own-loaded, holds-inner, holds-entries, holds-moves}
+use Rattle.bytes_in.specs.Records.Laws.{body-fits}
+use Rattle.case_tables.specs.Own.{HoldsOwn}
+use Rattle.case_tables.specs.Own.Laws.{own-entries, own-loaded, holds-inner, holds-entries, holds-moves}
 use borrow.Author.Needs.{needs}
 use Rattle.case_tables.proofs.load_case.Statement.{statement}
 use Rattle.case_tables.proofs.load_case.Tie as tie
@@ -62,11 +63,11 @@ same-length-3 c = search needs
 
 returns : tie.Need-returns
 returns c =
-    let i : Holds edgeRow (ownOf (c .before .before .before .before .before .before .before .before .before .before .before .before .before .before .before .before .before .before .before .before .before .before .args .file .now) .inner) (c .before .before .before .before .before .before .before .before .before .before .before .before .before .before .before .before .before .before .before .before .before .before .args .inner .now) _ _ =
+    let i : HoldsOwn edgeRow (ownOf (c .before .before .before .before .before .before .before .before .before .before .before .before .before .before .before .before .before .before .before .before .before .before .args .file .now) .inner) (c .before .before .before .before .before .before .before .before .before .before .before .before .before .before .before .before .before .before .before .before .before .before .args .inner .now) _ _ =
     holds-inner _ _ _ _ _ _ _ (c .before .before .before .before .before .before .before .before .before .before .before .before .before .before .before .before .before .head-of .ensures) (c .before .before .before .before .before .before .before .before .before .before .before .before .before .before .edge-body .ensures) (c .before .before .before .before .before .before .before .before .before .before .before .before .before .before .before .before .count-of .ensures .0) (c .before .before .before .before .before .before .before .before .before .before .before .before .load-inner .ensures .0) (c .before .before .before .before .before .before .before .before .before .before .before .before .load-inner .ensures .1 .0) (c .before .before .before .before .before .before .before .before .before .before .before .before .load-inner .ensures .1 .1) (c .before .before .before .before .before .before .before .before .before .before .before .before .before .before .before .before .before .before .before .before .before .before .pre .1 .inner-room) in
-    let e : Holds entryRow (ownOf (c .before .before .before .before .before .before .before .before .before .before .before .before .before .before .before .before .before .before .before .before .before .before .args .file .now) .entries) (c .before .before .before .before .before .before .before .before .before .before .before .before .before .before .before .before .before .before .before .before .before .before .args .entries .now) _ _ =
+    let e : HoldsOwn entryRow (ownOf (c .before .before .before .before .before .before .before .before .before .before .before .before .before .before .before .before .before .before .before .before .before .before .args .file .now) .entries) (c .before .before .before .before .before .before .before .before .before .before .before .before .before .before .before .before .before .before .before .before .before .before .args .entries .now) _ _ =
     holds-entries _ _ _ _ _ _ _ (c .before .before .before .before .before .before .before .before .before .before .before .before .before .before .before .before .before .head-of .ensures) (c .before .before .before .before .before .before .before .before .before .edge-body2 .ensures) (c .before .before .before .before .before .before .before .before .before .before .before .before .before .before .before .before .count-of .ensures .0) (c .before .before .before .before .before .before .before .load-entries .ensures .0) (c .before .before .before .before .before .before .before .load-entries .ensures .1) (c .before .before .before .before .before .before .before .before .before .before .before .before .before .before .before .before .before .before .before .before .before .before .pre .1 .entry-room) in
-    let m : Holds moveRow (ownOf (c .before .before .before .before .before .before .before .before .before .before .before .before .before .before .before .before .before .before .before .before .before .before .args .file .now) .moves) (c .before .before .before .before .before .before .before .before .before .before .before .before .before .before .before .before .before .before .before .before .before .before .args .moves .now) _ _ =
+    let m : HoldsOwn moveRow (ownOf (c .before .before .before .before .before .before .before .before .before .before .before .before .before .before .before .before .before .before .before .before .before .before .args .file .now) .moves) (c .before .before .before .before .before .before .before .before .before .before .before .before .before .before .before .before .before .before .before .before .before .before .args .moves .now) _ _ =
     holds-moves _ _ _ _ _ (c .before .before .before .before .move-body .ensures) (c .before .before .before .before .before .before .before .before .before .before .before .before .before .before .before .count-of2 .ensures .0) (c .before .before .load-moves .ensures) (c .before .before .before .before .before .before .before .before .before .before .before .before .before .before .before .before .before .before .before .before .before .before .pre .1 .move-room) in
     (own-loaded _ _ _ _ _ _ _ _ _ (c .before .before .before .before .before .before .before .before .before .before .before .before .before .before .before .before .before .head-of .ensures) refl refl refl i e m, (i .is, (e .is, m .is)))
 

@@ -12,8 +12,8 @@ use Rattle.tables.specs.Records.{entryRow}
 use Rattle.bytes_in.specs.Records.{recordAt}
 use Rattle.case_records.specs.Values.{theHead}
 use Rattle.case_file.specs.Bodies.{entries-more}
-use Rattle.case_tables.specs.Written.{written}
-use Rattle.case_tables.specs.Decoded.{entries-within, entries-step}
+use Rattle.case_tables.specs.WrittenRows.{written}
+use Rattle.case_tables.specs.Decoded.Laws.{entries-within, entries-step}
 use borrow.Author.Needs.{needs}
 use Rattle.case_tables.proofs.load_entries.Statement.{statement}
 use Rattle.case_tables.proofs.load_entries.Tie as tie

@@ -1,7 +1,8 @@
 -- `case_tables::load_inner` meets its contract. The invariant: the inner edges from number i on stand sorted in the first k rows.
 -- Assumes nothing.
 use Rattle.case_records.specs.Values.{theHead}
-use Rattle.case_tables.specs.Decoded.{InnerFrom, inner-last, inner-step, inner-all}
+use Rattle.case_tables.specs.Decoded.{InnerFrom}
+use Rattle.case_tables.specs.Decoded.Laws.{inner-last, inner-step, inner-all}
 use borrow.Author.Needs.{needs}
 use Rattle.case_tables.proofs.load_inner.Statement.{statement}
 use Rattle.case_tables.proofs.load_inner.Tie as tie

@@ -8,8 +8,8 @@ use native.Mathlib.Omega.{arith}
 use Rattle.files.specs.Bytes.{records}
 use Rattle.files.specs.Case.{moveOf}
 use Rattle.tables.specs.Records.{moveRow}
-use Rattle.case_tables.specs.Written.{written}
-use Rattle.case_tables.specs.Decoded.{moves-more}
+use Rattle.case_tables.specs.WrittenRows.{written}
+use Rattle.case_tables.specs.Decoded.Laws.{moves-more}
 use borrow.Author.Needs.{needs}
 use Rattle.case_tables.proofs.load_moves.Statement.{statement}
 use Rattle.case_tables.proofs.load_moves.Tie as tie

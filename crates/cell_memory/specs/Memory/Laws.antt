@@ -3,16 +3,17 @@
 use Prim.Native.Nat.{ℕ, zero, suc, _+_, _*_, _<_, _≤_}
 use mathlib.Core.Bool.{true, false}
 use mathlib.Core.Path.{_≡_, refl, ap, ap₂, sym, _∙_, fun-ext}
-use mathlib.Core.List.{List, [], _∷_, _++_, append-nil, append-assoc}
+use mathlib.Core.List.{List, [], _∷_, _++_, append-assoc}
 use native.Mathlib.Nat.{add-zero}
 use native.Mathlib.Numerals.{add-one}
 use native.Mathlib.Omega.{arith}
-use lib.ListN.{length, getD, take, drop, set, replicate, length-set, length-append, length-take, length-drop, getD-replicate, replicate-append-replicate, drop-of-length-le, List·getD-append, List·getD-eq-default}
+use lib.ListN.{length, getD, take, drop, set, length-set, length-append, length-take, length-drop, getD-replicate, replicate-append-replicate, List·getD-append, List·getD-eq-default}
 use lib.Seq.{sets, sets-eq, length-sets, paste, paste-zero, paste-suc, take-length, length-take-le, take-at, drop-at, drop-drop, drop-append-add, getD-set-same, getD-set-other, getD-take, getD-drop, getD-append-add}
 use lib.Dec.{eqb, ltb}
 use borrow.Author.Tests.{ne-eqb, eqb-true, eqb-false, ltb-true, ltb-false}
 use Rattle.words.specs.Lists.{zeros}
-use Rattle.words.specs.Lists.Laws.{by-test, length-zeros}
+use Rattle.words.specs.Lists.Laws.{length-zeros}
+use Rattle.words.specs.Tests.{by-test}
 use Rattle.walks.specs.Cell as walks
 use Rattle.walks.specs.Guide.{Guided, noGuided}
 use Rattle.cell_memory.specs.declared.Cell.{Cell}

@@ -8,7 +8,7 @@ use Rattle.words.specs.Sets.{members}
 use Rattle.stacks.specs.Stack.{Operation, rewrite, push1, push2, copy, pop1, pop2, collapse1, collapse2}
 use Rattle.automata.specs.Automaton.{Automaton, moveAt, entrySet, entryEdge}
 use Rattle.automata.specs.Derivation.{Derivation, named}
-use Rattle.walks.specs.Guide.{least, chooses, choosesAll, premise, topChoice, rootChoice, choicesAfter}
+use Rattle.walks.specs.Guide.{firstOrZero, chooses, choosesAll, premise, topChoice, rootChoice, choicesAfter}
 use Rattle.cell_steps.specs.Steps.{choiceOf, stepChosen, stepChoices}
 
 module _ (A : Automaton) where
@@ -37,7 +37,7 @@ module _ (A : Automaton) where
   module _ (d : Derivation) where
     -- the words hold the moves that d reads from the rest set of its premise
     abbrev pub HoldsRest : List ℕ → Type 0
-    HoldsRest ms = (q : ℕ) → getD ms q 0 ≡ choosesAll (members (moveAt A (least (d .premise)) .R)) (d .moves) q
+    HoldsRest ms = (q : ℕ) → getD ms q 0 ≡ choosesAll (members (moveAt A (firstOrZero (d .premise)) .R)) (d .moves) q
 
     -- the words es and ms hold, by state, the numbers of the edges and moves that d chooses
     abbrev pub HoldsNumbers : Operation → List ℕ → List ℕ → Type 0
@@ -46,27 +46,27 @@ module _ (A : Automaton) where
     HoldsNumbers (push2 b) es ms = HoldsRest ms
     HoldsNumbers copy es ms =
         ((q : ℕ) → getD ms q 0 ≡ choosesAll (members (named A (d .edges))) (d .moves) q)
-        × ((q : ℕ) → getD es q 0 ≡ choosesAll (members (entrySet A (moveAt A (least (d .premise)) .state))) (d .edges) q)
+        × ((q : ℕ) → getD es q 0 ≡ choosesAll (members (entrySet A (moveAt A (firstOrZero (d .premise)) .state))) (d .edges) q)
     HoldsNumbers pop1 es ms = Unit {0}
     HoldsNumbers pop2 es ms = Unit {0}
     HoldsNumbers collapse1 es ms = Unit {0}
     HoldsNumbers collapse2 es ms = Unit {0}
 
     module _ (p′ : ℕ) where
-      top-is : {r number : ℕ} → number ≡ least (d .premise) → r ≡ moveAt A number .state → chooses r number ≡ topChoice A d p′
+      top-is : {r number : ℕ} → number ≡ firstOrZero (d .premise) → r ≡ moveAt A number .state → chooses r number ≡ topChoice A d p′
       unfolding topChoice premise
       top-is n s = λ i. chooses ((s ∙ ap (λ (k : ℕ). moveAt A k .state) n) i) (n i)
 
-      root-is : {edge number : ℕ} → number ≡ least (d .premise) → edge ≡ entryEdge A (moveAt A number .state - A .J) → chooses p′ edge ≡ rootChoice A d p′
+      root-is : {edge number : ℕ} → number ≡ firstOrZero (d .premise) → edge ≡ entryEdge A (moveAt A number .state - A .J) → chooses p′ edge ≡ rootChoice A d p′
       unfolding rootChoice premise
       root-is n e = ap (chooses p′) (e ∙ ap (λ (k : ℕ). entryEdge A (moveAt A k .state - A .J)) n)
 
-      entry-is : {edge number : ℕ} → number ≡ least (d .premise) → edge ≡ entryEdge A number → chooses p′ edge ≡ chooses p′ (entryEdge A (premise A d p′))
+      entry-is : {edge number : ℕ} → number ≡ firstOrZero (d .premise) → edge ≡ entryEdge A number → chooses p′ edge ≡ chooses p′ (entryEdge A (premise A d p′))
       unfolding premise
       entry-is n e = ap (chooses p′) (e ∙ ap (entryEdge A) n)
 
       -- "New cells carry the choices of that derivation."
-      pub step-choices : (op : Operation) (es ms : List ℕ) (r edge number : ℕ) → number ≡ least (d .premise) → r ≡ topState op number → edge ≡ rootEdge op number
+      pub step-choices : (op : Operation) (es ms : List ℕ) (r edge number : ℕ) → number ≡ firstOrZero (d .premise) → r ≡ topState op number → edge ≡ rootEdge op number
           → HoldsNumbers op es ms → stepChoices r number p′ edge es ms op ≡ choicesAfter A d p′ op
       unfolding stepChoices stepChosen choiceOf choicesAfter premise topState rootEdge
       step-choices (rewrite b) es ms r edge number n s e h = λ i. top-is n s i ∷ root-is n e i ∷ []

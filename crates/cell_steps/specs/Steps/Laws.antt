@@ -18,7 +18,7 @@ use Rattle.case_records.specs.declared.Operation.{Operation}
 use Rattle.case_records.specs.Values.{theOperation}
 use Rattle.cell_memory.specs.Memory.{cellOf, valueOf, guidedCell, guidedIn, withCell}
 use Rattle.cell_memory.specs.Memory.Laws.{cellOf-valueOf, guidedIn-same, choosing, length-withCell, withCell-other, withCell-guided, length-withChoice, withChoice-other, withChoice-guided, length-withChoices, withChoices-other, withChoices-guided}
-use Rattle.cell_steps.specs.Steps.{putFrom, putCell, withCells, symbolOf, Chosen, one, all, choiceOf, withChosen, withAllChosen, stepChosen, stepChoices, plain, guidedBy}
+use Rattle.cell_steps.specs.Steps.{putFrom, putCell, withCells, symbolOf, CellChoices, one, all, choiceOf, withChosen, withAllChosen, stepChosen, stepChoices, plain, guidedBy}
 
 -- ---- cells from a number on
 
@@ -107,31 +107,24 @@ cells-plain (c ∷ cs) ws n h =
     (withCells-before cs (withCell ws n (valueOf c)) (n + 1) n (omega arith) ∙ g ∙ ap plain (cellOf-valueOf c))
     (cells-plain cs (withCell ws n (valueOf c)) (n + 1) (omega arith))
 
--- the cells that are written follow, with no choices
-pub withCells-guided : (cs : List walks.Cell) (ws : List ℕ) (n : ℕ) → (n + length cs) * 68 ≤ length ws
-    → guidedIn (n + length cs) (withCells ws n cs) ≡ guidedIn n ws ++ map plain cs
-withCells-guided cs ws n h =
-    guidedIn-from n (length cs) (withCells ws n cs)
-    ∙ ap₂ _++_ (guidedIn-same n (withCells ws n cs) ws λ i l. withCells-before cs ws n i l) (cells-plain cs ws n h)
-
 -- ---- choices
 
 -- the state exists, or there is a number for each state
-abbrev pub Fits : Chosen → Type 0
+abbrev pub Fits : CellChoices → Type 0
 Fits (one q n) = q < 64
 Fits (all ns) = length ns ≡ 64
 
-length-withChosen : (ws : List ℕ) (n : ℕ) (f : Chosen) → Fits f → length (withChosen ws n f) ≡ length ws
+length-withChosen : (ws : List ℕ) (n : ℕ) (f : CellChoices) → Fits f → length (withChosen ws n f) ≡ length ws
 unfolding withChosen
 length-withChosen ws n (one q k) h = length-withChoice ws n q k h
 length-withChosen ws n (all ns) h = length-withChoices ws n ns h
 
-withChosen-other : (ws : List ℕ) (n : ℕ) (f : Chosen) → Fits f → (i : ℕ) → (i ≡ n → ⊥) → guidedCell (withChosen ws n f) i ≡ guidedCell ws i
+withChosen-other : (ws : List ℕ) (n : ℕ) (f : CellChoices) → Fits f → (i : ℕ) → (i ≡ n → ⊥) → guidedCell (withChosen ws n f) i ≡ guidedCell ws i
 unfolding withChosen
 withChosen-other ws n (one q k) h i d = withChoice-other ws n q k h i d
 withChosen-other ws n (all ns) h i d = withChoices-other ws n ns h i d
 
-withChosen-guided : (ws : List ℕ) (n : ℕ) (f : Chosen) → Fits f → n * 68 + 68 ≤ length ws → {c : walks.Cell} → guidedCell ws n ≡ plain c
+withChosen-guided : (ws : List ℕ) (n : ℕ) (f : CellChoices) → Fits f → n * 68 + 68 ≤ length ws → {c : walks.Cell} → guidedCell ws n ≡ plain c
     → guidedCell (withChosen ws n f) n ≡ record { cell = c; choice = choiceOf f }
 unfolding withChosen choiceOf choosing chooses
 withChosen-guided ws n (one q k) h l g =
@@ -139,7 +132,7 @@ withChosen-guided ws n (one q k) h l g =
 withChosen-guided ws n (all ns) h l g = withChoices-guided ws n ns h l ∙ λ i. record { cell = g i .cell; choice = λ q. getD ns q 0 }
 
 -- cells that have no choices have those that are written
-chosen-guided : (fs : List Chosen) (cs : List walks.Cell) (ws : List ℕ) (n : ℕ) → AllFit Fits fs → length fs ≡ length cs → (n + length cs) * 68 ≤ length ws
+chosen-guided : (fs : List CellChoices) (cs : List walks.Cell) (ws : List ℕ) (n : ℕ) → AllFit Fits fs → length fs ≡ length cs → (n + length cs) * 68 ≤ length ws
     → guidedFrom n (length cs) ws ≡ map plain cs → guidedFrom n (length cs) (withAllChosen ws n fs) ≡ guidedBy cs (map choiceOf fs)
 unfolding putFrom guidedFrom zipWith
 chosen-guided [] [] ws n h e l g = refl
@@ -156,7 +149,7 @@ chosen-guided (f ∷ fs) (c ∷ cs) ws n h e l g =
     (chosen-guided fs cs (withChosen ws n f) (n + 1) (h .1) (omega arith) (omega arith) (kept ∙ rest))
 
 -- cells and then their choices
-pub written-guided : (cs : List walks.Cell) (fs : List Chosen) (ws : List ℕ) (n : ℕ) → AllFit Fits fs → length fs ≡ length cs → (n + length cs) * 68 ≤ length ws
+pub written-guided : (cs : List walks.Cell) (fs : List CellChoices) (ws : List ℕ) (n : ℕ) → AllFit Fits fs → length fs ≡ length cs → (n + length cs) * 68 ≤ length ws
     → guidedIn (n + length cs) (withAllChosen (withCells ws n cs) n fs) ≡ guidedIn n ws ++ guidedBy cs (map choiceOf fs)
 written-guided cs fs ws n h e l =
     let size : length (withCells ws n cs) ≡ length ws = length-withCells cs ws n in
@@ -198,7 +191,7 @@ module _ (r number p′ edge : ℕ) (es ms : List ℕ) where
   unfolding stepChoices
   step-guided op n a u s t ws l h k e m cells choices =
       let cs : List walks.Cell = cellsAfter op n a u s t in
-      let fs : List Chosen = stepChosen r number p′ edge es ms op in
+      let fs : List CellChoices = stepChosen r number p′ edge es ms op in
       let size : length (cellsAfter op n a u s t) ≡ newCells op = length-cellsAfter op n a u s t in
       ap₂ guidedIn
       (ap (λ (i : ℕ). n + i) (sym size))

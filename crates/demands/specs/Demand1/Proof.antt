@@ -9,18 +9,20 @@ use native.Mathlib.Omega.{arith}
 use lib.ListN.{length, length-append, length-map}
 use lib.Dec.{leb}
 use Rattle.words.specs.Lists.{each}
-use Rattle.words.specs.Lists.Laws.{by-test, length-zeros}
+use Rattle.words.specs.Lists.Laws.{length-zeros}
+use Rattle.words.specs.Tests.{by-test}
 use Rattle.automata.specs.Automaton.{Automaton}
 use Rattle.automata.specs.Saturation.{Saturated}
 use Rattle.rounds.specs.Limits.{KeepsLimits, saturate-some, within-keeps}
 use Rattle.replies.specs.Numbers.{refusalOf}
 use Rattle.replies.specs.declared.Halt.{Halt}
-use Rattle.walks.specs.Guide.{Walk, Next, arrived, to, stuck, next, Outcome, outcome, noOutcome, startWalk, guided}
+use Rattle.walks.specs.Guide.{Walk, Next, arrived, to, stuck, next, Report, walkedBy, noRun, startWalk, guided}
 use Rattle.stacks.specs.System.{Rule}
 use Rattle.files.specs.Bytes.{Test, firstHit}
 use Rattle.files.specs.Case.{caseTests, caseRefusal, ownOf, rulesOf}
 use Rattle.files.specs.Start.{Files, startTests, startRefusal, startsOf, cellsOf}
-use Rattle.services.specs.Memory.{zeros, padded, moveWords, entryWords, moveTable, entryTable, lent}
+use Rattle.services.specs.Memory.{padded, moveWords, entryWords, moveTable, entryTable, lent}
+use Rattle.words.specs.Lists.{zeros}
 use Rattle.services.specs.Saturate.{Lent, saturated, SaturateDone, saturateRefused, saturateFilled, saturateService}
 use Rattle.services.specs.Saturate.Laws.{SaturateCase, case-refused, size-exceeded, filled, saturate-cases}
 use Rattle.services.specs.Judge.{JudgeInput, JudgeDone, judgeFiles, mark, judgeLeft, judgeService}
@@ -163,33 +165,33 @@ demand1-judge x = go (judgeService x) (judge-cases x)
 -- ---- guide
 
 -- an answer that is no refusal and writes at most k words
-pub record Written (k : ℕ) (o : Outcome) : Type 0 where
+pub record Reported (k : ℕ) (o : Report) : Type 0 where
   pub unrefused : refusalOf (o .reply) ≡ 0
   pub short : length (o .trace) ≤ k
 
-written-halt : (k : ℕ) (h : Halt) (trace : List ℕ) → length trace ≤ k → Written k (outcome h trace)
-unfolding outcome refusalOf
+written-halt : (k : ℕ) (h : Halt) (trace : List ℕ) → length trace ≤ k → Reported k (walkedBy h trace)
+unfolding walkedBy refusalOf
 written-halt k h trace l = record { unrefused = refl; short = l }
 
-written-none : (k : ℕ) → Written k noOutcome
-unfolding noOutcome refusalOf
+written-none : (k : ℕ) → Reported k noRun
+unfolding noRun refusalOf
 written-none k = record { unrefused = refl; short = omega arith }
 
 module _ (rules : List Rule) (T : Saturated) (c : ℕ) where
   -- a walk is no refusal and writes no more than the trace words that are left
-  pub guided-written : (t : ℕ) (trace : List ℕ) (w : Walk) → Written (length trace + t) (guided rules T c t trace w)
+  pub guided-written : (t : ℕ) (trace : List ℕ) (w : Walk) → Reported (length trace + t) (guided rules T c t trace w)
   unfolding guided
   guided-written zero trace w = go (next rules T w) refl
     where
-      go : (n : Next) → next rules T w ≡ n → Written (length trace + 0) (guided rules T c zero trace w)
+      go : (n : Next) → next rules T w ≡ n → Reported (length trace + 0) (guided rules T c zero trace w)
       go arrived e = rw (guided, e) (written-halt _ _ trace (omega arith))
       go (to n v) e = rw (guided, e) (written-halt _ _ trace (omega arith))
       go stuck e = rw (guided, e) (written-none _)
   guided-written (suc t) trace w = go (next rules T w) refl (λ n v. guided-written t (trace ++ (n ∷ [])) v)
     where
       go : (n : Next) → next rules T w ≡ n
-          → ((n : ℕ) (v : Walk) → Written (length (trace ++ (n ∷ [])) + t) (guided rules T c t (trace ++ (n ∷ [])) v))
-          → Written (length trace + suc t) (guided rules T c (suc t) trace w)
+          → ((n : ℕ) (v : Walk) → Reported (length (trace ++ (n ∷ [])) + t) (guided rules T c t (trace ++ (n ∷ [])) v))
+          → Reported (length trace + suc t) (guided rules T c (suc t) trace w)
       go arrived e h = rw (guided, e) (written-halt _ _ trace (omega arith))
       go (to n v) e h =
           by-test (leb (length (v .cells)) c)
@@ -200,7 +202,7 @@ module _ (rules : List Rule) (T : Saturated) (c : ℕ) where
           (λ l. rw (guided, e, l) (written-halt _ _ trace (omega arith)))
       go stuck e h = rw (guided, e) (written-none _)
 
-guide-left-states : (x : GuideInput) (o : Outcome) → List·Memᴰ (refusalOf (o .reply)) (0 ∷ 1 ∷ 2 ∷ 3 ∷ 4 ∷ 5 ∷ 6 ∷ 7 ∷ 9 ∷ [])
+guide-left-states : (x : GuideInput) (o : Report) → List·Memᴰ (refusalOf (o .reply)) (0 ∷ 1 ∷ 2 ∷ 3 ∷ 4 ∷ 5 ∷ 6 ∷ 7 ∷ 9 ∷ [])
     → length (o .trace) ≤ x .trace → ((refusalOf (o .reply) ≡ 0 → ⊥) → o .trace ≡ []) → GuideStates x (guideLeft x o)
 unfolding guideLeft
 guide-left-states x o j l z =
@@ -217,19 +219,19 @@ guide-refused-states : (x : GuideInput) (n : ℕ) → List·Memᴰ n (0 ∷ 1 �
 unfolding refused refusalOf
 guide-refused-states x n j = guide-left-states x (refused n) j (omega arith) (λ _. refl)
 
-guide-written-states : (x : GuideInput) (o : Outcome) → Written (x .trace) o → GuideStates x (guideLeft x o)
+guide-written-states : (x : GuideInput) (o : Report) → Reported (x .trace) o → GuideStates x (guideLeft x o)
 guide-written-states x o w =
     guide-left-states x o (rw (w .unrefused) (List·Memᴰ·head refl)) (w .short) (λ h. absurd (h (w .unrefused)))
 
 -- the walk of a start
-walkOf : GuideInput → Saturated → Outcome
+walkOf : GuideInput → Saturated → Report
 walkOf x T =
     guided (rulesOf (x .case)) T (cellsLent x) (x .trace) [] (startWalk (T .table) (cellsOf (x .start)) (startNamed x .control) (startNamed x .root))
 
-walk-written : (x : GuideInput) (T : Saturated) → Written (x .trace) (walkOf x T)
+walk-written : (x : GuideInput) (T : Saturated) → Reported (x .trace) (walkOf x T)
 unfolding walkOf
 walk-written x T =
-    subst (λ (k : ℕ). Written k (walkOf x T)) (zero-add (x .trace))
+    subst (λ (k : ℕ). Reported k (walkOf x T)) (zero-add (x .trace))
     (guided-written (rulesOf (x .case)) T (cellsLent x) (x .trace) []
     (startWalk (T .table) (cellsOf (x .start)) (startNamed x .control) (startNamed x .root)))
 
@@ -242,7 +244,7 @@ demand1-guide x = go (guideService x) (guide-cases x)
     go d (GuideCase.start-refused s bad) = guide-refused-states x _ (from-start (7 ∷ 9 ∷ []) (start-number (guideFiles x)))
     go d (start-missing s f h) = guide-refused-states x 7 (Memᴰ·append-right (0 ∷ 1 ∷ 2 ∷ 3 ∷ 4 ∷ 5 ∷ 6 ∷ []) (List·Memᴰ·head refl))
     go d (GuideCase.size-exceeded s f h o) = guide-refused-states x 9 (Memᴰ·append-right (0 ∷ 1 ∷ 2 ∷ 3 ∷ 4 ∷ 5 ∷ 6 ∷ 7 ∷ []) (List·Memᴰ·head refl))
-    go d (no-run T s a) = guide-written-states x noOutcome (written-none (x .trace))
+    go d (no-run T s a) = guide-written-states x noRun (written-none (x .trace))
     go d (cells-short T s a h) = guide-written-states x _ (written-halt (x .trace) _ [] (omega arith))
     go d (walked T s a h) = guide-written-states x (walkOf x T) (walk-written x T)
 

@@ -21,7 +21,7 @@ use Rattle.services.specs.Saturate.{Lent, SaturateDone, saturated, saturateRefu
 use Rattle.services.specs.Saturate.Laws.{SaturateCase, case-refused, size-exceeded, filled, saturate-cases}
 use Rattle.services.specs.Judge.{JudgeInput, JudgeDone, judgeLent, accepted, mark, judgeLeft, judgeService}
 use Rattle.services.specs.Judge.Laws.{JudgeCase, start-refused, answers-short, judged, judge-cases}
-use Rattle.demands.specs.Reach.{reaches-published, accepted-reaches, reaches-accepted}
+use Rattle.demands.specs.Reach.Laws.{reaches-published, accepted-reaches, reaches-accepted}
 use Rattle.demands.specs.Demand2.{startAt, configurationAt, Runs, Marks, Demand2, Exceeds, SaturateSize, JudgeSize}
 
 -- ---- marks

@@ -12,7 +12,8 @@ use lib.ListN.{length, getD, take, length-map}
 use Rattle.stacks.specs.System.{Configuration, Run}
 use lib.Dec.{leb}
 use borrow.Author.Tests.{eqb-false, leb-true, leb-false}
-use Rattle.words.specs.Lists.Laws.{by-test, getD-in}
+use Rattle.words.specs.Lists.Laws.{getD-in}
+use Rattle.words.specs.Tests.{by-test}
 use Rattle.automata.specs.Automaton.{Automaton}
 use Rattle.automata.specs.Saturation.{Saturated}
 use Rattle.replies.specs.declared.Reply.the-variants.{Walked}
@@ -25,7 +26,7 @@ use Rattle.services.specs.Memory.{lent}
 use Rattle.services.specs.Saturate.{saturated}
 use Rattle.services.specs.Judge.{JudgeInput, JudgeDone, judgeLent, judgeFiles, accepted, mark, judgeLeft, judgeService}
 use Rattle.services.specs.Judge.Laws.{JudgeCase, case-refused, start-refused, answers-short, size-exceeded, judged, judge-cases}
-use Rattle.walks.specs.Guide.{Walk, walkAfter, traceAfter, outcome, startWalk, guided}
+use Rattle.walks.specs.Guide.{Walk, walkAfter, traceAfter, walkedBy, startWalk, guided}
 use Rattle.services.specs.Guide.{GuideDone, guideFiles, guideLent, cellsLent, startNamed, guideWalk, guideLeft, guideService}
 use Rattle.services.specs.Guide.Laws.{GuideCase, start-missing, no-run, cells-short, walked, guide-cases, walk-goes, walk-short}
 use Rattle.guidance.specs.Prefix.{haltBy, isArrival, FirstHalt, guided-prefix, guided-arrives, arrival-fits}
@@ -33,7 +34,8 @@ use Rattle.guidance.specs.Arrival
 use Rattle.guidance.specs.Decoration.{start-bare}
 use Rattle.guidance.specs.Arrival.{GuidedArrival, start-arrival, start-configuration}
 use Rattle.demands.specs.FromBytes.{case-saturated}
-use Rattle.demands.specs.FullRun.{used, HaltsAfter, Stops, stop-halts, stop-least, cells-after, length-trace}
+use Rattle.demands.specs.FullRun.{used, HaltsAfter, Stops}
+use Rattle.demands.specs.FullRun.Laws.{stop-halts, stop-least, cells-after, length-trace}
 use Rattle.demands.specs.Demand1.Proof.{padded-none}
 use Rattle.demands.specs.Demand2.{startAt, configurationAt}
 use Rattle.demands.specs.Demand2.Proof.{answer-at, some-none}
@@ -109,7 +111,7 @@ module _ (x : JudgeInput) (n : ℕ) (b : Basis x n) where
   guide-walks c t l = guide-answer c t ∙ ap (guideLeft (guideTo x n c t)) (walk-goes (guideTo x n c t) (b .table) l)
 
   guide-short : (c t : ℕ) → cellsLent (guideTo x n c t) < length (cellsOf (x .start))
-      → guideService (guideTo x n c t) ≡ guideLeft (guideTo x n c t) (outcome (CellsShort (record { steps = 0; cells = 0 })) [])
+      → guideService (guideTo x n c t) ≡ guideLeft (guideTo x n c t) (walkedBy (CellsShort (record { steps = 0; cells = 0 })) [])
   unfolding guideTo
   guide-short c t l = guide-answer c t ∙ ap (guideLeft (guideTo x n c t)) (walk-short (guideTo x n c t) (b .table) l)
 
@@ -162,7 +164,7 @@ module _ (x : JudgeInput) (n : ℕ) (b : Basis x n) where
   -- the halt of the walk
   halt : (k t : ℕ) → (h : FirstHalt (rulesOf (x .case)) (b .table) k t walk) × (h .steps ≤ arrival .steps)
       × (guided (rulesOf (x .case)) (b .table) k t [] walk
-      ≡ outcome (haltBy (h .reason) (record { steps = h .steps; cells = length (h .end .cells) })) (take (h .steps) fullRun))
+      ≡ walkedBy (haltBy (h .reason) (record { steps = h .steps; cells = length (h .end .cells) })) (take (h .steps) fullRun))
   unfolding fullRun
   halt k t = guided-prefix (rulesOf (x .case)) (b .table) k t (arrival .steps) walk (arrival .arrives)
 
@@ -182,7 +184,7 @@ module _ (x : JudgeInput) (n : ℕ) (b : Basis x n) where
 
   walks-answer : (c t : ℕ) → length (cellsOf (x .start)) ≤ cellsLent (guideTo x n c t)
       → Walks (guideTo x n c t) fullRun (guideService (guideTo x n c t))
-  unfolding guideTo guideLeft outcome stops-here
+  unfolding guideTo guideLeft walkedBy stops-here
   walks-answer c t l =
       let k : ℕ = cellsLent (guideTo x n c t) in
       let e = guide-walks c t l ∙ ap (guideLeft (guideTo x n c t)) (halt k t .2) in
@@ -196,7 +198,7 @@ module _ (x : JudgeInput) (n : ℕ) (b : Basis x n) where
 
   short-answer : (c t : ℕ) → cellsLent (guideTo x n c t) < length (cellsOf (x .start))
       → TooShort (guideTo x n c t) (guideService (guideTo x n c t))
-  unfolding guideTo guideLeft outcome
+  unfolding guideTo guideLeft walkedBy
   short-answer c t l =
       record {
         reply-is = ap (λ (d : GuideDone). d .reply) (guide-short c t l);
@@ -210,7 +212,7 @@ module _ (x : JudgeInput) (n : ℕ) (b : Basis x n) where
       (length fullRun ≤ t) × (used (rulesOf (x .case)) (length (cellsOf (x .start))) fullRun (length fullRun) ≤ cellsLent (guideTo x n c t))
 
   arrives-suffices : (c t : ℕ) → isArrival (guideService (guideTo x n c t) .reply) ≡ true → Suffices c t
-  unfolding guideLeft outcome isArrival
+  unfolding guideLeft walkedBy isArrival
   arrives-suffices c t e =
       by-test (leb (length (cellsOf (x .start))) (cellsLent (guideTo x n c t)))
       (λ h.
@@ -226,7 +228,7 @@ module _ (x : JudgeInput) (n : ℕ) (b : Basis x n) where
   first-used = omega arith
 
   suffices-arrives : (c t : ℕ) → Suffices c t → isArrival (guideService (guideTo x n c t) .reply) ≡ true
-  unfolding guideLeft outcome isArrival
+  unfolding guideLeft walkedBy isArrival
   suffices-arrives c t h =
       ap (λ (d : GuideDone). isArrival (d .reply)) (guide-walks c t (le-trans first-used (h .1))
       ∙ ap (guideLeft (guideTo x n c t)) (guided-arrives (rulesOf (x .case)) (b .table) (cellsLent (guideTo x n c t)) t (arrival .steps) walk (arrival .arrives)

@@ -8,7 +8,7 @@ use Rattle.replies.specs.declared.Reply.{Reply}
 use Rattle.replies.specs.Numbers.{numberOf, replyCounts}
 use Rattle.services.specs.Guide.{GuideDone}
 use Rattle.guide.specs.Service.{guideDone}
-use Rattle.exports.specs.Answers.{GuideAnswer, theAnswer, answerOf}
+use Rattle.exports.specs.Answers.{theAnswer, answerOf}
 
 pub answered : (reply : Reply) (moves entries cells trace : List ℕ) (d : GuideDone) → guideDone reply moves entries cells trace ≡ d
     → (n : ℕ) → n ≡ numberOf reply → (c : Counts) → c ≡ replyCounts reply → theAnswer n c moves entries cells trace ≡ answerOf d

@@ -1,19 +1,18 @@
 -- What holds of refusals, of the places of bodies and records in a file, and of numbers in bytes.
 -- Assumes nothing.
-use Prim.Native.Nat.{ℕ, zero, suc, _+_, _-_, _*_, _^_, _<_, _≤_}
+use Prim.Native.Nat.{ℕ, zero, suc, _+_, _*_, _<_, _≤_}
 use mathlib.Core.Bool.{Bool, true, false, not, _&&_, false≢true}
-use mathlib.Core.Path.{_≡_, refl, ap, ap₂, sym, _∙_, subst}
-use mathlib.Core.Logic.{⊎-elim}
-use mathlib.Core.List.{List, [], _∷_, _++_, List·Memᴰ, List·Memᴰ·head, List·Memᴰ·tail, List·Memᴰ·not-nil, List·Memᴰ·cases-cons}
-use native.Mathlib.Nat.{add-comm, zero-mul, suc-mul, pow-succ', not-suc-le-zero, le-of-suc-le-suc}
-use native.Mathlib.Omega.{arith}
-use lib.ListN.{length, getD, take, drop, length-drop, List·getD-eq-default}
-use lib.Seq.{drop-drop, getD-drop, length-take-le}
-use lib.Dec.{eqb, ltb, leb}
-use borrow.Author.Tests.{eqb-true, eqb-false, eq-eqb, ltb-true, ltb-false, leb-true, not-true}
+use mathlib.Core.Path.{_≡_, refl, ap, sym, _∙_}
+use mathlib.Core.List.{List, [], _∷_, _++_, List·Memᴰ, List·Memᴰ·head, List·Memᴰ·tail}
+use native.Mathlib.Nat.{add-comm, zero-mul, suc-mul, not-suc-le-zero, le-of-suc-le-suc}
+use lib.ListN.{length, getD, take, drop}
+use lib.Seq.{drop-drop}
+use lib.Dec.{eqb, leb}
+use borrow.Author.Tests.{eqb-true, eq-eqb, leb-true, not-true}
 use Rattle.words.specs.Lists.{every}
-use Rattle.words.specs.Lists.Laws.{by-test, and-left, and-right, every-cons, every-append, getD-in}
-use Rattle.files.specs.Bytes.{number, field, records, Body, kindOf, countOf, offsetOf, lineRight, bodiesPlaced, placed, recordsOf, Test, firstHit, testsOn}
+use Rattle.words.specs.Lists.Laws.{every-cons}
+use Rattle.words.specs.Tests.{by-test, and-left, and-right}
+use Rattle.files.specs.Bytes.{records, Body, kindOf, countOf, offsetOf, lineRight, bodiesPlaced, placed, recordsOf, Test, firstHit, testsOn}
 
 -- ---- refusals
 
@@ -45,11 +44,6 @@ module _ {X : Type 0} where
       (λ f. absurd (numbered-cons u us n .0 (sym (firstHit-fails u us x f) ∙ h)))
       (λ f. unrefused x (numbered-cons u us n .1) (sym (firstHit-passes u us x f) ∙ h) i)
 
-  pub passed-unrefused : (ts : List (Test X)) (x : X) → ((t : Test X) → List·Memᴰ t ts → t .fails x ≡ false) → firstHit ts x ≡ 0
-  unfolding firstHit
-  passed-unrefused [] x h = refl
-  passed-unrefused (t ∷ ts) x h = firstHit-passes t ts x (h t (List·Memᴰ·head refl)) ∙ passed-unrefused ts x (λ u i. h u (List·Memᴰ·tail i))
-
   -- the tests that follow count where those before refuse nothing
   pub firstHit-past : (ts us : List (Test X)) (x : X) → numbered ts ≡ true → firstHit ts x ≡ 0 → firstHit (ts ++ us) x ≡ firstHit us x
   firstHit-past [] us x n h = refl
@@ -63,17 +57,6 @@ module _ {X : Type 0} where
   firstHit-stays (t ∷ ts) us x h = by-test (t .fails x)
       (λ f. firstHit-fails t (ts ++ us) x f ∙ sym (firstHit-fails t ts x f))
       (λ f. firstHit-passes t (ts ++ us) x f ∙ firstHit-stays ts us x (λ q. h (firstHit-passes t ts x f ∙ q)) ∙ sym (firstHit-passes t ts x f))
-
-  pub unrefused-left : (ts us : List (Test X)) (x : X) → firstHit (ts ++ us) x ≡ 0 → firstHit ts x ≡ 0
-  unrefused-left ts us x h = by-test (eqb (firstHit ts x) 0)
-      (λ e. eqb-true (firstHit ts x) 0 e) (λ e. sym (firstHit-stays ts us x (eqb-false (firstHit ts x) 0 e)) ∙ h)
-
-  pub unrefused-right : (ts us : List (Test X)) (x : X) → numbered ts ≡ true → firstHit (ts ++ us) x ≡ 0 → firstHit us x ≡ 0
-  unrefused-right ts us x n h = sym (firstHit-past ts us x n (unrefused-left ts us x h)) ∙ h
-
-  pub numbered-append : (ts us : List (Test X)) → numbered ts ≡ true → numbered us ≡ true → numbered (ts ++ us) ≡ true
-  unfolding numbered
-  numbered-append ts us n m = every-append (λ t. not (eqb (t .refusal) 0)) ts us ∙ ap₂ _&&_ n m
 
 module _ {X Y : Type 0} (part : Y → X) where
   pub firstHit-testsOn : (ts : List (Test X)) (y : Y) → firstHit (testsOn part ts) y ≡ firstHit ts (part y)
@@ -149,76 +132,8 @@ records-at (suc n) size bytes (suc i) h =
     records-at n size (drop size bytes) i (le-of-suc-le-suc h)
     ∙ ap (take size) (drop-drop (i * size) size bytes ∙ ap (λ (k : ℕ). drop k bytes) (add-comm size (i * size) ∙ sym (suc-mul i size)))
 
-pub recordsOf-at : (file : List ℕ) (n size i : ℕ) → i < countOf file n
-    → getD (recordsOf file n size) i [] ≡ take size (drop (offsetOf file n + i * size) file)
-unfolding recordsOf
-recordsOf-at file n size i h =
-    records-at (countOf file n) size (drop (offsetOf file n) file) i h ∙ ap (take size) (drop-drop (i * size) (offsetOf file n) file)
-
--- where the bytes suffice, each record has its size
-pub record-whole : (n size : ℕ) (bytes : List ℕ) {x : List ℕ} → n * size ≤ length bytes → List·Memᴰ x (records n size bytes) → length x ≡ size
-unfolding records
-record-whole zero size bytes l j = absurd (List·Memᴰ·not-nil j)
-record-whole (suc n) size bytes {x} l j =
-    let m : suc n * size ≡ n * size + size = suc-mul n size in
-    let d : length (drop size bytes) ≡ length bytes - size = length-drop size bytes in
-    ⊎-elim (λ e. ap length e ∙ length-take-le size bytes (omega arith)) (λ i. record-whole n size (drop size bytes) (omega arith) i) (List·Memᴰ·cases-cons j)
-
 -- ---- numbers in bytes
 
 -- every element is below 256
 abbrev pub AllBytes : List ℕ → Type 0
 AllBytes bytes = (i : ℕ) → getD bytes i 0 < 256
-
-pub take-bytes : (n : ℕ) (bytes : List ℕ) → AllBytes bytes → AllBytes (take n bytes)
-take-bytes zero bytes h i = omega arith
-take-bytes (suc n) [] h i = omega arith
-take-bytes (suc n) (b ∷ bs) h zero = h 0
-take-bytes (suc n) (b ∷ bs) h (suc i) = take-bytes n bs (λ j. h (suc j)) i
-
-pub drop-bytes : (n : ℕ) (bytes : List ℕ) → AllBytes bytes → AllBytes (drop n bytes)
-drop-bytes n bytes h i = rw (getD-drop n bytes i 0) (h (n + i))
-
-pub number-below : (width : ℕ) (bytes : List ℕ) → AllBytes bytes → number (take width bytes) < 256 ^ width
-unfolding number
-number-below zero bytes h = omega arith
-number-below (suc width) [] h =
-    let p : 256 ^ suc width ≡ 256 * 256 ^ width = pow-succ' 256 width in
-    let r : number (take width []) < 256 ^ width = number-below width [] h in
-    omega arith
-number-below (suc width) (b ∷ bs) h =
-    let p : 256 ^ suc width ≡ 256 * 256 ^ width = pow-succ' 256 width in
-    let l : b < 256 = h 0 in
-    let r : number (take width bs) < 256 ^ width = number-below width bs (λ i. h (suc i)) in
-    omega arith
-
-pub field-below : (at width : ℕ) (bytes : List ℕ) → AllBytes bytes → field at width bytes < 256 ^ width
-unfolding field
-field-below at width bytes h = number-below width (drop at bytes) (drop-bytes at bytes h)
-
-pub records-bytes : (n size : ℕ) (bytes : List ℕ) {x : List ℕ} → AllBytes bytes → List·Memᴰ x (records n size bytes) → AllBytes x
-unfolding records
-records-bytes zero size bytes h j = absurd (List·Memᴰ·not-nil j)
-records-bytes (suc n) size bytes {x} h j = ⊎-elim
-    (λ e. subst (λ (y : List ℕ). AllBytes y) (sym e) (take-bytes size bytes h))
-    (λ i. records-bytes n size (drop size bytes) (drop-bytes size bytes h) i)
-    (List·Memᴰ·cases-cons j)
-
-pub recordsOf-bytes : (file : List ℕ) (n size : ℕ) {x : List ℕ} → AllBytes file → List·Memᴰ x (recordsOf file n size) → AllBytes x
-unfolding recordsOf
-recordsOf-bytes file n size h j =
-    records-bytes (countOf file n) size (drop (offsetOf file n) file) (drop-bytes (offsetOf file n) file h) j
-
-pub record-bytes : (file : List ℕ) (n size i : ℕ) → AllBytes file → AllBytes (getD (recordsOf file n size) i [])
-record-bytes file n size i h = by-test (ltb i (length (recordsOf file n size)))
-    (λ e. recordsOf-bytes file n size h (getD-in (recordsOf file n size) i [] (ltb-true i (length (recordsOf file n size)) e)))
-    (λ e. rw (List·getD-eq-default (recordsOf file n size) [] (ltb-false i (length (recordsOf file n size)) e)) (λ k. omega arith))
-
--- the counts and offsets of a table of contents
-pub count-below : (file : List ℕ) (n : ℕ) → AllBytes file → countOf file n < 2 ^ 16
-unfolding countOf
-count-below file n h = field-below (3 + 8 * n) 2 file h
-
-pub offset-below : (file : List ℕ) (n : ℕ) → AllBytes file → offsetOf file n < 2 ^ 32
-unfolding offsetOf
-offset-below file n h = field-below (5 + 8 * n) 4 file h

@@ -12,12 +12,13 @@ use lib.Dec.{eqb, ltb, leb}
 use borrow.Author.Tests.{eqb-true, eqb-false, ltb-true, ltb-false, leb-true, lt-ltb, le-ltb, not-true}
 use Rattle.words.specs.Sets.Laws.{All, has-in}
 use Rattle.words.specs.Lists.{only}
-use Rattle.words.specs.Lists.Laws.{and-left, and-right, every-in, only-out, getD-in}
+use Rattle.words.specs.Lists.Laws.{every-in, only-out, getD-in}
+use Rattle.words.specs.Tests.{and-left, and-right}
 use Rattle.words.specs.Order.{less, rising, risingFrom}
 use Rattle.words.specs.Order.Laws.{less-cons, less-lt, less-eq, less-differs, one-less, number-cases}
 use Rattle.words.specs.Order.Laws.{risingFrom-less, less-risingFrom, rising-tail, rising-only, rising-map, sorted-rising, sorted-out}
 use Rattle.automata.specs.Automaton.{Move, Edge, Entry, choiceKey, entryKey}
-use Rattle.files.specs.Case.{Head, inner1, inner2, headRight, RuleBytes, ruleRight, EdgeBytes, edgeRight, edgeKey, entriesOf, innerEdges, noteRight, moveRight}
+use Rattle.files.specs.Case.{Head, inner1, inner2, headRight, RuleBytes, ruleRight, EdgeBytes, edgeRight, edgeKey, entriesOf, innerEdges, annotationRight, moveRight}
 
 -- ---- sets of inner states
 
@@ -115,21 +116,21 @@ rule-bounds h x e =
 -- ---- an edge
 
 pub record EdgeBounds (h : Head) (x : EdgeBytes) : Type 0 where
-  pub entry-second : x .state < h .P → x .second ≡ 255
-  pub inner-second : h .P ≤ x .state → Inner1 h (x .second)
+  pub entry-second : x .state < h .P → x .first ≡ 255
+  pub inner-second : h .P ≤ x .state → Inner1 h (x .first)
   pub state-exists : x .state < h .P + h .I
   pub set-inner : All (x .S) (Inner2 h)
 
 pub edge-bounds : (h : Head) (x : EdgeBytes) → edgeRight h x ≡ true → EdgeBounds h x
 unfolding edgeRight
 edge-bounds h x e =
-    let a : Bool = elim (ltb (x .state) (h .P)) [ true ↦ eqb (x .second) 255 | false ↦ ltb (x .second) (h .J) ] in
+    let a : Bool = elim (ltb (x .state) (h .P)) [ true ↦ eqb (x .first) 255 | false ↦ ltb (x .first) (h .J) ] in
     let b : Bool = a && ltb (x .state) (h .P + h .I) in
     let eb = and-left b _ e in
     let ea = and-left a _ eb in
     record {
-      entry-second = λ l. eqb-true (x .second) 255 (rw (lt-ltb (x .state) (h .P) l) at ea);
-      inner-second = λ l. ltb-true (x .second) (h .J) (rw (le-ltb (x .state) (h .P) l) at ea);
+      entry-second = λ l. eqb-true (x .first) 255 (rw (lt-ltb (x .state) (h .P) l) at ea);
+      inner-second = λ l. ltb-true (x .first) (h .J) (rw (le-ltb (x .state) (h .P) l) at ea);
       state-exists = ltb-true (x .state) (h .P + h .I) (and-right a _ eb);
       set-inner = inner2-all h (x .S) (and-right b _ e);
     }
@@ -137,47 +138,47 @@ edge-bounds h x e =
 -- ---- a move
 
 -- of an annotation of order k and its set
-pub record NoteBounds (h : Head) (k B : ℕ) : Type 0 where
+pub record AnnotationBounds (h : Head) (k B : ℕ) : Type 0 where
   pub order-small : k ≤ 2
   pub none-empty : k ≡ 0 → B ≡ 0
   pub empty-none : B ≡ 0 → k ≡ 0
-  pub note1-inner : k ≡ 1 → All B (Inner1 h)
-  pub note2-inner : k ≡ 2 → All B (Inner2 h)
+  pub annotation1-inner : k ≡ 1 → All B (Inner1 h)
+  pub annotation2-inner : k ≡ 2 → All B (Inner2 h)
 
-pub note-bounds : (h : Head) (k B : ℕ) → noteRight h k B ≡ true → NoteBounds h k B
-unfolding noteRight
-note-bounds h zero B e =
+pub annotation-bounds : (h : Head) (k B : ℕ) → annotationRight h k B ≡ true → AnnotationBounds h k B
+unfolding annotationRight
+annotation-bounds h zero B e =
     record {
       order-small = omega arith;
       none-empty = λ z. eqb-true B 0 e;
       empty-none = λ z. refl;
-      note1-inner = λ z. absurd (omega arith);
-      note2-inner = λ z. absurd (omega arith);
+      annotation1-inner = λ z. absurd (omega arith);
+      annotation2-inner = λ z. absurd (omega arith);
     }
-note-bounds h (suc zero) B e =
+annotation-bounds h (suc zero) B e =
     let n = eqb-false B 0 (not-true (eqb B 0) (and-left (not (eqb B 0)) _ e)) in
     record {
       order-small = omega arith;
       none-empty = λ z. absurd (omega arith);
       empty-none = λ z. absurd (n z);
-      note1-inner = λ z. inner1-all h B (and-right (not (eqb B 0)) _ e);
-      note2-inner = λ z. absurd (omega arith);
+      annotation1-inner = λ z. inner1-all h B (and-right (not (eqb B 0)) _ e);
+      annotation2-inner = λ z. absurd (omega arith);
     }
-note-bounds h (suc (suc zero)) B e =
+annotation-bounds h (suc (suc zero)) B e =
     let n = eqb-false B 0 (not-true (eqb B 0) (and-left (not (eqb B 0)) _ e)) in
     record {
       order-small = omega arith;
       none-empty = λ z. absurd (omega arith);
       empty-none = λ z. absurd (n z);
-      note1-inner = λ z. absurd (omega arith);
-      note2-inner = λ z. inner2-all h B (and-right (not (eqb B 0)) _ e);
+      annotation1-inner = λ z. absurd (omega arith);
+      annotation2-inner = λ z. inner2-all h B (and-right (not (eqb B 0)) _ e);
     }
-note-bounds h (suc (suc (suc k))) B e = absurd (false≢true e)
+annotation-bounds h (suc (suc (suc k))) B e = absurd (false≢true e)
 
 pub record MoveBounds (h : Head) (n : ℕ) (m : Move) : Type 0 where
   pub state-exists : m .state < n
   pub symbol-exists : m .symbol < h .A
-  pub note : NoteBounds h (m .order) (m .B)
+  pub annotation : AnnotationBounds h (m .order) (m .B)
   pub rest-inner : All (m .R) (Inner1 h)
 
 pub move-bounds : (h : Head) (n : ℕ) (m : Move) → moveRight h n m ≡ true → MoveBounds h n m
@@ -185,13 +186,13 @@ unfolding moveRight
 move-bounds h n m e =
     let a : Bool = ltb (m .state) n in
     let b : Bool = a && ltb (m .symbol) (h .A) in
-    let c : Bool = b && noteRight h (m .order) (m .B) in
+    let c : Bool = b && annotationRight h (m .order) (m .B) in
     let ec = and-left c _ e in
     let eb = and-left b _ ec in
     record {
       state-exists = ltb-true (m .state) n (and-left a _ eb);
       symbol-exists = ltb-true (m .symbol) (h .A) (and-right a _ eb);
-      note = note-bounds h (m .order) (m .B) (and-right b _ ec);
+      annotation = annotation-bounds h (m .order) (m .B) (and-right b _ ec);
       rest-inner = inner1-all h (m .R) (and-right c _ e);
     }
 
@@ -237,11 +238,11 @@ entries-out h xs {e} j =
     (r .0, o .0, ltb-true (r .0 .state) (h .P) (o .1), ap (λ (y : Entry). y .control) (sym (r .2)), ap (λ (y : Entry). y .S) (sym (r .2)))
 
 pub inner-out : (h : Head) (xs : List EdgeBytes) {e : Edge} → List·Memᴰ e (innerEdges h xs)
-    → (x : EdgeBytes) × List·Memᴰ x xs × (h .P ≤ x .state) × (e ≡ record { state = x .state; first = x .second; S = x .S })
+    → (x : EdgeBytes) × List·Memᴰ x xs × (h .P ≤ x .state) × (e ≡ record { state = x .state; first = x .first; S = x .S })
 unfolding innerEdges
 inner-out h xs {e} j =
     let l : List EdgeBytes = only (λ x. not (ltb (x .state) (h .P))) xs in
-    let f : EdgeBytes → Edge = λ x. record { state = x .state; first = x .second; S = x .S } in
+    let f : EdgeBytes → Edge = λ x. record { state = x .state; first = x .first; S = x .S } in
     let r = Memᴰ·of-map f l (sorted-out choiceKey (map f l) j) in
     let o = only-out (λ x. not (ltb (x .state) (h .P))) xs (r .1) in
     (r .0, o .0, ltb-false (r .0 .state) (h .P) (not-true (ltb (r .0 .state) (h .P)) (o .1)), sym (r .2))
@@ -250,20 +251,20 @@ pub inner-edges-rising : (h : Head) (xs : List EdgeBytes) → rising choiceKey (
 unfolding innerEdges
 inner-edges-rising h xs =
     sorted-rising choiceKey
-    (map (λ (x : EdgeBytes). record { state = x .state; first = x .second; S = x .S }) (only (λ x. not (ltb (x .state) (h .P))) xs))
+    (map (λ (x : EdgeBytes). record { state = x .state; first = x .first; S = x .S }) (only (λ x. not (ltb (x .state) (h .P))) xs))
 
 -- Of two edges with one second byte the first has the lesser (state, S).
-pub less-entry : (x y : EdgeBytes) → x .second ≡ y .second → less (edgeKey x) (edgeKey y) ≡ true
+pub less-entry : (x y : EdgeBytes) → x .first ≡ y .first → less (edgeKey x) (edgeKey y) ≡ true
     → less (x .state ∷ x .S ∷ []) (y .state ∷ y .S ∷ []) ≡ true
 unfolding edgeKey
 less-entry x y e h =
-    let below : less (x .S ∷ x .second ∷ []) (y .S ∷ y .second ∷ []) ≡ true → less (x .S ∷ []) (y .S ∷ []) ≡ true = λ k.
+    let below : less (x .S ∷ x .first ∷ []) (y .S ∷ y .first ∷ []) ≡ true → less (x .S ∷ []) (y .S ∷ []) ≡ true = λ k.
     ⊎-elim (λ l. less-lt (x .S) (y .S) [] [] l)
-    (λ q. let l : x .second < y .second = one-less (x .second) (y .second) (q .1) in absurd (omega arith))
-    (less-cons (x .S) (y .S) (x .second ∷ []) (y .second ∷ []) k) in
+    (λ q. let l : x .first < y .first = one-less (x .first) (y .first) (q .1) in absurd (omega arith))
+    (less-cons (x .S) (y .S) (x .first ∷ []) (y .first ∷ []) k) in
     ⊎-elim (λ l. less-lt (x .state) (y .state) (x .S ∷ []) (y .S ∷ []) l)
     (λ q. less-eq (x .state) (y .state) (x .S ∷ []) (y .S ∷ []) (q .0) ∙ below (q .1))
-    (less-cons (x .state) (y .state) (x .S ∷ x .second ∷ []) (y .S ∷ y .second ∷ []) h)
+    (less-cons (x .state) (y .state) (x .S ∷ x .first ∷ []) (y .S ∷ y .first ∷ []) h)
 
 -- (p, S) rises along the entries of a file, since their second bytes are one
 pub entries-rising : (h : Head) (xs : List EdgeBytes) → ((x : EdgeBytes) → List·Memᴰ x xs → EdgeBounds h x) → rising edgeKey xs ≡ true
@@ -271,7 +272,7 @@ pub entries-rising : (h : Head) (xs : List EdgeBytes) → ((x : EdgeBytes) → L
 unfolding entriesOf entryKey
 entries-rising h xs f r =
     let test : EdgeBytes → Bool = λ x. ltb (x .state) (h .P) in
-    let second : (x : EdgeBytes) → List·Memᴰ x (only test xs) → x .second ≡ 255 = λ x j.
+    let second : (x : EdgeBytes) → List·Memᴰ x (only test xs) → x .first ≡ 255 = λ x j.
     let o = only-out test xs j in f x (o .0) .entry-second (ltb-true (x .state) (h .P) (o .1)) in
     rising-map entryKey (λ (x : EdgeBytes). record { control = x .state; S = x .S }) (only test xs)
     ∙ rising-other edgeKey (λ x. x .state ∷ x .S ∷ []) (only test xs)

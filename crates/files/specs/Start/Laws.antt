@@ -1,25 +1,25 @@
 -- What a start file without a refusal gives: its starts name controls and cells of order 2, and its cells refer to lower cells of the
 -- right order.
 -- Assumes nothing.
-use Prim.Native.Nat.{ℕ, zero, suc, _+_, _*_, _^_, _<_, _≤_}
+use Prim.Native.Nat.{ℕ, zero, suc, _+_, _*_, _<_, _≤_}
 use mathlib.Core.Bool.{Bool, true, _&&_, false≢true}
 use mathlib.Core.Path.{_≡_, refl, ap, sym, _∙_, subst}
-use mathlib.Core.List.{List, [], _∷_, map, List·Memᴰ, List·Memᴰ·head, List·Memᴰ·tail, Memᴰ·of-map}
+use mathlib.Core.List.{List, [], _∷_, map, List·Memᴰ, List·Memᴰ·head, List·Memᴰ·tail}
 use native.Mathlib.Nat.{add-zero, zero-add, not-suc-le-zero, le-of-suc-le-suc}
 use native.Mathlib.Omega.{arith}
-use lib.ListN.{length, getD, length-map, List·getD-eq-default}
+use lib.ListN.{length, getD, length-map}
 use lib.Dec.{eqb, ltb}
-use borrow.Author.Tests.{eqb-true, ltb-true, ltb-false, not-false}
+use borrow.Author.Tests.{eqb-true, ltb-true, not-false}
 use Rattle.words.specs.Lists.{every}
-use Rattle.words.specs.Lists.Laws.{by-test, and-left, and-right, every-in}
+use Rattle.words.specs.Lists.Laws.{every-in}
+use Rattle.words.specs.Tests.{by-test, and-left, and-right}
 use Rattle.walks.specs.Cell.{Cell, empty1, symbol, empty2, above}
-use Rattle.walks.specs.Cell.Formed.{cellOrder, cellAt, orderAt, Refers, Formed, formed-below, formed-symbol, formed-above}
+use Rattle.walks.specs.Cell.Formed.{cellOrder, orderAt, Refers, Formed, formed-below}
 use Rattle.walks.specs.Cell.Values.{getD-map-below}
 use Rattle.files.specs.Bytes.{placed, countOf, offsetOf, recordsOf, firstHit}
 use Rattle.files.specs.Bytes.Laws.{numbered, unrefused, bodies-first, bodies-end, placed-first, placed-bodies, length-recordsOf}
-use Rattle.files.specs.Bytes.Laws.{AllBytes, field-below, recordsOf-bytes}
 use Rattle.files.specs.Case.{head}
-use Rattle.files.specs.Start.{startBodies, Start, startOf, CellBytes, cellBytes, startsOf, cellRecords, orderOf, refersTo, cellRight, cellsRight, startRight, Files, startFileRight, startTests, cellOf, cellsOf}
+use Rattle.files.specs.Start.{startBodies, Start, CellBytes, cellBytes, startsOf, cellRecords, orderOf, refersTo, cellRight, cellsRight, startRight, Files, startFileRight, startTests, cellOf, cellsOf}
 
 -- ---- the places of the bodies
 
@@ -94,13 +94,6 @@ right-order (right-above k e a b) = rw (e, k)
 abbrev noCell : CellBytes
 noCell = record { kind = 0; symbol = 0; first = 0; second = 0 }
 
--- a symbol is below A
-abbrev pub SymbolBelow : ℕ → Cell → Type 0
-SymbolBelow A empty1 = Unit {0}
-SymbolBelow A (symbol a u s) = a < A
-SymbolBelow A empty2 = Unit {0}
-SymbolBelow A (above w t) = Unit {0}
-
 pub cellsRight-at : (A : ℕ) (cells : List CellBytes) (n : ℕ) (xs : List CellBytes) (d : CellBytes) (i : ℕ) {m : ℕ} → n + i ≡ m
     → cellsRight A cells n xs ≡ true → i < length xs → cellRight A cells m (getD xs i d) ≡ true
 unfolding cellsRight
@@ -141,17 +134,6 @@ module _ (A : ℕ) (cells : List CellBytes) (right : cellsRight A cells 0 cells 
           let q = refers-below n 2 (x .second) (omega arith) b in
           rw e (r .0, q .0, r .1, q .1)
 
-  pub cells-symbols : (n : ℕ) → SymbolBelow A (cellAt (map cellOf cells) n)
-  cells-symbols n = by-test (ltb n (length cells))
-      (λ e. let l = ltb-true n (length cells) e in rw (getD-map-below cellOf cells n noCell empty1 l) (go n (getD cells n noCell) (right-at noCell n l)))
-      (λ e. rw (List·getD-eq-default (map cellOf cells) empty1 {n = n} (rw (length-map cells cellOf) (ltb-false n (length cells) e))) tt)
-    where
-      go : (n : ℕ) (x : CellBytes) → RightCell A cells n x → SymbolBelow A (cellOf x)
-      go n x (right-empty1 k e) = rw e tt
-      go n x (right-symbol k e a b c) = rw e a
-      go n x (right-empty2 k e) = rw e tt
-      go n x (right-above k e a b) = rw e tt
-
 -- ---- a start file without a refusal
 
 -- of a start: its control exists, and its root is a cell of order 2
@@ -178,20 +160,6 @@ module _ (f : Files) (sound : firstHit startTests f ≡ 0) where
   unfolding cellsOf
   start-cells = cells-formed (head (f .case) .A) (cellRecords (f .start)) cells-right
 
-  pub start-symbols : (n : ℕ) → SymbolBelow (head (f .case) .A) (cellAt (cellsOf (f .start)) n)
-  unfolding cellsOf
-  start-symbols = cells-symbols (head (f .case) .A) (cellRecords (f .start)) cells-right
-
-  pub start-symbol : {n a u s : ℕ} → cellAt (cellsOf (f .start)) n ≡ symbol a u s
-      → (u < n) × (s < n) × (orderAt (cellsOf (f .start)) s ≡ 1) × (a < head (f .case) .A)
-  start-symbol {n} e =
-      let r = formed-symbol start-cells e in
-      (r .0, r .1, r .2, subst (SymbolBelow (head (f .case) .A)) e (start-symbols n))
-
-  pub start-above : {n w t : ℕ} → cellAt (cellsOf (f .start)) n ≡ above w t
-      → (w < n) × (t < n) × (orderAt (cellsOf (f .start)) w ≡ 1) × (orderAt (cellsOf (f .start)) t ≡ 2)
-  start-above e = formed-above start-cells e
-
   -- "A root has order 2."
   pub start-facts : {x : Start} → List·Memᴰ x (startsOf (f .start)) → StartFacts (head (f .case) .P) (cellsOf (f .start)) x
   unfolding startFileRight startRight cellsOf
@@ -208,45 +176,6 @@ module _ (f : Files) (sound : firstHit startTests f ≡ 0) where
 
   -- ---- sizes
 
-  pub length-starts : length (startsOf (f .start)) ≡ countOf (f .start) 0
-  unfolding startsOf
-  length-starts = length-map (recordsOf (f .start) 0 3) startOf ∙ length-recordsOf (f .start) 0 3
-
   pub length-cells : length (cellsOf (f .start)) ≡ countOf (f .start) 1
   unfolding cellsOf cellRecords
   length-cells = length-map (cellRecords (f .start)) cellOf ∙ length-map (recordsOf (f .start) 1 6) cellBytes ∙ length-recordsOf (f .start) 1 6
-
-  pub starts-bounds : (1 ≤ length (startsOf (f .start))) × (length (startsOf (f .start)) ≤ 64)
-  starts-bounds = rw length-starts (start-placed .starts-some, start-placed .starts-few)
-
-  pub cells-bounds : (1 ≤ length (cellsOf (f .start))) × (length (cellsOf (f .start)) ≤ 256)
-  cells-bounds = rw length-cells (start-placed .cells-some, start-placed .cells-few)
-
--- ---- the numbers of a file of bytes, refused or not
-
-pub record CellWidths (x : CellBytes) : Type 0 where
-  pub kind-byte : x .kind < 256
-  pub symbol-byte : x .symbol < 256
-  pub first-word : x .first < 2 ^ 16
-  pub second-word : x .second < 2 ^ 16
-
-module _ (file : List ℕ) (bytes : AllBytes file) where
-  pub start-widths : {x : Start} → List·Memᴰ x (startsOf file) → (x .control < 256) × (x .root < 2 ^ 16)
-  unfolding startsOf startOf
-  start-widths j =
-      let r = Memᴰ·of-map startOf (recordsOf file 0 3) j in
-      let b = recordsOf-bytes file 0 3 bytes (r .1) in
-      subst (λ (x : Start). (x .control < 256) × (x .root < 2 ^ 16)) (r .2) (b 0, field-below 1 2 (r .0) b)
-
-  pub cell-widths : {x : CellBytes} → List·Memᴰ x (cellRecords file) → CellWidths x
-  unfolding cellRecords cellBytes
-  cell-widths j =
-      let r = Memᴰ·of-map cellBytes (recordsOf file 1 6) j in
-      let b = recordsOf-bytes file 1 6 bytes (r .1) in
-      subst CellWidths (r .2)
-      (record {
-        kind-byte = b 0;
-        symbol-byte = b 1;
-        first-word = field-below 2 2 (r .0) b;
-        second-word = field-below 4 2 (r .0) b;
-      })

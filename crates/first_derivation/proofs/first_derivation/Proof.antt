@@ -4,7 +4,7 @@ use Prim.Native.Nat.{_-_}
 use borrow.Author.Needs.{needs}
 use Rattle.tables.specs.Held.{automatonOf}
 use Rattle.tables.specs.Records.{asResult}
-use Rattle.first_reading.specs.Answer.{Passed, Same}
+use Rattle.first_reading.specs.Answer.{NotFoundBelow, Unchanged}
 use Rattle.first_reading.specs.Answer.Laws.{same-refl, same-after, passed-none, passed-more}
 use Rattle.first_derivation.specs.Premises.Loops.{finds-from}
 use Rattle.first_derivation.specs.Derived.{ruleGives}
@@ -15,7 +15,7 @@ use Rattle.first_derivation.proofs.first_derivation.Tie as tie
 
 abbrev Inv-loop : tie.InvT-loop
 Inv-loop z inner entries moves body count x edges₀ chosen₀ i₀ edges chosen i =
-    Passed count (ruleGives (automatonOf z inner entries moves) (asResult x) body) i × Same edges₀ edges × Same chosen₀ chosen
+    NotFoundBelow count (ruleGives (automatonOf z inner entries moves) (asResult x) body) i × Unchanged edges₀ edges × Unchanged chosen₀ chosen
 
 abbrev μ-loop : tie.MeasureT-loop
 μ-loop z inner entries moves body count x edges₀ chosen₀ i₀ edges chosen i = count - i

@@ -6,7 +6,7 @@ use mathlib.Core.Path.{_∙_}
 use Rattle.tables.specs.Records.{asResult}
 use Rattle.tables.specs.Held.{automatonOf}
 use Rattle.case_records.specs.Values.{theOperation}
-use Rattle.first_reading.specs.Answer.{Passed, Same}
+use Rattle.first_reading.specs.Answer.{NotFoundBelow, Unchanged}
 use Rattle.first_reading.specs.Answer.Laws.{answers-is, answers-fails, answers-from, same-refl, same-after, passed-none, passed-more, passed-all}
 use Rattle.first_derivation.specs.Premises.{moveGives}
 use Rattle.first_derivation.specs.Premises.Loops.{moves-below, move-found, finds-from, finds-nothing}
@@ -15,7 +15,7 @@ use Rattle.first_derivation.proofs.first_move.Tie as tie
 
 abbrev Inv-loop : tie.InvT-loop
 Inv-loop z inner entries moves a op p b x edges₀ chosen₀ n i₀ edges chosen i =
-    Passed n (moveGives (automatonOf z inner entries moves) a (asResult x) (theOperation op) p b) i × Same edges₀ edges × Same chosen₀ chosen
+    NotFoundBelow n (moveGives (automatonOf z inner entries moves) a (asResult x) (theOperation op) p b) i × Unchanged edges₀ edges × Unchanged chosen₀ chosen
 
 abbrev μ-loop : tie.MeasureT-loop
 μ-loop z inner entries moves a op p b x edges₀ chosen₀ n i₀ edges chosen i =

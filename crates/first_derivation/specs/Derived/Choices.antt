@@ -13,7 +13,7 @@ use Rattle.words.specs.Tests.{by-test}
 use Rattle.stacks.specs.System.{Rule}
 use Rattle.automata.specs.Automaton.{Automaton}
 use Rattle.automata.specs.Derivation.{Result, Derivation, firstDerivation}
-use Rattle.walks.specs.Guide.{least, choosesAll}
+use Rattle.walks.specs.Guide.{firstOrZero, choosesAll}
 use Rattle.first_reading.specs.First.{isSome}
 use Rattle.first_reading.specs.Answer.{writtenAll, writtenBy}
 use Rattle.first_reading.specs.Answer.Laws.{answers-fails}
@@ -50,17 +50,6 @@ unfolding writtenAll
 length-writtenAll [] ns ws = refl
 length-writtenAll (q ∷ qs) [] ws = refl
 length-writtenAll (q ∷ qs) (n ∷ ns) ws = length-set (writtenAll qs ns ws) q n ∙ length-writtenAll qs ns ws
-
--- no number is written
-pub written-no-number : (qs ws : List ℕ) → writtenAll qs [] ws ≡ ws
-unfolding writtenAll
-written-no-number [] ws = refl
-written-no-number (q ∷ qs) ws = refl
-
-pub chooses-no-number : (qs : List ℕ) (q : ℕ) → choosesAll qs [] q ≡ 0
-unfolding choosesAll
-chooses-no-number [] q = refl
-chooses-no-number (p ∷ qs) q = refl
 
 -- a state that is not among those that choose
 chooses-other : (qs ns : List ℕ) (q : ℕ) → (List·Memᴰ q qs → ⊥) → choosesAll qs ns q ≡ 0
@@ -108,11 +97,11 @@ module _ {A : Automaton} {rules : List Rule} {x : Result} {es₀ es ms₀ ms : L
 
   -- a derivation with these numbers is found
   pub found-some : {n i : ℕ} → FindsFirst A rules x (Found n i) es₀ es ms₀ ms
-      → (d : Derivation) × (firstDerivation A rules x ≡ some d) × (d .rule ≡ n) × (least (d .premise) ≡ i)
+      → (d : Derivation) × (firstDerivation A rules x ≡ some d) × (d .rule ≡ n) × (firstOrZero (d .premise) ≡ i)
   found-some {n} {i} h = go (firstDerivation A rules x) refl (h .numbers)
     where
       go : (o : Option Derivation) → firstDerivation A rules x ≡ o → some (record { rule = n; premise = i }) ≡ Option·map stepOf (firstDerivation A rules x)
-          → (d : Derivation) × (firstDerivation A rules x ≡ some d) × (d .rule ≡ n) × (least (d .premise) ≡ i)
+          → (d : Derivation) × (firstDerivation A rules x ≡ some d) × (d .rule ≡ n) × (firstOrZero (d .premise) ≡ i)
       go none e k = absurd (Option·some-ne-none _ (k ∙ ap (Option·map stepOf) e))
       go (some d) e k =
           let s = Option·some-injective _ (stepOf d) (k ∙ ap (Option·map stepOf) e) in
@@ -128,30 +117,15 @@ module _ {A : Automaton} {rules : List Rule} {x : Result} {es₀ es ms₀ ms : L
     moves-written = h .written .moves .words ∙ ap (λ (o : Option Derivation). writtenBy (derivationMoves A rules) o ms₀) is
 
     -- The slices hold the choices of the derivation, for every state.
-    pub edges-chosen : StatesSmall A → Blank es₀ → byState es ≡ choosesAll (edgeStates A (operationBy rules (d .rule)) (least (d .premise))) (d .edges)
+    pub edges-chosen : StatesSmall A → Blank es₀ → byState es ≡ choosesAll (edgeStates A (operationBy rules (d .rule)) (firstOrZero (d .premise))) (d .edges)
     unfolding derivationEdges
     edges-chosen s b =
         ap byState edges-written
-        ∙ written-chooses (edgeStates A (operationBy rules (d .rule)) (least (d .premise))) (d .edges) b (edges-below s (operationBy rules (d .rule)) (least (d .premise)))
+        ∙ written-chooses (edgeStates A (operationBy rules (d .rule)) (firstOrZero (d .premise))) (d .edges) b (edges-below s (operationBy rules (d .rule)) (firstOrZero (d .premise)))
 
-    pub moves-chosen : StatesSmall A → Blank ms₀ → byState ms ≡ choosesAll (readStates A (operationBy rules (d .rule)) (least (d .premise)) (d .edges)) (d .moves)
+    pub moves-chosen : StatesSmall A → Blank ms₀ → byState ms ≡ choosesAll (readStates A (operationBy rules (d .rule)) (firstOrZero (d .premise)) (d .edges)) (d .moves)
     unfolding derivationMoves
     moves-chosen s b =
         ap byState moves-written
-        ∙ written-chooses (readStates A (operationBy rules (d .rule)) (least (d .premise)) (d .edges)) (d .moves) b
-        (reads-below s (operationBy rules (d .rule)) (least (d .premise)) (d .edges))
-
-    -- without edges or moves a slice is as it was
-    pub no-edges : d .edges ≡ [] → es ≡ es₀
-    unfolding derivationEdges
-    no-edges e =
-        edges-written
-        ∙ ap (λ (l : List ℕ). writtenAll (edgeStates A (operationBy rules (d .rule)) (least (d .premise))) l es₀) e
-        ∙ written-no-number (edgeStates A (operationBy rules (d .rule)) (least (d .premise))) es₀
-
-    pub no-moves : d .moves ≡ [] → ms ≡ ms₀
-    unfolding derivationMoves
-    no-moves e =
-        moves-written
-        ∙ ap (λ (l : List ℕ). writtenAll (readStates A (operationBy rules (d .rule)) (least (d .premise)) (d .edges)) l ms₀) e
-        ∙ written-no-number (readStates A (operationBy rules (d .rule)) (least (d .premise)) (d .edges)) ms₀
+        ∙ written-chooses (readStates A (operationBy rules (d .rule)) (firstOrZero (d .premise)) (d .edges)) (d .moves) b
+        (reads-below s (operationBy rules (d .rule)) (firstOrZero (d .premise)) (d .edges))

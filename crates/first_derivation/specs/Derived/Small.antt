@@ -23,7 +23,7 @@ use Rattle.tables.specs.Rows.Laws.{length-rowsIn, getD-rowsIn}
 use Rattle.tables.specs.Records.{moveRow, entryRow, edgeRow}
 use Rattle.tables.specs.Held.{automatonOf}
 use Rattle.tables.specs.Held.Laws.{none-set}
-use Rattle.first_reading.specs.Words.{Stands}
+use Rattle.first_reading.specs.Words.{TablesWithin}
 use Rattle.first_derivation.specs.Premises.{edgeStates, readStates}
 use Rattle.first_derivation.specs.Derived.{StatesSmall}
 
@@ -55,10 +55,10 @@ module _ (z : Table) (inner entries moves : List ℕ) where
       let row : rowAt entryRow entries e ≡ x = sym (getD-rowsIn entryRow (z .entries) entries e noEntry (omega arith)) ∙ is noEntry in
       subst (λ (s : ℕ). s < 2 ^ 64) (ap (λ (y : Entry). y .S) row ∙ sym (entryAt-set A r h)) (words (e * 2 + 1)))
 
-  first-small : Stands z inner entries moves → (e : ℕ) → edgeAt A e .first < 64
+  first-small : TablesWithin z inner entries moves → (e : ℕ) → edgeAt A e .first < 64
   unfolding edgeAt
   first-small h e =
-      let few : z .states + z .entries ≤ 64 = h .entries-stand .states-few in
+      let few : z .inner1 + z .entries ≤ 64 = h .entries-stand .states-few in
       let len : length (rowsIn entryRow (z .entries) entries) ≡ z .entries = length-rowsIn entryRow (z .entries) entries in
       let lenI : length (rowsIn edgeRow (z .edges) inner) ≡ z .edges = length-rowsIn edgeRow (z .edges) inner in
       by-test (ltb e (length (edges A)))
@@ -69,12 +69,12 @@ module _ (z : Table) (inner entries moves : List ℕ) where
       (λ (k : (n : ℕ) × (n < length (A .entries)) × (e ≡ entryEdge A n)).
       let g = entry-edge A (record { below = k .1; control-is = refl; set-is = refl }) in
       let b : k .0 < z .entries = omega arith in
-      let s : edgeAt A e .first ≡ z .states + k .0 = ap (λ (n : ℕ). edgeAt A n .first) (k .2) ∙ g .first-is in
+      let s : edgeAt A e .first ≡ z .inner1 + k .0 = ap (λ (n : ℕ). edgeAt A n .first) (k .2) ∙ g .first-is in
       omega arith)
       (edge-cases A e (ltb-true e (length (edges A)) t)))
       (λ t. subst (λ (x : Edge). x .first < 64) (sym (List·getD-eq-default (edges A) noEdge (ltb-false e (length (edges A)) t))) (omega arith))
 
-  pub states-small : Stands z inner entries moves → ((j : ℕ) → getD entries j 0 < 2 ^ 64) → ((j : ℕ) → getD moves j 0 < 2 ^ 64) → StatesSmall A
+  pub states-small : TablesWithin z inner entries moves → ((j : ℕ) → getD entries j 0 < 2 ^ 64) → ((j : ℕ) → getD moves j 0 < 2 ^ 64) → StatesSmall A
   states-small h es ms = record { rests-small = rest-small ms; sets-small = set-small es; firsts-small = first-small h }
 
 -- ---- the states of a derivation's choices

@@ -14,7 +14,7 @@ use Rattle.stacks.specs.Stack.{Operation}
 use Rattle.automata.specs.Automaton.{Automaton, Move, Entry, noMove, noEntry, moveAt, entryAt, entryOf, entrySet}
 use Rattle.automata.specs.Automaton.Laws.{entrySet-is}
 use Rattle.automata.specs.Derivation.{Result, Joins, controlMoves, controlEntries}
-use Rattle.walks.specs.Guide.{least}
+use Rattle.walks.specs.Guide.{firstOrZero}
 use Rattle.tables.specs.declared.Table.{Table}
 use Rattle.tables.specs.Rows.{rowAt, rowsIn}
 use Rattle.tables.specs.Rows.Laws.{length-rowsIn, getD-rowsIn}
@@ -22,34 +22,34 @@ use Rattle.tables.specs.Records.{moveRow, entryRow}
 use Rattle.tables.specs.Held.{automatonOf, tableOf}
 use Rattle.first_reading.specs.First.{onlyIf, isSome, firstBelow}
 use Rattle.first_reading.specs.First.Laws.{onlyIf-yes, onlyIf-no, atPlace, firstOf-places}
-use Rattle.first_reading.specs.Answer.{Answers, Passed, Same}
+use Rattle.first_reading.specs.Answer.{Answers, NotFoundBelow, Unchanged}
 use Rattle.first_reading.specs.Answer.Laws.{answer-map, answers-none, answers-eq, answers-from, passed-hit}
 use Rattle.first_reading.specs.Search.{joinsKey, wanted, Numbers, noNumbers}
-use Rattle.first_derivation.specs.declared.Premise.{Premise}
-use Rattle.first_derivation.specs.declared.Premise.the-variants.{Nothing, By}
+use Rattle.first_derivation.specs.declared.PremiseFound.{PremiseFound}
+use Rattle.first_derivation.specs.declared.PremiseFound.the-variants.{Nothing, By}
 use Rattle.first_derivation.specs.Search.{Step, withPremise, byMove, byEntry, firstMove, firstEntry}
-use Rattle.first_derivation.specs.Premises.{writesEdges, writesMoves, Derives, stepEdges, stepMoves, moveGives, entryGives, Finds}
+use Rattle.first_derivation.specs.Premises.{writesEdges, writesMoves, FindsDerivation, stepEdges, stepMoves, moveGives, entryGives, Finds}
 
 -- ---- a premise is found, or none
 
 number-of : (i : ℕ) (t : Bool) (o : Option Numbers) → isSome (onlyIf t (Option·map (withPremise i) o)) ≡ true
-    → some i ≡ Option·map (λ s. least (s .premise)) (onlyIf t (Option·map (withPremise i) o))
-unfolding isSome onlyIf least
+    → some i ≡ Option·map (λ s. firstOrZero (s .premise)) (onlyIf t (Option·map (withPremise i) o))
+unfolding isSome onlyIf firstOrZero
 number-of i true none h = absurd (false≢true h)
 number-of i true (some n) h = refl
 number-of i false o h = absurd (false≢true h)
 
 module _ (A : Automaton) (op : Operation) where
-  pub finds-by : {o : Option Step} {es₀ es ms₀ ms : List ℕ} (i : ℕ) → some i ≡ Option·map (λ s. least (s .premise)) o
+  pub finds-by : {o : Option Step} {es₀ es ms₀ ms : List ℕ} (i : ℕ) → some i ≡ Option·map (λ s. firstOrZero (s .premise)) o
       → Answers o (stepEdges A op) (stepMoves A op) true es₀ es ms₀ ms → Finds A op o (By i) es₀ es ms₀ ms
   unfolding isSome
   finds-by i e h = record { number = e; written = h }
 
   pub finds-nothing : {o : Option Step} (es ms : List ℕ) → o ≡ none → Finds A op o Nothing es es ms ms
   unfolding isSome
-  finds-nothing es ms e = record { number = ap (Option·map (λ s. least (s .premise))) (sym e); written = answers-none es ms e }
+  finds-nothing es ms e = record { number = ap (Option·map (λ s. firstOrZero (s .premise))) (sym e); written = answers-none es ms e }
 
-  pub finds-from : {o : Option Step} {r : Premise} {es₀ es fs ms₀ ms ns : List ℕ} → Same es₀ es → Same ms₀ ms → Finds A op o r es fs ms ns → Finds A op o r es₀ fs ms₀ ns
+  pub finds-from : {o : Option Step} {r : PremiseFound} {es₀ es fs ms₀ ms ns : List ℕ} → Unchanged es₀ es → Unchanged ms₀ ms → Finds A op o r es fs ms ns → Finds A op o r es₀ fs ms₀ ns
   finds-from h k f = record { number = f .number; written = answers-from h k (f .written) }
 
 -- ---- a move
@@ -65,7 +65,7 @@ module _ (z : Table) (inner entries moves : List ℕ) (a : ℕ) (x : Result) (op
       ∙ ap (λ (k : ℕ). firstBelow k (moveGives A a x op p′ b)) (length-rowsIn moveRow (z .moves) moves)
 
   -- the premise that the loop found
-  pub move-found : {i : ℕ} {es₀ es ms₀ ms : List ℕ} → Passed (z .moves) (moveGives A a x op p′ b) i → i < z .moves
+  pub move-found : {i : ℕ} {es₀ es ms₀ ms : List ℕ} → NotFoundBelow (z .moves) (moveGives A a x op p′ b) i → i < z .moves
       → Answers (moveGives A a x op p′ b i) (stepEdges A op) (stepMoves A op) true es₀ es ms₀ ms
       → Finds A op (firstMove A a x op p′ b) (By i) es₀ es ms₀ ms
   unfolding moveGives
@@ -73,7 +73,7 @@ module _ (z : Table) (inner entries moves : List ℕ) (a : ℕ) (x : Result) (op
       let s : isSome (moveGives A a x op p′ b i) ≡ true = sym (g .edges .success) in
       let e : firstMove A a x op p′ b ≡ moveGives A a x op p′ b i = moves-below ∙ passed-hit h l s in
       finds-by A op i
-      (number-of i (eqb (moveAt A i .symbol) b && entryOf A p′ (moveAt A i .state)) (byMove A a x op i) s ∙ ap (Option·map (λ u. least (u .premise))) (sym e))
+      (number-of i (eqb (moveAt A i .symbol) b && entryOf A p′ (moveAt A i .state)) (byMove A a x op i) s ∙ ap (Option·map (λ u. firstOrZero (u .premise))) (sym e))
       (answers-eq e g)
 
   module _ (i : ℕ) (below : i < z .moves) (m : Move) (is : m ≡ rowAt moveRow moves i) where
@@ -93,8 +93,8 @@ module _ (z : Table) (inner entries moves : List ℕ) (a : ℕ) (x : Result) (op
     other-entry e h = gives-is ∙ onlyIf-no _ _ (ap₂ _&&_ (eq-eqb (m .symbol) b e) h)
 
     pub move-gives : {t : Bool} {es₀ es ms₀ ms : List ℕ} → m .symbol ≡ b → entryOf (tableOf z entries []) p′ (m .state) ≡ true
-        → Derives A op i (byMove A a x op i) t es₀ es ms₀ ms → Answers (moveGives A a x op p′ b i) (stepEdges A op) (stepMoves A op) t es₀ es ms₀ ms
-    unfolding entryOf entryAt stepEdges stepMoves least
+        → FindsDerivation A op i (byMove A a x op i) t es₀ es ms₀ ms → Answers (moveGives A a x op p′ b i) (stepEdges A op) (stepMoves A op) t es₀ es ms₀ ms
+    unfolding entryOf entryAt stepEdges stepMoves firstOrZero
     move-gives e h g =
         answers-eq (gives-is ∙ onlyIf-yes _ _ (ap₂ _&&_ (eq-eqb (m .symbol) b e) h))
         (record {
@@ -121,37 +121,37 @@ module _ (z : Table) (entries : List ℕ) (x : Result) (joins : ℕ → Joins) (
       firstOf-places (λ e. eqb (e .control) p′) (rowsIn entryRow (z .entries) entries) noEntry _
       ∙ ap (λ (k : ℕ). firstBelow k (entryGives E x joins p′)) (length-rowsIn entryRow (z .entries) entries)
 
-  pub entry-found : {e : ℕ} → Passed (z .entries) (entryGives E x joins p′) e → e < z .entries → isSome (entryGives E x joins p′ e) ≡ true
-      → some e ≡ Option·map (λ s. least (s .premise)) (firstEntry E x joins p′)
+  pub entry-found : {e : ℕ} → NotFoundBelow (z .entries) (entryGives E x joins p′) e → e < z .entries → isSome (entryGives E x joins p′ e) ≡ true
+      → some e ≡ Option·map (λ s. firstOrZero (s .premise)) (firstEntry E x joins p′)
   unfolding entryGives
   entry-found {e} h l s =
       number-of e (eqb (getD (E .entries) e noEntry .control) p′) (byEntry E x joins e) s
-      ∙ ap (Option·map (λ u. least (u .premise))) (sym (entries-below ∙ passed-hit h l s))
+      ∙ ap (Option·map (λ u. firstOrZero (u .premise))) (sym (entries-below ∙ passed-hit h l s))
 
   module _ (e : ℕ) (below : e < z .entries) (g : Entry) (is : g ≡ rowAt entryRow entries e) where
     entry-is : getD (E .entries) e noEntry ≡ g
     entry-is = getD-rowsIn entryRow (z .entries) entries e noEntry below ∙ sym is
 
-    set-is : entrySet E (z .states + e) ≡ g .S
+    set-is : entrySet E (z .inner1 + e) ≡ g .S
     set-is =
         let h : length (rowsIn entryRow (z .entries) entries) ≡ z .entries = length-rowsIn entryRow (z .entries) entries in
         entrySet-is E (record { below = omega arith; control-is = refl; set-is = refl }) ∙ ap (λ (k : Entry). k .S) entry-is
 
-    gives-entry : isSome (entryGives E x joins p′ e) ≡ eqb (g .control) p′ && (eqb (g .S) (x .S) && same (joinsKey (joins (z .states + e))) (wanted x))
+    gives-entry : isSome (entryGives E x joins p′ e) ≡ eqb (g .control) p′ && (eqb (g .S) (x .S) && same (joinsKey (joins (z .inner1 + e))) (wanted x))
     unfolding entryGives byEntry
     gives-entry =
-        isSome-three (withPremise e) (eqb (getD (E .entries) e noEntry .control) p′) (eqb (entrySet E (z .states + e)) (x .S))
-        (same (joinsKey (joins (z .states + e))) (wanted x)) noNumbers
-        ∙ ap₂ (λ (k : Entry) (s : ℕ). eqb (k .control) p′ && (eqb s (x .S) && same (joinsKey (joins (z .states + e))) (wanted x))) entry-is set-is
+        isSome-three (withPremise e) (eqb (getD (E .entries) e noEntry .control) p′) (eqb (entrySet E (z .inner1 + e)) (x .S))
+        (same (joinsKey (joins (z .inner1 + e))) (wanted x)) noNumbers
+        ∙ ap₂ (λ (k : Entry) (s : ℕ). eqb (k .control) p′ && (eqb s (x .S) && same (joinsKey (joins (z .inner1 + e))) (wanted x))) entry-is set-is
 
     pub other-control : (g .control ≡ p′ → ⊥) → false ≡ isSome (entryGives E x joins p′ e)
     other-control h =
-        sym (gives-entry ∙ ap (λ (t : Bool). t && (eqb (g .S) (x .S) && same (joinsKey (joins (z .states + e))) (wanted x))) (ne-eqb (g .control) p′ h))
+        sym (gives-entry ∙ ap (λ (t : Bool). t && (eqb (g .S) (x .S) && same (joinsKey (joins (z .inner1 + e))) (wanted x))) (ne-eqb (g .control) p′ h))
 
     pub other-set : g .control ≡ p′ → (g .S ≡ x .S → ⊥) → false ≡ isSome (entryGives E x joins p′ e)
     other-set f h =
-        sym (gives-entry ∙ ap₂ (λ (t u : Bool). t && (u && same (joinsKey (joins (z .states + e))) (wanted x))) (eq-eqb (g .control) p′ f) (ne-eqb (g .S) (x .S) h))
+        sym (gives-entry ∙ ap₂ (λ (t u : Bool). t && (u && same (joinsKey (joins (z .inner1 + e))) (wanted x))) (eq-eqb (g .control) p′ f) (ne-eqb (g .S) (x .S) h))
 
-    pub entry-gives : {t : Bool} → g .control ≡ p′ → g .S ≡ x .S → t ≡ same (joinsKey (joins (z .states + e))) (wanted x) → t ≡ isSome (entryGives E x joins p′ e)
+    pub entry-gives : {t : Bool} → g .control ≡ p′ → g .S ≡ x .S → t ≡ same (joinsKey (joins (z .inner1 + e))) (wanted x) → t ≡ isSome (entryGives E x joins p′ e)
     entry-gives f h u =
-        u ∙ sym (gives-entry ∙ ap₂ (λ (v w : Bool). v && (w && same (joinsKey (joins (z .states + e))) (wanted x))) (eq-eqb (g .control) p′ f) (eq-eqb (g .S) (x .S) h))
+        u ∙ sym (gives-entry ∙ ap₂ (λ (v w : Bool). v && (w && same (joinsKey (joins (z .inner1 + e))) (wanted x))) (eq-eqb (g .control) p′ f) (eq-eqb (g .S) (x .S) h))

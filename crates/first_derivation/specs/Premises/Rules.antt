@@ -13,7 +13,7 @@ use Rattle.stacks.specs.Stack.{Operation, rewrite, push1, push2, copy, pop1, po
 use Rattle.stacks.specs.System.{Rule}
 use Rattle.automata.specs.Automaton.{Automaton, entryAt, entrySet}
 use Rattle.automata.specs.Derivation.{Result, Joins, noJoins, controlEntries}
-use Rattle.walks.specs.Guide.{least}
+use Rattle.walks.specs.Guide.{firstOrZero}
 use Rattle.tables.specs.declared.Table.{Table}
 use Rattle.tables.specs.Held.{automatonOf, tableOf}
 use Rattle.first_reading.specs.First.{onlyIf, isSome}
@@ -21,33 +21,33 @@ use Rattle.first_reading.specs.First.Laws.{onlyIf-yes, onlyIf-no, onlyIf-none}
 use Rattle.first_reading.specs.Answer.{writtenAll}
 use Rattle.first_reading.specs.Answer.Laws.{answer-still, isSome-map}
 use Rattle.first_reading.specs.Search.{joinsKey, wanted}
-use Rattle.first_derivation.specs.declared.Premise.{Premise}
+use Rattle.first_derivation.specs.declared.PremiseFound.{PremiseFound}
 use Rattle.first_derivation.specs.Search.{Step, byEntry, firstEntry, firstMove, entryJoins, byNone, firstStep, byRule}
 use Rattle.first_derivation.specs.Premises.{writesEdges, writesMoves, edgeStates, readStates, stepEdges, stepMoves, premiseIn, Finds}
 
 -- ---- no premise
 
 module _ (x : Result) (S : ℕ) (j : Joins) where
-  pub none-set : eqb S (x .S) ≡ false → none ≡ Option·map (λ s. least (s .premise)) (byNone x S j)
+  pub none-set : eqb S (x .S) ≡ false → none ≡ Option·map (λ s. firstOrZero (s .premise)) (byNone x S j)
   unfolding byNone
-  none-set h = sym (ap (Option·map (λ s. least (s .premise))) (onlyIf-no _ _ h))
+  none-set h = sym (ap (Option·map (λ s. firstOrZero (s .premise))) (onlyIf-no _ _ h))
 
-  pub none-joins : same (joinsKey j) (wanted x) ≡ false → none ≡ Option·map (λ s. least (s .premise)) (byNone x S j)
+  pub none-joins : same (joinsKey j) (wanted x) ≡ false → none ≡ Option·map (λ s. firstOrZero (s .premise)) (byNone x S j)
   unfolding byNone
-  none-joins h = sym (ap (Option·map (λ s. least (s .premise))) (ap (onlyIf (eqb S (x .S))) (onlyIf-no _ _ h) ∙ onlyIf-none _))
+  none-joins h = sym (ap (Option·map (λ s. firstOrZero (s .premise))) (ap (onlyIf (eqb S (x .S))) (onlyIf-no _ _ h) ∙ onlyIf-none _))
 
-  pub none-gives : eqb S (x .S) ≡ true → same (joinsKey j) (wanted x) ≡ true → some 0 ≡ Option·map (λ s. least (s .premise)) (byNone x S j)
-  unfolding byNone least
-  none-gives h g = sym (ap (Option·map (λ s. least (s .premise))) (onlyIf-yes _ _ h ∙ onlyIf-yes _ _ g))
+  pub none-gives : eqb S (x .S) ≡ true → same (joinsKey j) (wanted x) ≡ true → some 0 ≡ Option·map (λ s. firstOrZero (s .premise)) (byNone x S j)
+  unfolding byNone firstOrZero
+  none-gives h g = sym (ap (Option·map (λ s. firstOrZero (s .premise))) (onlyIf-yes _ _ h ∙ onlyIf-yes _ _ g))
 
 -- ---- by the operation
 
 -- the operation chooses no edge and no move
-pub finds-plain : (A : Automaton) {op op′ : Operation} {o : Option Step} {r : Premise} (es ms : List ℕ) → op ≡ op′
+pub finds-plain : (A : Automaton) {op op′ : Operation} {o : Option Step} {r : PremiseFound} (es ms : List ℕ) → op ≡ op′
     → ((s : Step) (ws : List ℕ) → stepEdges A op′ s ws ≡ ws) → ((s : Step) (ws : List ℕ) → stepMoves A op′ s ws ≡ ws)
-    → premiseIn r ≡ Option·map (λ s. least (s .premise)) o → Finds A op o r es es ms ms
+    → premiseIn r ≡ Option·map (λ s. firstOrZero (s .premise)) o → Finds A op o r es es ms ms
 finds-plain A {op} {op′} {o} {r} es ms e f g h =
-    let s : isSome (premiseIn r) ≡ isSome o = ap isSome h ∙ isSome-map (λ s. least (s .premise)) o in
+    let s : isSome (premiseIn r) ≡ isSome o = ap isSome h ∙ isSome-map (λ s. firstOrZero (s .premise)) o in
     subst (λ (p : Operation). Finds A p o r es es ms ms) (sym e)
     (record { number = h; written = record { edges = answer-still es (λ y. f y es) s; moves = answer-still ms (λ y. g y ms) s } })
 
@@ -56,13 +56,13 @@ module _ (z : Table) (inner entries moves : List ℕ) (a : ℕ) (x : Result) (p�
   A = automatonOf z inner entries moves
 
   -- the search for a move
-  step-move : {op op′ : Operation} (b : ℕ) {r : Premise} {es₀ es ms₀ ms : List ℕ} → op ≡ op′ → firstStep A a x op′ p′ ≡ firstMove A a x op′ p′ b
+  step-move : {op op′ : Operation} (b : ℕ) {r : PremiseFound} {es₀ es ms₀ ms : List ℕ} → op ≡ op′ → firstStep A a x op′ p′ ≡ firstMove A a x op′ p′ b
       → Finds A op′ (firstMove A a x op′ p′ b) r es₀ es ms₀ ms → Finds A op (firstStep A a x op p′) r es₀ es ms₀ ms
   step-move {op} {op′} b {r} {es₀} {es} {ms₀} {ms} e f h =
       subst (λ (q : Operation). Finds A q (firstStep A a x q p′) r es₀ es ms₀ ms) (sym e)
       (subst (λ (o : Option Step). Finds A op′ o r es₀ es ms₀ ms) (sym f) h)
 
-  module _ {op : Operation} {r : Premise} {es₀ es ms₀ ms : List ℕ} where
+  module _ {op : Operation} {r : PremiseFound} {es₀ es ms₀ ms : List ℕ} where
     pub step-rewrite : {b : ℕ} → op ≡ rewrite b → Finds A (rewrite b) (firstMove A a x (rewrite b) p′ b) r es₀ es ms₀ ms → Finds A op (firstStep A a x op p′) r es₀ es ms₀ ms
     unfolding firstStep
     step-rewrite {b} e h = step-move b e refl h
@@ -84,30 +84,30 @@ module _ (z : Table) (inner entries moves : List ℕ) (a : ℕ) (x : Result) (p�
   unfolding firstEntry controlEntries byEntry entrySet entryAt
   entries-only c = refl
 
-  module _ {op : Operation} {r : Premise} (es ms : List ℕ) where
-    pub step-pop1 : op ≡ pop1 → premiseIn r ≡ Option·map (λ s. least (s .premise)) (firstEntry (tableOf z entries []) x (entryJoins false) p′)
+  module _ {op : Operation} {r : PremiseFound} (es ms : List ℕ) where
+    pub step-pop1 : op ≡ pop1 → premiseIn r ≡ Option·map (λ s. firstOrZero (s .premise)) (firstEntry (tableOf z entries []) x (entryJoins false) p′)
         → Finds A op (firstStep A a x op p′) r es es ms ms
     unfolding firstStep stepEdges stepMoves writesEdges writesMoves edgeStates readStates writtenAll
     step-pop1 e h = finds-plain A es ms e (λ s ws. refl) (λ s ws. refl)
-        (h ∙ ap (Option·map (λ s. least (s .premise))) (entries-only false ∙ sym (ap (λ (q : Operation). firstStep A a x q p′) e)))
+        (h ∙ ap (Option·map (λ s. firstOrZero (s .premise))) (entries-only false ∙ sym (ap (λ (q : Operation). firstStep A a x q p′) e)))
 
-    pub step-collapse1 : op ≡ collapse1 → premiseIn r ≡ Option·map (λ s. least (s .premise)) (firstEntry (tableOf z entries []) x (entryJoins true) p′)
+    pub step-collapse1 : op ≡ collapse1 → premiseIn r ≡ Option·map (λ s. firstOrZero (s .premise)) (firstEntry (tableOf z entries []) x (entryJoins true) p′)
         → Finds A op (firstStep A a x op p′) r es es ms ms
     unfolding firstStep stepEdges stepMoves writesEdges writesMoves edgeStates readStates writtenAll
     step-collapse1 e h = finds-plain A es ms e (λ s ws. refl) (λ s ws. refl)
-        (h ∙ ap (Option·map (λ s. least (s .premise))) (entries-only true ∙ sym (ap (λ (q : Operation). firstStep A a x q p′) e)))
+        (h ∙ ap (Option·map (λ s. firstOrZero (s .premise))) (entries-only true ∙ sym (ap (λ (q : Operation). firstStep A a x q p′) e)))
 
-    pub step-pop2 : op ≡ pop2 → premiseIn r ≡ Option·map (λ s. least (s .premise)) (byNone x (single p′) noJoins)
+    pub step-pop2 : op ≡ pop2 → premiseIn r ≡ Option·map (λ s. firstOrZero (s .premise)) (byNone x (single p′) noJoins)
         → Finds A op (firstStep A a x op p′) r es es ms ms
     unfolding firstStep stepEdges stepMoves writesEdges writesMoves edgeStates readStates writtenAll
     step-pop2 e h = finds-plain A es ms e (λ s ws. refl) (λ s ws. refl)
-        (h ∙ ap (Option·map (λ s. least (s .premise))) (sym (ap (λ (q : Operation). firstStep A a x q p′) e)))
+        (h ∙ ap (Option·map (λ s. firstOrZero (s .premise))) (sym (ap (λ (q : Operation). firstStep A a x q p′) e)))
 
-    pub step-collapse2 : op ≡ collapse2 → premiseIn r ≡ Option·map (λ s. least (s .premise)) (byNone x 0 (record { order = 2; B = single p′; R = 0 }))
+    pub step-collapse2 : op ≡ collapse2 → premiseIn r ≡ Option·map (λ s. firstOrZero (s .premise)) (byNone x 0 (record { order = 2; B = single p′; R = 0 }))
         → Finds A op (firstStep A a x op p′) r es es ms ms
     unfolding firstStep stepEdges stepMoves writesEdges writesMoves edgeStates readStates writtenAll
     step-collapse2 e h = finds-plain A es ms e (λ s ws. refl) (λ s ws. refl)
-        (h ∙ ap (Option·map (λ s. least (s .premise))) (sym (ap (λ (q : Operation). firstStep A a x q p′) e)))
+        (h ∙ ap (Option·map (λ s. firstOrZero (s .premise))) (sym (ap (λ (q : Operation). firstStep A a x q p′) e)))
 
 -- ---- by the rule
 
@@ -120,7 +120,7 @@ module _ (A : Automaton) (x : Result) (ρ : Rule) where
   unfolding byRule
   rule-symbol e h = onlyIf-no _ _ (ap₂ _&&_ (eq-eqb (ρ .control) (x .control) e) (ne-eqb (ρ .symbol) (x .symbol) h))
 
-  pub rule-step : {r : Premise} {es₀ es ms₀ ms : List ℕ} → ρ .control ≡ x .control → ρ .symbol ≡ x .symbol
+  pub rule-step : {r : PremiseFound} {es₀ es ms₀ ms : List ℕ} → ρ .control ≡ x .control → ρ .symbol ≡ x .symbol
       → Finds A (ρ .operation) (firstStep A (ρ .symbol) x (ρ .operation) (ρ .next)) r es₀ es ms₀ ms → Finds A (ρ .operation) (byRule A x ρ) r es₀ es ms₀ ms
   unfolding byRule
   rule-step {r} {es₀} {es} {ms₀} {ms} e f h =

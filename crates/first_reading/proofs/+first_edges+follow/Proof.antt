@@ -11,7 +11,7 @@ use Rattle.words.specs.Sets.{members}
 use Rattle.tables.specs.Records.{asResult}
 use Rattle.tables.specs.Held.{automatonOf}
 use Rattle.first_reading.specs.Search.{wanted}
-use Rattle.first_reading.specs.Answer.{Passed, Same}
+use Rattle.first_reading.specs.Answer.{NotFoundBelow, Unchanged}
 use Rattle.first_reading.specs.Answer.Laws.{answers-none, answers-is, answers-eq, answers-fails, answers-from, same-refl, same-after, passed-none, passed-more, passed-hit, passed-all}
 use Rattle.joins.specs.Joining.{asJoins}
 use Rattle.first_reading.specs.Words.{followed}
@@ -56,7 +56,7 @@ follow-below t = and 5 follow-kinds.ps (falls 5 follow-kinds.ps _<_ μ-follow t)
 
 abbrev first-edges-Inv-loop : first-edges-lts.InvT-loop
 first-edges-Inv-loop z inner entries moves a left names s j x edges₀ chosen₀ q others n e₀ edges chosen e =
-    Passed n (followed (automatonOf z inner entries moves) a (wanted (asResult x)) (asJoins j) (x .s) q (members others) names s) e × Same edges₀ edges × Same chosen₀ chosen
+    NotFoundBelow n (followed (automatonOf z inner entries moves) a (wanted (asResult x)) (asJoins j) (x .s) q (members others) names s) e × Unchanged edges₀ edges × Unchanged chosen₀ chosen
 
 abbrev first-edges-μ-loop : first-edges-lts.MeasureT-loop
 first-edges-μ-loop z inner entries moves a left names s j x edges₀ chosen₀ q others n e₀ edges chosen e =

@@ -8,7 +8,7 @@ use lib.ListN.{length}
 use Rattle.words.specs.Sets.{members}
 use Rattle.tables.specs.Records.{asResult}
 use Rattle.first_reading.specs.Search.{wanted}
-use Rattle.first_reading.specs.Answer.{Passed, Same}
+use Rattle.first_reading.specs.Answer.{NotFoundBelow, Unchanged}
 use Rattle.first_reading.specs.Answer.Laws.{answer-none, answer-is, answer-eq, answer-fails, answer-from, answer-states, same-refl, same-after, passed-none, passed-more, passed-hit, passed-all}
 use Rattle.joins.specs.Joining.{theJoins, asJoined}
 use Rattle.first_reading.specs.Words.{movesIn, tried}
@@ -79,7 +79,7 @@ read-with-claims t = (
 )
 
 abbrev first-reading-Inv-loop : first-reading-lts.InvT-loop
-first-reading-Inv-loop moves n a left order b r x chosen₀ q others i₀ chosen i = Passed n (tried (movesIn n moves) a (wanted (asResult x)) q (members others) (theJoins order b r)) i × Same chosen₀ chosen
+first-reading-Inv-loop moves n a left order b r x chosen₀ q others i₀ chosen i = NotFoundBelow n (tried (movesIn n moves) a (wanted (asResult x)) q (members others) (theJoins order b r)) i × Unchanged chosen₀ chosen
 
 abbrev first-reading-μ-loop : first-reading-lts.MeasureT-loop
 first-reading-μ-loop moves n a left order b r x chosen₀ q others i₀ chosen i = n - i

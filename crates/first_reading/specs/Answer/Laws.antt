@@ -10,7 +10,7 @@ use native.Mathlib.Omega.{arith}
 use lib.ListN.{length}
 use Rattle.first_reading.specs.First.{isSome, firstBelow}
 use Rattle.first_reading.specs.First.Laws.{firstBelow-zero, firstBelow-more, firstBelow-at}
-use Rattle.first_reading.specs.Answer.{writtenAll, writtenBy, Answer, Answers, Passed, Same}
+use Rattle.first_reading.specs.Answer.{writtenAll, writtenBy, Answer, Answers, NotFoundBelow, Unchanged}
 
 -- ---- one search
 
@@ -96,14 +96,14 @@ answer-by {B} {w} {v} {o} {ws₀} {ws} {t} h a = record { success = a .success; 
 
 -- ---- slices that are as they were
 
-pub same-refl : (ws : List ℕ) → Same ws ws
+pub same-refl : (ws : List ℕ) → Unchanged ws ws
 same-refl ws = record { same = refl; long = refl }
 
-pub same-after : {ws₀ ws vs : List ℕ} → Same ws₀ ws → vs ≡ ws → Same ws₀ vs
+pub same-after : {ws₀ ws vs : List ℕ} → Unchanged ws₀ ws → vs ≡ ws → Unchanged ws₀ vs
 same-after h e = record { same = e ∙ h .same; long = ap length e ∙ h .long }
 
 -- an answer from words that are as they were
-pub answer-from : {B : Type 0} {w : B → List ℕ → List ℕ} {o : Option B} {t : Bool} {ws₀ ws vs : List ℕ} → Same ws₀ ws → Answer o w t ws vs → Answer o w t ws₀ vs
+pub answer-from : {B : Type 0} {w : B → List ℕ → List ℕ} {o : Option B} {t : Bool} {ws₀ ws vs : List ℕ} → Unchanged ws₀ ws → Answer o w t ws vs → Answer o w t ws₀ vs
 answer-from {w = w} {o} {t} {vs = vs} h a = subst (λ x. Answer o w t x vs) (h .same) a
 
 -- ---- two slices
@@ -118,7 +118,7 @@ module _ {B : Type 0} {we wm : B → List ℕ → List ℕ} where
   pub answers-eq : {o p : Option B} {es₀ es ms₀ ms : List ℕ} {t : Bool} → p ≡ o → Answers o we wm t es₀ es ms₀ ms → Answers p we wm t es₀ es ms₀ ms
   answers-eq e h = record { edges = answer-eq e (h .edges); moves = answer-eq e (h .moves) }
 
-  pub answers-from : {o : Option B} {t : Bool} {es₀ es fs ms₀ ms ns : List ℕ} → Same es₀ es → Same ms₀ ms → Answers o we wm t es fs ms ns → Answers o we wm t es₀ fs ms₀ ns
+  pub answers-from : {o : Option B} {t : Bool} {es₀ es fs ms₀ ms ns : List ℕ} → Unchanged es₀ es → Unchanged ms₀ ms → Answers o we wm t es fs ms ns → Answers o we wm t es₀ fs ms₀ ns
   answers-from h k a = record { edges = answer-from h (a .edges); moves = answer-from k (a .moves) }
 
   -- a search without success changes nothing
@@ -128,20 +128,20 @@ module _ {B : Type 0} {we wm : B → List ℕ → List ℕ} where
 -- ---- a loop
 
 module _ {B : Type 0} {n : ℕ} {f : ℕ → Option B} where
-  pub passed-none : Passed n f 0
+  pub passed-none : NotFoundBelow n f 0
   passed-none = record { below = omega arith; fails = firstBelow-zero f }
 
-  pub passed-more : {i : ℕ} → Passed n f i → i < n → f i ≡ none → Passed n f (i + 1)
+  pub passed-more : {i : ℕ} → NotFoundBelow n f i → i < n → f i ≡ none → NotFoundBelow n f (i + 1)
   passed-more {i} h l e =
       record {
         below = omega arith;
         fails = ap (λ (k : ℕ). firstBelow k f) (add-one i) ∙ firstBelow-more f i (h .fails) e;
       }
 
-  pub passed-hit : {i : ℕ} → Passed n f i → i < n → isSome (f i) ≡ true → firstBelow n f ≡ f i
+  pub passed-hit : {i : ℕ} → NotFoundBelow n f i → i < n → isSome (f i) ≡ true → firstBelow n f ≡ f i
   passed-hit {i} h l e = firstBelow-at f i n l (h .fails) e
 
-  pub passed-all : {i : ℕ} → Passed n f i → n ≤ i → firstBelow n f ≡ none
+  pub passed-all : {i : ℕ} → NotFoundBelow n f i → n ≤ i → firstBelow n f ≡ none
   passed-all {i} h l = let z : i ≡ n = omega (arith, h .below) in ap (λ (k : ℕ). firstBelow k f) (sym z) ∙ h .fails
 
 -- the same states

@@ -9,10 +9,11 @@ use lib.Dec.{eqb}
 use Rattle.words.specs.Sets.{join, single, members}
 use Rattle.words.specs.Sets.Laws.{join-assoc, join-empty-right}
 use Rattle.words.specs.Lists.{first, choices}
-use Rattle.words.specs.Lists.Laws.{by-test, none-first}
+use Rattle.words.specs.Lists.Laws.{none-first}
+use Rattle.words.specs.Tests.{by-test}
 use Rattle.words.specs.Order.{same}
 use Rattle.automata.specs.Automaton.{Automaton, moveAt, edgeAt, edgesOf, movesOf}
-use Rattle.automata.specs.Derivation.{Joins, joinMove, joinMoves, joinAll, readings, named, edgeSets}
+use Rattle.automata.specs.Derivation.{Joins, joinMove, joinMoves, joinAll, named, edgeSets}
 use Rattle.first_reading.specs.First.{orElse, onlyIf, firstOf}
 use Rattle.first_reading.specs.First.Laws.{orElse-none, first-one, map-onlyIf, firstOf-same, first-each, first-map, first-same, map-firstOf, firstOf-map, firstOf-each}
 use Rattle.first_reading.specs.Search.{joinsKey, Numbers, onlyMoves, withEdge, firstReading, firstEdges}

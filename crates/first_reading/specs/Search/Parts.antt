@@ -12,8 +12,8 @@ use borrow.Author.Tests.{eqb-true}
 use Rattle.words.specs.Sets.{join, single, partOf}
 use Rattle.words.specs.Sets.Laws.{part-refl, part-trans, part-join-left}
 use Rattle.words.specs.Lists.{first, choices}
-use Rattle.words.specs.Lists.Laws.{by-test, first-some}
-use Rattle.words.specs.Order.{same}
+use Rattle.words.specs.Lists.Laws.{first-some}
+use Rattle.words.specs.Tests.{by-test}
 use Rattle.words.specs.Order.Laws.{same-eq}
 use Rattle.automata.specs.Automaton.{Automaton, edgeAt, edgesOf, movesOf}
 use Rattle.automata.specs.Derivation.{Result, Joins, joinAll}

@@ -11,7 +11,7 @@ use borrow.Author.Tests.{eq-eqb, ne-eqb}
 use Rattle.words.specs.Sets.{join, single, members, partOf}
 use Rattle.words.specs.Sets.Laws.{members-empty, join-assoc, join-empty-right}
 use Rattle.automata.specs.Automaton.{Edge, noEdge, edges, edgeAt, edgesOf, movesOf, moveAt, entryEdges}
-use Rattle.automata.specs.Acceptance.Laws.{length-entryEdges}
+use Rattle.automata.specs.Automaton.Laws.{length-entryEdges}
 use Rattle.automata.specs.Derivation.{Result, Joins, named}
 use Rattle.tables.specs.declared.Table.{Table}
 use Rattle.tables.specs.Rows.{rowsIn}
@@ -139,8 +139,8 @@ edges-below z inner entries moves a goal j S left q qs names s e =
     ap (λ (l : List ℕ). firstEdges (automatonOf z inner entries moves) a goal j S l names s) e
     ∙ firstOf-places (λ d. eqb (d .state) q) (edgesIn z inner entries) noEdge _
     ∙ ap (λ (k : ℕ). firstBelow k (followed (automatonOf z inner entries moves) a goal j S q qs names s))
-    (length-append (rowsIn edgeRow (z .edges) inner) (entryEdges (z .states) (rowsIn entryRow (z .entries) entries))
-    ∙ ap₂ _+_ (length-rowsIn edgeRow (z .edges) inner) (length-entryEdges (z .states) (rowsIn entryRow (z .entries) entries) ∙ length-rowsIn entryRow (z .entries) entries))
+    (length-append (rowsIn edgeRow (z .edges) inner) (entryEdges (z .inner1) (rowsIn entryRow (z .entries) entries))
+    ∙ ap₂ _+_ (length-rowsIn edgeRow (z .edges) inner) (length-entryEdges (z .inner1) (rowsIn entryRow (z .entries) entries) ∙ length-rowsIn entryRow (z .entries) entries))
 
 -- the same states
 pub states-edges : {l k : List ℕ} {o : Option Numbers} {w : Numbers → List ℕ → List ℕ} {t : Bool} {es₀ es ms₀ ms : List ℕ} → l ≡ k

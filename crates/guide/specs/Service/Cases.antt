@@ -6,7 +6,7 @@ use mathlib.Core.Option.{none, some, Option·some-injective, Option·none-ne-som
 use native.Mathlib.Omega.{arith}
 use lib.ListN.{length}
 use Rattle.automata.specs.Saturation.{Saturated}
-use Rattle.walks.specs.Guide.{Outcome}
+use Rattle.walks.specs.Guide.{Report}
 use Rattle.files.specs.Case.{caseRefusal}
 use Rattle.files.specs.Start.{startRefusal, startsOf}
 use Rattle.services.specs.Saturate.{saturated}
@@ -47,7 +47,7 @@ module _ (x : GuideInput) where
   answers-refused b = refused-is (guide-cases x) b
 
   -- the outcome o of table U is that of table T
-  same-run : {T U : Saturated} {o : Outcome} → saturated (guideLent x) ≡ some T → saturated (guideLent x) ≡ some U → guideRun x U ≡ o
+  same-run : {T U : Saturated} {o : Report} → saturated (guideLent x) ≡ some T → saturated (guideLent x) ≡ some U → guideRun x U ≡ o
       → guideLeft x o ≡ guideLeft x (guideRun x T)
   same-run {T} {U} e f r = ap (guideLeft x) (sym r ∙ ap (guideRun x) (Option·some-injective U T (sym f ∙ e)))
 

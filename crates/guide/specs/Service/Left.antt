@@ -9,7 +9,7 @@ use Rattle.automata.specs.Saturation.{Saturated}
 use Rattle.replies.specs.declared.Reply.{Reply}
 use Rattle.replies.specs.declared.Reply.the-variants.{Refused}
 use Rattle.files.specs.Start.{startsOf}
-use Rattle.services.specs.Memory.{zeros}
+use Rattle.words.specs.Lists.{zeros}
 use Rattle.services.specs.Saturate.{saturated}
 use Rattle.services.specs.Guide.{GuideInput, GuideDone, guideLent, guideRun, guideLeft, refused, guideService}
 use Rattle.demands.specs.Demand1.Proof.{padded-none}

@@ -14,11 +14,11 @@ use Rattle.automata.specs.Saturation.{Saturated}
 use Rattle.replies.specs.declared.Reply.{Reply}
 use Rattle.replies.specs.declared.Reply.the-variants.{NoRun}
 use Rattle.replies.specs.declared.Halt.the-variants.{CellsShort}
-use Rattle.walks.specs.Guide.{Outcome, outcome, noOutcome, startWalk, guided}
+use Rattle.walks.specs.Guide.{Report, walkedBy, noRun, startWalk, guided}
 use Rattle.files.specs.Bytes.{countOf}
 use Rattle.files.specs.Case.{rulesOf}
 use Rattle.files.specs.Start.{Start, startOf, startsOf, cellsOf}
-use Rattle.services.specs.Memory.{zeros}
+use Rattle.words.specs.Lists.{zeros}
 use Rattle.services.specs.Judge.{accepted}
 use Rattle.services.specs.Guide.{GuideInput, cellWords, cellsLent, startNamed, guideWalk, guideRun}
 use Rattle.services.specs.Guide.Laws.{walk-short, walk-goes}
@@ -38,8 +38,8 @@ lent-fit words e =
     let b : min (words / 68) 4096 ≤ 4096 = min-le-right (words / 68) 4096 in
     (omega arith, omega arith)
 
-pub leaves-same : {o p : Outcome} {n : ℕ} {r : Reply} {trace : List ℕ} → o ≡ p → Leaves p n r trace → Leaves o n r trace
-leaves-same {n = n} {r = r} {trace = trace} e = subst (λ (q : Outcome). Leaves q n r trace) (sym e)
+pub leaves-same : {o p : Report} {n : ℕ} {r : Reply} {trace : List ℕ} → o ≡ p → Leaves p n r trace → Leaves o n r trace
+leaves-same {n = n} {r = r} {trace = trace} e = subst (λ (q : Report). Leaves q n r trace) (sym e)
 
 -- ---- the start
 
@@ -70,12 +70,12 @@ unfolding guideRun guideWalk cellsLent startNamed
 run-tables case start number m m′ e e′ c t T = refl
 
 module _ (x : GuideInput) (T : Saturated) where
-  pub run-no : accepted (T .table) (x .start) (startNamed x) ≡ false → guideRun x T ≡ noOutcome
+  pub run-no : accepted (T .table) (x .start) (startNamed x) ≡ false → guideRun x T ≡ noRun
   unfolding guideRun
   run-no e = rw (guideRun, e)
 
   module _ (yes : accepted (T .table) (x .start) (startNamed x) ≡ true) where
-    pub run-short : cellsLent x < length (cellsOf (x .start)) → guideRun x T ≡ outcome (CellsShort (record { steps = 0; cells = 0 })) []
+    pub run-short : cellsLent x < length (cellsOf (x .start)) → guideRun x T ≡ walkedBy (CellsShort (record { steps = 0; cells = 0 })) []
     unfolding guideRun
     run-short l = rw (guideRun, yes) (walk-short x T l)
 
@@ -93,12 +93,12 @@ cells-are x = refl
 
 module _ (x : GuideInput) (T : Saturated) {t : Bool} (is : t ≡ accepted (T .table) (x .start) (startNamed x)) {trace : List ℕ} where
   pub leaves-no : t ≡ false → trace ≡ zeros (x .trace) → Leaves (guideRun x T) (x .trace) NoRun trace
-  unfolding noOutcome
+  unfolding noRun
   leaves-no f z = leaves-same (run-no x T (sym is ∙ f)) (record { reply-is = refl; trace-is = z ∙ sym (padded-none (x .trace)) })
 
   module _ (yes : t ≡ true) {c n : ℕ} (lent : c ≡ lentCells (x .cells)) (count : n ≡ length (cellsOf (x .start))) where
     pub leaves-short : {r : Reply} → c < n → r ≡ shortAtStart → trace ≡ zeros (x .trace) → Leaves (guideRun x T) (x .trace) r trace
-    unfolding outcome
+    unfolding walkedBy
     leaves-short l e z =
         let k = cells-are x in
         leaves-same (run-short x T (sym is ∙ yes) (omega arith)) (record { reply-is = e; trace-is = z ∙ sym (padded-none (x .trace)) })

@@ -12,12 +12,12 @@ use Rattle.tables.specs.declared.Table.{Table}
 use Rattle.saturation.specs.Running.{mostMoves}
 use Rattle.saturate.specs.Case.{CaseSaturated}
 use Rattle.first_reading.specs.Words as reading
-use Rattle.acceptance.specs.Named.{Stands}
+use Rattle.acceptance.specs.Named.{TablesNamed}
 use Rattle.sound_files.specs.Saturated.Laws.{table-stands}
 use Rattle.guided_start.specs.Tables.{TablesStand}
 
 pub reading-stands : {z : Table} {inner entries moves sizes : List ℕ} {k : ℕ} → TablesStand z inner entries moves k sizes
-    → reading.Stands z inner entries moves
+    → reading.TablesNamed z inner entries moves
 reading-stands t =
     let s = t .stands in
     record {

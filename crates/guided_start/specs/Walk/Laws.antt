@@ -24,7 +24,8 @@ use Rattle.tables.specs.Held.{automatonOf}
 use Rattle.results.specs.Collecting.{rulesIn}
 use Rattle.saturate.specs.Case.Laws.{rules-are, rules-stand}
 use Rattle.cell_memory.specs.Memory.{guidedIn}
-use Rattle.acceptance.specs.Cells.{cellWords, length-cellWords}
+use Rattle.acceptance.specs.Cells.{cellWords}
+use Rattle.acceptance.specs.Cells.Laws.{length-cellWords}
 use Rattle.acceptance.specs.Cells.Body.{cellsIn}
 use Rattle.acceptance.specs.Starts.{cells-body}
 use Rattle.least_choices.specs.Starts.{Prepared, startCells}

@@ -16,7 +16,7 @@ use Rattle.tables.specs.Rows.{firstOf, Layout, rowAt, rowsIn}
 use Rattle.tables.specs.Rows.Laws.{length-rowsIn, getD-rowsIn, rowsIn-list}
 use Rattle.tables.specs.Records.{moveRow, entryRow, edgeRow}
 use Rattle.tables.specs.Held.{automatonOf, tableOf, entryFor}
-use Rattle.first_reading.specs.Words.{Stands}
+use Rattle.first_reading.specs.Words.{TablesWithin}
 use Rattle.saturation.specs.Running.{theSize, sizeRow}
 use Rattle.guided_step.specs.Earlier.{tableUpTo}
 
@@ -84,15 +84,15 @@ take-rowsIn {A} L s n t =
     (λ i h. sym (getD-take s (rowsIn L n t) i d (omega arith) ∙ getD-rowsIn L n t i d (omega arith)))
 
 pub upTo-is : (z : Table) {s y : Size} {e m : ℕ} → s ≡ y → e ≡ min (s .entries) (z .entries) → m ≡ min (s .moves) (z .moves)
-    → record { states = z .states; final1 = z .final1; final2 = z .final2; edges = z .edges; entries = e; moves = m } ≡ tableUpTo z y
+    → record { inner1 = z .inner1; final1 = z .final1; final2 = z .final2; edges = z .edges; entries = e; moves = m } ≡ tableUpTo z y
 upTo-is z h e m =
-    (λ i. record { states = z .states; final1 = z .final1; final2 = z .final2; edges = z .edges; entries = e i; moves = m i }) ∙ ap (tableUpTo z) h
+    (λ i. record { inner1 = z .inner1; final1 = z .final1; final2 = z .final2; edges = z .edges; entries = e i; moves = m i }) ∙ ap (tableUpTo z) h
 
 pub table-upTo : (z : Table) (inner entries moves : List ℕ) (s : Size) → automatonOf (tableUpTo z s) inner entries moves ≡ upTo s (automatonOf z inner entries moves)
 unfolding upTo
 table-upTo z inner entries moves s =
     λ i. record {
-      J = z .states;
+      J = z .inner1;
       final1 = z .final1;
       final2 = z .final2;
       inner = rowsIn edgeRow (z .edges) inner;
@@ -100,7 +100,7 @@ table-upTo z inner entries moves s =
       moves = take-rowsIn moveRow (s .moves) (z .moves) moves i;
     }
 
-pub upTo-stands : {z : Table} {inner entries moves : List ℕ} (s : Size) → Stands z inner entries moves → Stands (tableUpTo z s) inner entries moves
+pub upTo-stands : {z : Table} {inner entries moves : List ℕ} (s : Size) → TablesWithin z inner entries moves → TablesWithin (tableUpTo z s) inner entries moves
 upTo-stands {z} s h =
     record {
       edges-stand = record { edges-lent = h .edges-stand .edges-lent; firsts-small = h .edges-stand .firsts-small };

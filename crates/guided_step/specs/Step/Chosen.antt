@@ -17,13 +17,13 @@ use Rattle.automata.specs.Derivation.Laws.{Says}
 use Rattle.automata.specs.Derivation.Kept.{named-kept}
 use Rattle.automata.specs.Facts.{Extends}
 use Rattle.automata.specs.Facts.Laws.{moveAt-kept, entryMove-kept}
-use Rattle.walks.specs.Guide.{least, choosesAll}
+use Rattle.walks.specs.Guide.{firstOrZero, choosesAll}
 use Rattle.tables.specs.declared.Table.{Table}
 use Rattle.tables.specs.Rows.{rowsIn}
 use Rattle.tables.specs.Rows.Laws.{length-rowsIn}
 use Rattle.tables.specs.Records.{moveRow, entryRow, edgeRow}
 use Rattle.tables.specs.Held.{automatonOf}
-use Rattle.first_reading.specs.Words.{Stands}
+use Rattle.first_reading.specs.Words.{TablesWithin}
 use Rattle.first_derivation.specs.Premises.{edgeStates, readStates}
 use Rattle.first_derivation.specs.Derived.Choices.{byState}
 use Rattle.cell_steps.specs.Steps.Choices.{topState, rootEdge, HoldsRest, HoldsNumbers}
@@ -32,34 +32,34 @@ use Rattle.guided_step.specs.Step.{Small}
 -- ---- the premise
 
 -- the first number of a premise that is one number
-premise-one : {l : List ℕ} {n : ℕ} → l ≡ n ∷ [] → n ≡ least l
-unfolding least
-premise-one e = sym (ap least e)
+premise-one : {l : List ℕ} {n : ℕ} → l ≡ n ∷ [] → n ≡ firstOrZero l
+unfolding firstOrZero
+premise-one e = sym (ap firstOrZero e)
 
 -- where there is none
-none-small : {l : List ℕ} → l ≡ [] → least l < 1024
-unfolding least
+none-small : {l : List ℕ} → l ≡ [] → firstOrZero l < 1024
+unfolding firstOrZero
 none-small e = rw e (omega arith)
 
 -- ---- words that hold numbers
 
 module _ {B A : Automaton} (x : Extends B A) (ρ : Rule) (d : Derivation) where
   -- the moves that are read from the rest set of the premise
-  rest-holds : (ms : List ℕ) {p S b n : ℕ} → EntryMove B p S b n → n ≡ least (d .premise)
-      → byState ms ≡ choosesAll (members (moveAt B (least (d .premise)) .R)) (d .moves) → HoldsRest A d ms
+  rest-holds : (ms : List ℕ) {p S b n : ℕ} → EntryMove B p S b n → n ≡ firstOrZero (d .premise)
+      → byState ms ≡ choosesAll (members (moveAt B (firstOrZero (d .premise)) .R)) (d .moves) → HoldsRest A d ms
   rest-holds ms {n = n} h e f q =
-      let k : moveAt A (least (d .premise)) ≡ moveAt B (least (d .premise)) = subst (λ (i : ℕ). moveAt A i ≡ moveAt B i) e (moveAt-kept x n (h .below)) in
+      let k : moveAt A (firstOrZero (d .premise)) ≡ moveAt B (firstOrZero (d .premise)) = subst (λ (i : ℕ). moveAt A i ≡ moveAt B i) e (moveAt-kept x n (h .below)) in
       ap (λ (g : ℕ → ℕ). g q) f ∙ ap (λ (m : Move). choosesAll (members (m .R)) (d .moves) q) (sym k)
 
   -- the set of the premise's entry
-  set-same : {p S b n : ℕ} → EntryMove B p S b n → n ≡ least (d .premise)
-      → entrySet A (moveAt A (least (d .premise)) .state) ≡ entrySet B (moveAt B (least (d .premise)) .state)
+  set-same : {p S b n : ℕ} → EntryMove B p S b n → n ≡ firstOrZero (d .premise)
+      → entrySet A (moveAt A (firstOrZero (d .premise)) .state) ≡ entrySet B (moveAt B (firstOrZero (d .premise)) .state)
   set-same h e =
       subst (λ (i : ℕ). entrySet A (moveAt A i .state) ≡ entrySet B (moveAt B i .state)) e
       (entryMove-set A (entryMove-kept x h) ∙ sym (entryMove-set B h))
 
-  pub holds-kept : (op : Operation) (es ms : List ℕ) → Says B ρ op d → byState es ≡ choosesAll (edgeStates B op (least (d .premise))) (d .edges)
-      → byState ms ≡ choosesAll (readStates B op (least (d .premise)) (d .edges)) (d .moves) → HoldsNumbers A d op es ms
+  pub holds-kept : (op : Operation) (es ms : List ℕ) → Says B ρ op d → byState es ≡ choosesAll (edgeStates B op (firstOrZero (d .premise))) (d .edges)
+      → byState ms ≡ choosesAll (readStates B op (firstOrZero (d .premise)) (d .edges)) (d .moves) → HoldsNumbers A d op es ms
   unfolding edgeStates readStates
   holds-kept (rewrite b) es ms h e m = tt
   holds-kept (push1 b) es ms h e m = rest-holds ms (h .premise) (premise-one (h .concluded .premise-is)) m
@@ -83,7 +83,7 @@ pub record Sized (A : Automaton) : Type 0 where
   pub inner-few : length (A .inner) ≤ 64
   pub moves-few : length (A .moves) ≤ 1024
 
-pub table-sized : {z : Table} {inner entries moves : List ℕ} → Stands z inner entries moves → Sized (automatonOf z inner entries moves)
+pub table-sized : {z : Table} {inner entries moves : List ℕ} → TablesWithin z inner entries moves → Sized (automatonOf z inner entries moves)
 table-sized {z} {inner} {entries} {moves} h =
     let i : length (rowsIn edgeRow (z .edges) inner) ≡ z .edges = length-rowsIn edgeRow (z .edges) inner in
     let e : length (rowsIn entryRow (z .entries) entries) ≡ z .entries = length-rowsIn entryRow (z .entries) entries in
@@ -117,25 +117,25 @@ module _ {A : Automaton} (few : Sized A) where
       let l : length (A .moves) ≤ 1024 = few .moves-few in
       (omega arith, omega arith, omega arith)
 
-  pub says-small : (ρ : Rule) (d : Derivation) (op : Operation) → Says A ρ op d → Small A op (least (d .premise))
+  pub says-small : (ρ : Rule) (d : Derivation) (op : Operation) → Says A ρ op d → Small A op (firstOrZero (d .premise))
   unfolding topState rootEdge
   says-small ρ d (rewrite b) h =
-      let k = move-small (h .premise) (least (d .premise)) (premise-one (h .concluded .premise-is)) in
+      let k = move-small (h .premise) (firstOrZero (d .premise)) (premise-one (h .concluded .premise-is)) in
       record { state-small = k .0; premise-small = k .1; edge-small = k .2 }
   says-small ρ d (push1 b) h =
-      let k = move-small (h .premise) (least (d .premise)) (premise-one (h .concluded .premise-is)) in
+      let k = move-small (h .premise) (firstOrZero (d .premise)) (premise-one (h .concluded .premise-is)) in
       record { state-small = k .0; premise-small = k .1; edge-small = k .2 }
   says-small ρ d (push2 b) h =
-      let k = move-small (h .premise) (least (d .premise)) (premise-one (h .concluded .premise-is)) in
+      let k = move-small (h .premise) (firstOrZero (d .premise)) (premise-one (h .concluded .premise-is)) in
       record { state-small = k .0; premise-small = k .1; edge-small = k .2 }
   says-small ρ d copy h =
-      let k = move-small (h .premise) (least (d .premise)) (premise-one (h .concluded .premise-is)) in
+      let k = move-small (h .premise) (firstOrZero (d .premise)) (premise-one (h .concluded .premise-is)) in
       record { state-small = k .0; premise-small = k .1; edge-small = k .2 }
   says-small ρ d pop1 h =
-      let k = entry-small (h .premise) (least (d .premise)) (premise-one (h .concluded .premise-is)) in
+      let k = entry-small (h .premise) (firstOrZero (d .premise)) (premise-one (h .concluded .premise-is)) in
       record { state-small = omega arith; premise-small = k .0; edge-small = k .1 }
   says-small ρ d pop2 h = record { state-small = omega arith; premise-small = none-small (h .premise-is); edge-small = omega arith }
   says-small ρ d collapse1 h =
-      let k = entry-small (h .premise) (least (d .premise)) (premise-one (h .concluded .premise-is)) in
+      let k = entry-small (h .premise) (firstOrZero (d .premise)) (premise-one (h .concluded .premise-is)) in
       record { state-small = omega arith; premise-small = k .0; edge-small = k .1 }
   says-small ρ d collapse2 h = record { state-small = omega arith; premise-small = none-small (h .premise-is); edge-small = omega arith }

@@ -16,7 +16,7 @@ use Rattle.automata.specs.Derivation.Kept.{says-kept}
 use Rattle.automata.specs.Saturation.{Saturated, lastUpTo, before, ownMoves}
 use Rattle.automata.specs.Saturation.Laws.{before-extends}
 use Rattle.walks.specs.Guide as walks
-use Rattle.walks.specs.Guide.{least, choosesAll, byDerivation, atTop}
+use Rattle.walks.specs.Guide.{firstOrZero, choosesAll, byDerivation, atTop}
 use Rattle.tables.specs.declared.Table.{Table}
 use Rattle.tables.specs.Rows.{firstOf, rowsIn}
 use Rattle.tables.specs.Rows.Laws.{length-firstOf, getD-firstOf}
@@ -24,7 +24,7 @@ use Rattle.tables.specs.Records.{moveRow}
 use Rattle.tables.specs.Held.{automatonOf, tableOf}
 use Rattle.results.specs.Collecting.{ruleIn, rulesIn}
 use Rattle.saturation.specs.Running.{theSize, sizeRow}
-use Rattle.first_reading.specs.Words.{Stands}
+use Rattle.first_reading.specs.Words.{TablesWithin}
 use Rattle.first_derivation.specs.declared.First.{First}
 use Rattle.first_derivation.specs.declared.First.the-variants.{Missing, Found}
 use Rattle.first_derivation.specs.Premises.{edgeStates, readStates}
@@ -55,8 +55,8 @@ module _ (z : Table) (inner entries moves : List ℕ) (k : ℕ) (sizes : List �
   before-is e =
       ap (λ (b : Table). automatonOf b inner entries moves) e ∙ table-upTo z inner entries moves (lastUpTo (theSize 0 0) (rowsIn sizeRow k sizes) i)
 
-  pub before-stands : {b : Table} → b ≡ tableUpTo z (lastUpTo (theSize 0 0) (rowsIn sizeRow k sizes) i) → Stands z inner entries moves → Stands b inner entries moves
-  before-stands e h = subst (λ (b : Table). Stands b inner entries moves) (sym e) (upTo-stands (lastUpTo (theSize 0 0) (rowsIn sizeRow k sizes) i) h)
+  pub before-stands : {b : Table} → b ≡ tableUpTo z (lastUpTo (theSize 0 0) (rowsIn sizeRow k sizes) i) → TablesWithin z inner entries moves → TablesWithin b inner entries moves
+  before-stands e h = subst (λ (b : Table). TablesWithin b inner entries moves) (sym e) (upTo-stands (lastUpTo (theSize 0 0) (rowsIn sizeRow k sizes) i) h)
 
   pub before-small : {b : Table} → b ≡ tableUpTo z (lastUpTo (theSize 0 0) (rowsIn sizeRow k sizes) i) → StatesSmall (automatonOf b inner entries moves) → StatesSmall (before T i)
   before-small e h = subst StatesSmall (before-is e) h
@@ -103,14 +103,14 @@ module _ (rules : List Rule) (T : Saturated) (x : Top) (i : ℕ) where
 
   taken : {d : Derivation} {n p : ℕ} {r : First} {es₀ es ms₀ ms : List ℕ} → ownMoves (T .sizes) ≤ i → Sized (T .table) → StatesSmall (before T i)
       → Blank es₀ → Blank ms₀ → FindsFirst (before T i) rules X r es₀ es ms₀ ms → firstDerivation (before T i) rules X ≡ some d → d .rule ≡ n
-      → least (d .premise) ≡ p → Derives (before T i) rules d → (w : walks.Walk) → Taken rules T w (atTop rules T w (some (topBy x i))) x n p es ms
+      → firstOrZero (d .premise) ≡ p → Derives (before T i) rules d → (w : walks.Walk) → Taken rules T w (atTop rules T w (some (topBy x i))) x n p es ms
   taken {d} {n} {p} {r} {es₀} {es} {ms₀} {ms} h few small be bm f e k q D w =
       let ρ : Rule = D .rule in
       let op : operationBy rules (d .rule) ≡ ρ .operation = operation-is rules (d .rule) (D .numbered) in
-      let edges-are : byState es ≡ choosesAll (edgeStates (before T i) (ρ .operation) (least (d .premise))) (d .edges) =
-      edges-chosen f e small be ∙ ap (λ (o : Operation). choosesAll (edgeStates (before T i) o (least (d .premise))) (d .edges)) op in
-      let moves-are : byState ms ≡ choosesAll (readStates (before T i) (ρ .operation) (least (d .premise)) (d .edges)) (d .moves) =
-      moves-chosen f e small bm ∙ ap (λ (o : Operation). choosesAll (readStates (before T i) o (least (d .premise)) (d .edges)) (d .moves)) op in
+      let edges-are : byState es ≡ choosesAll (edgeStates (before T i) (ρ .operation) (firstOrZero (d .premise))) (d .edges) =
+      edges-chosen f e small be ∙ ap (λ (o : Operation). choosesAll (edgeStates (before T i) o (firstOrZero (d .premise))) (d .edges)) op in
+      let moves-are : byState ms ≡ choosesAll (readStates (before T i) (ρ .operation) (firstOrZero (d .premise)) (d .edges)) (d .moves) =
+      moves-chosen f e small bm ∙ ap (λ (o : Operation). choosesAll (readStates (before T i) o (firstOrZero (d .premise)) (d .edges)) (d .moves)) op in
       record {
         derivation = d;
         rule = ρ;

@@ -8,14 +8,14 @@ use Rattle.guided_step.specs.Step.{saturatedIn}
 use Rattle.results.specs.Collecting.{rulesIn}
 use Rattle.guided_walk.specs.Turns.Whole.{run-stands, walking-start, follows-self, follows-then, ends-halted, ends-stuck}
 use Rattle.guided_walk.specs.Turns.Laws.{answers-as}
-use Rattle.guided_walk.specs.Turns.{Follows}
+use Rattle.guided_walk.specs.Turns.{TurnFollows}
 use borrow.Author.Needs.{needs}
 use Rattle.guided_walk.proofs.walk.Statement.{statement}
 use Rattle.guided_walk.proofs.walk.Tie as tie
 
 abbrev Inv-loop : tie.InvT-loop
 Inv-loop z inner entries moves body count sizes k cells₀ most trace₀ v₀ cells trace v =
-    Follows (rulesIn count body) (saturatedIn z inner entries moves k sizes) most v₀ cells₀ trace₀ v cells trace × (length cells ≡ length cells₀)
+    TurnFollows (rulesIn count body) (saturatedIn z inner entries moves k sizes) most v₀ cells₀ trace₀ v cells trace × (length cells ≡ length cells₀)
 
 abbrev μ-loop : tie.MeasureT-loop
 μ-loop z inner entries moves body count sizes k cells₀ most trace₀ v₀ cells trace v = length trace - v .steps

@@ -16,9 +16,9 @@ use Rattle.replies.specs.declared.Counts.{Counts}
 use Rattle.replies.specs.declared.Halt.{Halt}
 use Rattle.replies.specs.declared.Halt.the-variants.{Arrived, TraceFull, CellsShort}
 use Rattle.walks.specs.Guide as walks
-use Rattle.walks.specs.Guide.{outcome, noOutcome, next, arrived, stuck, to, moved, counts, guided}
+use Rattle.walks.specs.Guide.{walkedBy, noRun, next, arrived, stuck, to, moved, counts, guided}
 use Rattle.guidance.specs.Run.{added, length-added}
-use Rattle.services.specs.Memory.{zeros}
+use Rattle.words.specs.Lists.{zeros}
 use Rattle.tables.specs.declared.Table.{Table}
 use Rattle.tables.specs.Held.{automatonOf}
 use Rattle.cell_memory.specs.Memory.Laws.{length-guidedIn}
@@ -32,27 +32,27 @@ use Rattle.guided_walk.specs.declared.Going.{Going}
 use Rattle.guided_walk.specs.declared.Going.the-variants.{Halted, Stuck, On}
 use Rattle.guided_walk.specs.Stepped.{movesOnly}
 use Rattle.guided_walk.specs.Stepped.Laws.{stepped-moved}
-use Rattle.guided_walk.specs.Turns.{countsIn, Walking, Halts, full, short, Passes, StepAnswers, outcomeFrom, Follows, TurnAnswers}
+use Rattle.guided_walk.specs.Turns.{countsIn, Walking, TurnHalts, full, short, Passes, StepAnswers, outcomeFrom, TurnFollows, TurnAnswers}
 
 -- ---- the guided run by what is next
 
 module _ (rules : List Rule) (T : Saturated) (c : ℕ) (trace : List ℕ) (w : walks.Walk) where
-  guided-arrived : (t : ℕ) → next rules T w ≡ arrived → guided rules T c t trace w ≡ outcome (Arrived (counts trace w)) trace
+  guided-arrived : (t : ℕ) → next rules T w ≡ arrived → guided rules T c t trace w ≡ walkedBy (Arrived (counts trace w)) trace
   unfolding guided
   guided-arrived zero e = rw (guided, e)
   guided-arrived (suc t) e = rw (guided, e)
 
-  guided-stuck : (t : ℕ) → next rules T w ≡ stuck → guided rules T c t trace w ≡ noOutcome
+  guided-stuck : (t : ℕ) → next rules T w ≡ stuck → guided rules T c t trace w ≡ noRun
   unfolding guided
   guided-stuck zero e = rw (guided, e)
   guided-stuck (suc t) e = rw (guided, e)
 
   module _ {n : ℕ} {v : walks.Walk} (e : next rules T w ≡ to n v) where
-    guided-full : guided rules T c 0 trace w ≡ outcome (TraceFull (counts trace w)) trace
+    guided-full : guided rules T c 0 trace w ≡ walkedBy (TraceFull (counts trace w)) trace
     unfolding guided
     guided-full = rw (guided, e)
 
-    guided-short : (t : ℕ) → c < length (v .cells) → guided rules T c (suc t) trace w ≡ outcome (CellsShort (counts trace w)) trace
+    guided-short : (t : ℕ) → c < length (v .cells) → guided rules T c (suc t) trace w ≡ walkedBy (CellsShort (counts trace w)) trace
     unfolding guided
     guided-short t l = rw (guided, e, lt-leb _ _ l)
 
@@ -109,20 +109,20 @@ written-more trace i n h = ap (λ (j : ℕ). take j (set trace i n)) (add-one i)
 -- ---- a turn
 
 module _ (rules : List Rule) (T : Saturated) (most : ℕ) (w : Walk) (cells trace : List ℕ) (in-room : Walking most w trace) where
-  -- the outcome of a halt
-  halt-is : (h : Counts → Halt) {k : Counts} → k ≡ countsIn w → outcome (h (counts (take (w .steps) trace) (walkIn w cells))) (take (w .steps) trace)
-      ≡ outcome (h k) (take (w .steps) trace)
-  halt-is h e = ap (λ (k : Counts). outcome (h k) (take (w .steps) trace)) (counts-in w cells trace (in-room .steps-lent) ∙ sym e)
+  -- the walkedBy of a halt
+  halt-is : (h : Counts → Halt) {k : Counts} → k ≡ countsIn w → walkedBy (h (counts (take (w .steps) trace) (walkIn w cells))) (take (w .steps) trace)
+      ≡ walkedBy (h k) (take (w .steps) trace)
+  halt-is h e = ap (λ (k : Counts). walkedBy (h k) (take (w .steps) trace)) (counts-in w cells trace (in-room .steps-lent) ∙ sym e)
 
   pub turn-arrived : {k : Counts} → next rules T (walkIn w cells) ≡ arrived → k ≡ countsIn w
-      → outcomeFrom rules T most w cells trace ≡ outcome (Arrived k) (take (w .steps) trace)
+      → outcomeFrom rules T most w cells trace ≡ walkedBy (Arrived k) (take (w .steps) trace)
   turn-arrived e f = guided-arrived rules T most (take (w .steps) trace) (walkIn w cells) (length trace - w .steps) e ∙ halt-is Arrived f
 
-  pub turn-stuck : next rules T (walkIn w cells) ≡ stuck → outcomeFrom rules T most w cells trace ≡ noOutcome
+  pub turn-stuck : next rules T (walkIn w cells) ≡ stuck → outcomeFrom rules T most w cells trace ≡ noRun
   turn-stuck e = guided-stuck rules T most (take (w .steps) trace) (walkIn w cells) (length trace - w .steps) e
 
   module _ {n : ℕ} {u : walks.Walk} (e : next rules T (walkIn w cells) ≡ to n u) where
-    turn-full : {k : Counts} → length trace ≤ w .steps → k ≡ countsIn w → outcomeFrom rules T most w cells trace ≡ outcome (TraceFull k) (take (w .steps) trace)
+    turn-full : {k : Counts} → length trace ≤ w .steps → k ≡ countsIn w → outcomeFrom rules T most w cells trace ≡ walkedBy (TraceFull k) (take (w .steps) trace)
     turn-full l f =
         let z : length trace - w .steps ≡ 0 = omega arith in
         ap (λ (t : ℕ). guided rules T most t (take (w .steps) trace) (walkIn w cells)) z
@@ -130,7 +130,7 @@ module _ (rules : List Rule) (T : Saturated) (most : ℕ) (w : Walk) (cells trac
         ∙ halt-is TraceFull f
 
     turn-short : {k : Counts} → w .steps < length trace → most < length (u .cells) → k ≡ countsIn w
-        → outcomeFrom rules T most w cells trace ≡ outcome (CellsShort k) (take (w .steps) trace)
+        → outcomeFrom rules T most w cells trace ≡ walkedBy (CellsShort k) (take (w .steps) trace)
     turn-short l m f =
         let z : length trace - w .steps ≡ suc (length trace - (w .steps + 1)) = omega arith in
         ap (λ (t : ℕ). guided rules T most t (take (w .steps) trace) (walkIn w cells)) z
@@ -159,12 +159,12 @@ module _ (rules : List Rule) (T : Saturated) (most : ℕ) (w : Walk) (cells trac
         length-moved rules T (walkIn w cells) (topBy x (t .move)) (t .derivation) (t .rule)
         ∙ ap (λ (k : ℕ). k + newCells (t .rule .operation)) (length-guidedIn (w .cells) cells)
 
-    halts-is : {h : Halt} → Halts most (t .rule .operation) w trace h → outcomeFrom rules T most w cells trace ≡ outcome h (take (w .steps) trace)
+    halts-is : {h : Halt} → TurnHalts most (t .rule .operation) w trace h → outcomeFrom rules T most w cells trace ≡ walkedBy h (take (w .steps) trace)
     halts-is (full l e) = turn-full (t .goes) l e
     halts-is (short l m e) = let k = cells-after in turn-short (t .goes) l (omega arith) e
 
     passes-is : (v : Walk) {cells′ trace′ : List ℕ} → Passes most (movesOnly z moves) (t .rule .operation) (t .rule .next) n p x es ms w cells trace v cells′ trace′
-        → Follows rules T most w cells trace v cells′ trace′
+        → TurnFollows rules T most w cells trace v cells′ trace′
     passes-is v {cells′} {trace′} h =
         let k = cells-after in
         let more : v .steps ≡ w .steps + 1 = h .steps .steps-more in

@@ -1,6 +1,6 @@
 -- The guided run from its start by turns, and what it leaves in the trace.
 -- Assumes nothing.
-use Prim.Native.Nat.{ℕ, _+_, _-_, _≤_}
+use Prim.Native.Nat.{ℕ, _-_, _≤_}
 use mathlib.Core.Path.{_≡_, refl, ap, sym, _∙_}
 use mathlib.Core.List.{List, [], _++_}
 use native.Mathlib.Omega.{arith}
@@ -10,12 +10,13 @@ use Rattle.stacks.specs.System.{Rule}
 use Rattle.automata.specs.Saturation.{Saturated}
 use Rattle.replies.specs.declared.Halt.{Halt}
 use Rattle.replies.specs.declared.Reply.the-variants.{NoRun, Walked}
-use Rattle.walks.specs.Guide.{Outcome, outcome, noOutcome, guided}
-use Rattle.services.specs.Memory.{zeros, padded}
+use Rattle.walks.specs.Guide.{Report, walkedBy, noRun, guided}
+use Rattle.services.specs.Memory.{padded}
+use Rattle.words.specs.Lists.{zeros}
 use Rattle.tables.specs.declared.Table.{Table}
 use Rattle.guided_step.specs.declared.Walk.{Walk}
 use Rattle.guided_step.specs.Walks.{walkIn}
-use Rattle.guided_walk.specs.Turns.{RunStands, Leaves, Walking, outcomeFrom, Follows}
+use Rattle.guided_walk.specs.Turns.{RunStands, Leaves, Walking, outcomeFrom, TurnFollows}
 
 -- the same with other cells, as many
 pub run-stands : {z : Table} {inner entries moves body sizes cells cells′ : List ℕ} {count k most : ℕ}
@@ -45,38 +46,38 @@ walking-padded {w = w} {trace} h =
     ∙ ap (λ (r : List ℕ). take (w .steps) trace ++ r) (h .rest-zero ∙ ap (λ (k : ℕ). zeros (length trace - k)) (sym l))
 
 module _ (rules : List Rule) (T : Saturated) (most : ℕ) where
-  pub follows-self : (w : Walk) (cells : List ℕ) {trace : List ℕ} → Walking most w trace → Follows rules T most w cells trace w cells trace
+  pub follows-self : (w : Walk) (cells : List ℕ) {trace : List ℕ} → Walking most w trace → TurnFollows rules T most w cells trace w cells trace
   follows-self w cells h = record { same-outcome = refl; walking = h; long = refl }
 
-  pub follows-then : {w v u : Walk} {cells cells′ cells″ trace trace′ trace″ : List ℕ} → Follows rules T most w cells trace v cells′ trace′
-      → Follows rules T most v cells′ trace′ u cells″ trace″ → Follows rules T most w cells trace u cells″ trace″
+  pub follows-then : {w v u : Walk} {cells cells′ cells″ trace trace′ trace″ : List ℕ} → TurnFollows rules T most w cells trace v cells′ trace′
+      → TurnFollows rules T most v cells′ trace′ u cells″ trace″ → TurnFollows rules T most w cells trace u cells″ trace″
   follows-then f g = record { same-outcome = f .same-outcome ∙ g .same-outcome; walking = g .walking; long = g .long ∙ f .long }
 
-  module _ {w v : Walk} {cells cells′ trace trace′ : List ℕ} (f : Follows rules T most w cells trace v cells′ trace′) (start : w .steps ≡ 0) where
+  module _ {w v : Walk} {cells cells′ trace trace′ : List ℕ} (f : TurnFollows rules T most w cells trace v cells′ trace′) (start : w .steps ≡ 0) where
     -- what the run answers is what it answers from v
     whole-is : guided rules T most (length trace) [] (walkIn w cells) ≡ outcomeFrom rules T most v cells′ trace′
     whole-is =
         let n : length trace ≡ length trace - w .steps = omega arith in
         (λ i. guided rules T most (n i) (take (sym start i) trace) (walkIn w cells)) ∙ f .same-outcome
 
-    pub ends-halted : {h : Halt} {last : List ℕ} → outcomeFrom rules T most v cells′ trace′ ≡ outcome h (take (v .steps) trace′) → last ≡ trace′
+    pub ends-halted : {h : Halt} {last : List ℕ} → outcomeFrom rules T most v cells′ trace′ ≡ walkedBy h (take (v .steps) trace′) → last ≡ trace′
         → Leaves (guided rules T most (length trace) [] (walkIn w cells)) (length trace) (Walked h) last
-    unfolding outcome
+    unfolding walkedBy
     ends-halted e l =
         let o = whole-is ∙ e in
         record {
-          reply-is = sym (ap (λ (x : Outcome). x .reply) o);
+          reply-is = sym (ap (λ (x : Report). x .reply) o);
           trace-is = l ∙ walking-padded (f .walking) ∙ ap (λ (k : ℕ). padded k (take (v .steps) trace′)) (f .long)
-              ∙ ap (λ (x : Outcome). padded (length trace) (x .trace)) (sym o);
+              ∙ ap (λ (x : Report). padded (length trace) (x .trace)) (sym o);
         }
 
-    pub ends-stuck : {last : List ℕ} (n : ℕ) → outcomeFrom rules T most v cells′ trace′ ≡ noOutcome → last ≡ zeros n → n ≡ length trace
+    pub ends-stuck : {last : List ℕ} (n : ℕ) → outcomeFrom rules T most v cells′ trace′ ≡ noRun → last ≡ zeros n → n ≡ length trace
         → Leaves (guided rules T most (length trace) [] (walkIn w cells)) (length trace) NoRun last
-    unfolding noOutcome padded
+    unfolding noRun padded
     ends-stuck n e l k =
         let o = whole-is ∙ e in
         let z : n ≡ length trace - 0 = omega arith in
         record {
-          reply-is = sym (ap (λ (x : Outcome). x .reply) o);
-          trace-is = l ∙ ap zeros z ∙ ap (λ (x : Outcome). padded (length trace) (x .trace)) (sym o);
+          reply-is = sym (ap (λ (x : Report). x .reply) o);
+          trace-is = l ∙ ap zeros z ∙ ap (λ (x : Report). padded (length trace) (x .trace)) (sym o);
         }

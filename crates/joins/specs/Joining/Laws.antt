@@ -5,7 +5,6 @@ use mathlib.Core.Bool.{true, false, _&&_}
 use mathlib.Core.Path.{_≡_}
 use mathlib.Core.Option.{none, some}
 use lib.Dec.{eqb}
-use borrow.Author.Tests.{eq-eqb, ne-eqb}
 use Rattle.words.specs.Sets.{join}
 use Rattle.automata.specs.Automaton.{Move}
 use Rattle.automata.specs.Derivation.{Joins, clash, joinMove}

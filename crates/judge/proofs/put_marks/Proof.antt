@@ -4,7 +4,8 @@ use Prim.Native.Nat.{_-_, _≤_}
 use mathlib.Core.Path.{refl}
 use mathlib.Core.List.{map}
 use borrow.Author.Needs.{needs}
-use Rattle.acceptance.specs.Written.{Written, written-none}
+use Rattle.acceptance.specs.WrittenBelow.{WrittenBelow}
+use Rattle.acceptance.specs.WrittenBelow.Laws.{written-none}
 use Rattle.sound_files.specs.Starts.{startsIn}
 use Rattle.sound_files.specs.Starts.Laws.{start-stands}
 use Rattle.judge.specs.Marks.{markBy}
@@ -13,7 +14,7 @@ use Rattle.judge.proofs.put_marks.Statement.{statement}
 use Rattle.judge.proofs.put_marks.Tie as tie
 
 abbrev Inv-loop : tie.InvT-loop
-Inv-loop body n words answers₀ i₀ answers i = (i ≤ n) × Written (map (markBy words) (startsIn n body)) answers₀ answers i
+Inv-loop body n words answers₀ i₀ answers i = (i ≤ n) × WrittenBelow (map (markBy words) (startsIn n body)) answers₀ answers i
 
 abbrev μ-loop : tie.MeasureT-loop
 μ-loop body n words answers₀ i₀ answers i = n - i

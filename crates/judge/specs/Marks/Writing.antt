@@ -13,7 +13,8 @@ use Rattle.files.specs.Bytes.Laws.{length-records, records-at}
 use Rattle.files.specs.Start.{Start, startOf}
 use Rattle.bytes_in.specs.Records.{recordAt}
 use Rattle.sound_files.specs.Starts.{startsIn}
-use Rattle.acceptance.specs.Written.{Written, written-more, written-all}
+use Rattle.acceptance.specs.WrittenBelow.{WrittenBelow}
+use Rattle.acceptance.specs.WrittenBelow.Laws.{written-more, written-all}
 use Rattle.judge.specs.Marks.{markBy}
 
 pub mark-yes : (words : List ℕ) (x : Start) {b : Bool} → b ≡ true → b ≡ member (getD words (x .root) 0) (x .control) → 1 ≡ markBy words x
@@ -40,12 +41,12 @@ module _ (words : List ℕ) (n : ℕ) (body : List ℕ) where
       ∙ ap (markBy words) (e ∙ ap startOf (sym (records-at n 3 body i l)) ∙ sym (getD-map-below startOf (records n 3 body) i [] x (omega arith)))
       ∙ sym (getD-map-below (markBy words) (map startOf (records n 3 body)) i x 0 (omega arith))
 
-  pub marks-more : {w₀ w w′ : List ℕ} {i v : ℕ} {x : Start} → Written (map (markBy words) (startsIn n body)) w₀ w i → i < n → n ≤ length w₀
-      → x ≡ startOf (recordAt 3 i body) → v ≡ markBy words x → w′ ≡ set w i v → Written (map (markBy words) (startsIn n body)) w₀ w′ (i + 1)
+  pub marks-more : {w₀ w w′ : List ℕ} {i v : ℕ} {x : Start} → WrittenBelow (map (markBy words) (startsIn n body)) w₀ w i → i < n → n ≤ length w₀
+      → x ≡ startOf (recordAt 3 i body) → v ≡ markBy words x → w′ ≡ set w i v → WrittenBelow (map (markBy words) (startsIn n body)) w₀ w′ (i + 1)
   marks-more h l b e f g =
       let len = length-marks in
       written-more h (omega arith) (omega arith) (mark-at l e f) g
 
-  pub marks-all : {w₀ w : List ℕ} {i : ℕ} → Written (map (markBy words) (startsIn n body)) w₀ w i → n ≤ i
+  pub marks-all : {w₀ w : List ℕ} {i : ℕ} → WrittenBelow (map (markBy words) (startsIn n body)) w₀ w i → n ≤ i
       → w ≡ map (markBy words) (startsIn n body) ++ drop n w₀
   marks-all h l = written-all h length-marks l

@@ -7,7 +7,8 @@ use mathlib.Core.List.{List, _++_, map}
 use lib.ListN.{length, drop, length-map}
 use Rattle.automata.specs.Saturation.{Saturated}
 use Rattle.files.specs.Start.{startsOf}
-use Rattle.services.specs.Memory.{zeros, padded}
+use Rattle.services.specs.Memory.{padded}
+use Rattle.words.specs.Lists.{zeros}
 use Rattle.services.specs.Saturate.{saturated}
 use Rattle.services.specs.Judge.{JudgeInput, JudgeDone, judgeLent, judgeLeft, judgeService, mark}
 use Rattle.tables.specs.Filled.{drop-zeros}

@@ -6,18 +6,18 @@ use Rattle.tables.specs.Rows.{rowsIn}
 use Rattle.tables.specs.Rows.Laws.{length-rowsIn}
 use Rattle.tables.specs.Records.{moveRow}
 use Rattle.acceptance.specs.Words.{moveMet}
-use Rattle.acceptance.specs.Named.{move-small, move-row}
+use Rattle.acceptance.specs.Named.Laws.{move-small, move-row}
 use Rattle.least_choices.specs.Choices.Laws.{Looked, looked-none, looked-more, looked-all}
 use borrow.Author.Needs.{needs}
 use Rattle.least_choices.proofs.put_move_choices.Statement.{statement}
 use Rattle.least_choices.proofs.put_move_choices.Tie as tie
 
 abbrev Inv-loop : tie.InvT-loop
-Inv-loop moves a k note rest cells₀ i count done₀ cells done =
-    (done ≤ count) × Looked (λ m. m .state) (moveMet a k note rest) i noMove (rowsIn moveRow count moves) cells₀ cells (count - done)
+Inv-loop moves a k annotation rest cells₀ i count done₀ cells done =
+    (done ≤ count) × Looked (λ m. m .state) (moveMet a k annotation rest) i noMove (rowsIn moveRow count moves) cells₀ cells (count - done)
 
 abbrev μ-loop : tie.MeasureT-loop
-μ-loop moves a k note rest cells₀ i count done₀ cells done = count - done
+μ-loop moves a k annotation rest cells₀ i count done₀ cells done = count - done
 
 loop-holds : tie.Need-loop-holds Inv-loop μ-loop
 loop-holds c =

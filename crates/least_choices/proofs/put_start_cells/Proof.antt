@@ -5,13 +5,13 @@ use borrow.Author.Needs.{needs}
 use Rattle.tables.specs.Held.{automatonOf}
 use Rattle.acceptance.specs.Cells.Body.{cellsIn, length-cellsIn}
 use Rattle.least_choices.specs.Starts.Laws.{states-small}
-use Rattle.least_choices.specs.Starts.Turns.{Taken, taken-none, taken-more, taken-all}
+use Rattle.least_choices.specs.Starts.Turns.{StartTaken, taken-none, taken-more, taken-all}
 use Rattle.least_choices.proofs.put_start_cells.Statement.{statement}
 use Rattle.least_choices.proofs.put_start_cells.Tie as tie
 
 abbrev Inv-loop : tie.InvT-loop
 Inv-loop z inner entries moves body n words cells₀ i₀ cells i =
-    (i ≤ n) × Taken (automatonOf z inner entries moves) (cellsIn n body) cells₀ cells i
+    (i ≤ n) × StartTaken (automatonOf z inner entries moves) (cellsIn n body) cells₀ cells i
 
 abbrev μ-loop : tie.MeasureT-loop
 μ-loop z inner entries moves body n words cells₀ i₀ cells i = n - i

@@ -10,22 +10,23 @@ use lib.ListN.{length, getD, drop, drop-of-length-le}
 use lib.Seq.{drop-cons}
 use lib.Dec.{eqb}
 use Rattle.words.specs.Lists.{only, placesFrom}
-use Rattle.words.specs.Lists.Laws.{by-test, and-left, and-right, only-yes, only-no}
-use Rattle.walks.specs.Guide.{Guided, least}
+use Rattle.words.specs.Lists.Laws.{only-yes, only-no}
+use Rattle.words.specs.Tests.{by-test, and-left, and-right}
+use Rattle.walks.specs.Guide.{Guided, firstOrZero}
 use Rattle.cell_memory.specs.Memory.{guidedCell}
 use Rattle.cell_memory.specs.Memory.Laws.{choosing, length-withChoice, withChoice-other, withChoice-guided}
 use Rattle.least_choices.specs.Choices.{choiceIf, leastMet}
 
--- ---- the least number
+-- ---- the firstOrZero number
 
 module _ {X : Type 0} (mine : X → Bool) (test : ℕ → Bool) (n : ℕ) (x : X) (xs : List X) where
   -- the first element is one of mine and passes
-  least-here : mine x && test n ≡ true → least (only test (placesFrom n mine (x ∷ xs))) ≡ n
-  unfolding placesFrom least
+  least-here : mine x && test n ≡ true → firstOrZero (only test (placesFrom n mine (x ∷ xs))) ≡ n
+  unfolding placesFrom firstOrZero
   least-here e = rw (placesFrom, and-left (mine x) _ e, only-yes test n (placesFrom (suc n) mine xs) (and-right (mine x) _ e))
 
   -- it is not, or it does not
-  least-later : mine x && test n ≡ false → least (only test (placesFrom n mine (x ∷ xs))) ≡ least (only test (placesFrom (suc n) mine xs))
+  least-later : mine x && test n ≡ false → firstOrZero (only test (placesFrom n mine (x ∷ xs))) ≡ firstOrZero (only test (placesFrom (suc n) mine xs))
   unfolding placesFrom
   least-later e =
       by-test (mine x)
@@ -98,8 +99,8 @@ module _ {X : Type 0} (state : X → ℕ) (met : X → Bool) (i : ℕ) (d : X) w
 
   leastMet-choice : (mine : X → Bool) (test : ℕ → Bool) (q n : ℕ) (xs : List X) (cells : List ℕ) → Small state d xs → i * 68 + 68 ≤ length cells
       → guidedCell cells i .choice q ≡ 0 → Agree mine test q n xs
-      → guidedCell (leastMet state met i n xs cells) i .choice q ≡ least (only test (placesFrom n mine xs))
-  unfolding leastMet placesFrom only least
+      → guidedCell (leastMet state met i n xs cells) i .choice q ≡ firstOrZero (only test (placesFrom n mine xs))
+  unfolding leastMet placesFrom only firstOrZero
   leastMet-choice mine test q n [] cells small l none agree = none
   leastMet-choice mine test q n (x ∷ xs) cells small l none agree =
       let small′ : Small state d xs = λ k h. small (suc k) (omega arith) in
@@ -112,11 +113,11 @@ module _ {X : Type 0} (state : X → ℕ) (met : X → Bool) (i : ℕ) (d : X) w
       (λ e. rw e (sym (least-here mine test n x xs (sym here ∙ e))))
       (λ e. rw e (leastMet-choice mine test q (suc n) xs cells small′ l none agree′ ∙ sym (least-later mine test n x xs (sym here ∙ e))))
 
-  -- where cell i had no choice, it has the least one for each state
+  -- where cell i had no choice, it has the firstOrZero one for each state
   pub leastMet-guided : (mine : ℕ → X → Bool) (test : ℕ → Bool) (xs : List X) (cells : List ℕ) → Small state d xs → i * 68 + 68 ≤ length cells
       → guidedCell cells i .choice ≡ (λ q. 0) → ((q : ℕ) → Agree (mine q) test q 0 xs)
       → guidedCell (leastMet state met i 0 xs cells) i
-      ≡ record { cell = guidedCell cells i .cell; choice = λ q. least (only test (placesFrom 0 (mine q) xs)) }
+      ≡ record { cell = guidedCell cells i .cell; choice = λ q. firstOrZero (only test (placesFrom 0 (mine q) xs)) }
   leastMet-guided mine test xs cells small l none agree = λ j.
       record {
         cell = leastMet-cell 0 xs cells small l j;

@@ -3,11 +3,10 @@
 use Prim.Native.Nat.{ℕ, _+_, _*_, _<_, _≤_}
 use mathlib.Core.Bool.{Bool, _&&_, and-assoc, and-comm}
 use mathlib.Core.Path.{_≡_, refl, ap, ap₂, sym, _∙_}
-use mathlib.Core.List.{List, _++_}
+use mathlib.Core.List.{List}
 use native.Mathlib.Nat.{zero-add}
 use native.Mathlib.Omega.{arith}
-use lib.ListN.{length, getD, take}
-use lib.Seq.{take-at}
+use lib.ListN.{length, getD}
 use lib.Dec.{eqb}
 use Rattle.words.specs.Sets.Laws.{ext-all}
 use Rattle.words.specs.Lists.{places}
@@ -16,7 +15,7 @@ use Rattle.automata.specs.Automaton.{Automaton, Move, Edge, noMove, noEdge, edg
 use Rattle.automata.specs.Acceptance.{accepts1, accepts2, moveFits, edgeFits}
 use Rattle.walks.specs.Cell.{Cell, empty1, symbol, empty2, above, stacks, stackAt, stackOf, order1, order2}
 use Rattle.walks.specs.Cell.Formed.{Formed, Refers, cellAt, orderAt}
-use Rattle.walks.specs.Cell.Laws.{noteOrder, note-of1, note-of2, stack-at, stack-order}
+use Rattle.walks.specs.Cell.Laws.{annotationOrder, annotation-of1, annotation-of2, stack-at, stack-order}
 use Rattle.walks.specs.Guide.{Guided, leastChoice}
 use Rattle.tables.specs.declared.Table.{Table}
 use Rattle.tables.specs.Rows.{rowsIn}
@@ -25,11 +24,12 @@ use Rattle.tables.specs.Records.{moveRow}
 use Rattle.tables.specs.Held.{automatonOf, edgesIn}
 use Rattle.cell_memory.specs.Memory.{cellOf, valueOf, guidedCell, withCell}
 use Rattle.cell_memory.specs.Memory.Laws.{cellOf-valueOf, length-withCell, withCell-other, withCell-guided}
-use Rattle.acceptance.specs.Words.{moveMet, edgeMet, word1, word2, wordNote}
-use Rattle.acceptance.specs.Words.Laws.{every-part, word1-member, word2-member, note-met}
-use Rattle.acceptance.specs.Named.{Stands, move-small, length-edgesIn, edge-small}
-use Rattle.acceptance.specs.Cells.{cellWords, length-cellWords, annotationOrder, cell-accepts1, cell-accepts2}
-use Rattle.acceptance.specs.Cells.Body.{cellsIn, length-cellsIn}
+use Rattle.acceptance.specs.Words.{moveMet, edgeMet, word1, word2, wordAnnotation}
+use Rattle.acceptance.specs.Words.Laws.{every-part, word1-member, word2-member, annotation-met}
+use Rattle.acceptance.specs.Named.{TablesNamed}
+use Rattle.acceptance.specs.Named.Laws.{move-small, length-edgesIn, edge-small}
+use Rattle.acceptance.specs.Cells.{cellWords, annotationOrderAt}
+use Rattle.acceptance.specs.Cells.Laws.{cell-accepts1, cell-accepts2}
 use Rattle.least_choices.specs.Choices.{leastMet}
 use Rattle.least_choices.specs.Choices.Laws.{Small, length-leastMet, leastMet-other, leastMet-guided}
 use Rattle.least_choices.specs.Starts.{choicesBy, withStart}
@@ -38,15 +38,15 @@ use Rattle.least_choices.specs.Starts.{choicesBy, withStart}
 
 module _ (A : Automaton) where
   move-agrees : (a : ℕ) (u : Annotation) (s : Stack1) (q : ℕ) (m : Move)
-      → moveMet a (noteOrder u) (wordNote A u) (word1 A s) m && eqb (m .state) q ≡ (eqb (m .state) q && eqb (m .symbol) a) && moveFits A u s m
+      → moveMet a (annotationOrder u) (wordAnnotation A u) (word1 A s) m && eqb (m .state) q ≡ (eqb (m .state) q && eqb (m .symbol) a) && moveFits A u s m
   unfolding moveMet moveFits
   move-agrees a u s q m =
       let own : Bool = eqb (m .state) q in
       let read : Bool = eqb (m .symbol) a in
-      and-comm (moveMet a (noteOrder u) (wordNote A u) (word1 A s) m) own
+      and-comm (moveMet a (annotationOrder u) (wordAnnotation A u) (word1 A s) m) own
       ∙ ap (λ (b : Bool). own && b) (and-assoc read _ _)
       ∙ sym (and-assoc own read _)
-      ∙ ap₂ (λ (x y : Bool). (own && read) && (x && y)) (note-met A u (m .order) (m .B))
+      ∙ ap₂ (λ (x y : Bool). (own && read) && (x && y)) (annotation-met A u (m .order) (m .B))
       (every-part (m .R) (word1 A s) (λ r. accepts1 A s r) (word1-member A s))
 
   edge-agrees : (w : Stack1) (t : Stack2) (q : ℕ) (e : Edge)
@@ -61,18 +61,18 @@ module _ (A : Automaton) where
 -- ---- the choices of one symbol and of one order-1 stack on an order-2 stack
 
 -- The states of the moves and of the edges are below 64.
-pub record StatesSmall (A : Automaton) : Type 0 where
+pub record StateNumbersSmall (A : Automaton) : Type 0 where
   pub moves-small : Small (λ m. m .state) noMove (A .moves)
   pub edges-small : Small (λ e. e .state) noEdge (edges A)
 
-module _ (A : Automaton) (small : StatesSmall A) (i : ℕ) (cells : List ℕ) (fits : i * 68 + 68 ≤ length cells)
+module _ (A : Automaton) (small : StateNumbersSmall A) (i : ℕ) (cells : List ℕ) (fits : i * 68 + 68 ≤ length cells)
     (none : guidedCell cells i .choice ≡ (λ q. 0)) where
   symbol-choices : (a : ℕ) (u : Annotation) (s : Stack1)
-      → guidedCell (leastMet (λ m. m .state) (moveMet a (noteOrder u) (wordNote A u) (word1 A s)) i 0 (A .moves) cells) i
+      → guidedCell (leastMet (λ m. m .state) (moveMet a (annotationOrder u) (wordAnnotation A u) (word1 A s)) i 0 (A .moves) cells) i
       ≡ record { cell = guidedCell cells i .cell; choice = leastChoice A (of1 (cons1 a u s)) }
   unfolding leastChoice movesOf moveAt places
   symbol-choices a u s =
-      leastMet-guided (λ m. m .state) (moveMet a (noteOrder u) (wordNote A u) (word1 A s)) i noMove
+      leastMet-guided (λ m. m .state) (moveMet a (annotationOrder u) (wordAnnotation A u) (word1 A s)) i noMove
       (λ q m. eqb (m .state) q && eqb (m .symbol) a) (λ j. moveFits A u s (moveAt A j)) (A .moves) cells (small .moves-small) fits none
       (λ q k h.
       let m : Move = getD (A .moves) k noMove in
@@ -93,44 +93,44 @@ module _ (A : Automaton) (small : StatesSmall A) (i : ℕ) (cells : List ℕ) (f
 -- ---- the word of a start cell is that of its stack
 
 module _ (A : Automaton) (starts : List Cell) (F : Formed starts) where
-  word-of : (n : ℕ) → n < length starts → (v : Annotation) → stackAt (stacks starts) n ≡ v → getD (cellWords A starts) n 0 ≡ wordNote A v
-  unfolding wordNote noteOrder order1 order2
+  word-of : (n : ℕ) → n < length starts → (v : Annotation) → stackAt (stacks starts) n ≡ v → getD (cellWords A starts) n 0 ≡ wordAnnotation A v
+  unfolding wordAnnotation annotationOrder order1 order2
   word-of n l (of1 s) e =
       ext-all (getD (cellWords A starts) n 0) (word1 A s) (λ r.
-      cell-accepts1 A starts F n r l (sym (stack-order starts n l) ∙ ap noteOrder e)
+      cell-accepts1 A starts F n r l (sym (stack-order starts n l) ∙ ap annotationOrder e)
       ∙ ap (λ (v : Annotation). accepts1 A (order1 v) r) e
       ∙ sym (word1-member A s r))
   word-of n l (of2 t) e =
       ext-all (getD (cellWords A starts) n 0) (word2 A t) (λ q.
-      cell-accepts2 A starts F n q l (sym (stack-order starts n l) ∙ ap noteOrder e)
+      cell-accepts2 A starts F n q l (sym (stack-order starts n l) ∙ ap annotationOrder e)
       ∙ ap (λ (v : Annotation). accepts2 A (order2 v) q) e
       ∙ sym (word2-member A t q))
 
   -- of any order, of order 1, and of order 2
-  word-note : (n : ℕ) → n < length starts → getD (cellWords A starts) n 0 ≡ wordNote A (stackAt (stacks starts) n)
-  word-note n l = word-of n l (stackAt (stacks starts) n) refl
+  word-annotation : (n : ℕ) → n < length starts → getD (cellWords A starts) n 0 ≡ wordAnnotation A (stackAt (stacks starts) n)
+  word-annotation n l = word-of n l (stackAt (stacks starts) n) refl
 
   word-1 : (n : ℕ) → n < length starts → orderAt starts n ≡ 1 → getD (cellWords A starts) n 0 ≡ word1 A (order1 (stackAt (stacks starts) n))
-  unfolding wordNote
-  word-1 n l e = word-of n l (of1 (order1 (stackAt (stacks starts) n))) (note-of1 (stackAt (stacks starts) n) (stack-order starts n l ∙ e))
+  unfolding wordAnnotation
+  word-1 n l e = word-of n l (of1 (order1 (stackAt (stacks starts) n))) (annotation-of1 (stackAt (stacks starts) n) (stack-order starts n l ∙ e))
 
   word-2 : (n : ℕ) → n < length starts → orderAt starts n ≡ 2 → getD (cellWords A starts) n 0 ≡ word2 A (order2 (stackAt (stacks starts) n))
-  unfolding wordNote
-  word-2 n l e = word-of n l (of2 (order2 (stackAt (stacks starts) n))) (note-of2 (stackAt (stacks starts) n) (stack-order starts n l ∙ e))
+  unfolding wordAnnotation
+  word-2 n l e = word-of n l (of2 (order2 (stackAt (stacks starts) n))) (annotation-of2 (stackAt (stacks starts) n) (stack-order starts n l ∙ e))
 
   -- ---- one start cell
 
-  module _ (small : StatesSmall A) (i : ℕ) (within : i < length starts) (cells : List ℕ) (fits : i * 68 + 68 ≤ length cells)
+  module _ (small : StateNumbersSmall A) (i : ℕ) (within : i < length starts) (cells : List ℕ) (fits : i * 68 + 68 ≤ length cells)
       (none : guidedCell cells i .choice ≡ (λ q. 0)) where
     choices-right : (c : Cell) → Refers starts i c
-        → guidedCell (choicesBy A (annotationOrder starts c) (cellWords A starts) i c cells) i
+        → guidedCell (choicesBy A (annotationOrderAt starts c) (cellWords A starts) i c cells) i
         ≡ record { cell = guidedCell cells i .cell; choice = leastChoice A (stackOf (stacks starts) c) }
-    unfolding choicesBy annotationOrder stackOf leastChoice
+    unfolding choicesBy annotationOrderAt stackOf leastChoice
     choices-right empty1 x = λ j. record { cell = guidedCell cells i .cell; choice = λ q. none j q }
     choices-right (symbol a u s) x =
         let u-there : u < length starts = omega (arith, x .0) in
         let s-there : s < length starts = omega (arith, x .1) in
-        rw (sym (stack-order starts u u-there), word-note u u-there, word-1 s s-there (x .2))
+        rw (sym (stack-order starts u u-there), word-annotation u u-there, word-1 s s-there (x .2))
         (symbol-choices A small i cells fits none a (stackAt (stacks starts) u) (order1 (stackAt (stacks starts) s)))
     choices-right empty2 x = λ j. record { cell = guidedCell cells i .cell; choice = λ q. none j q }
     choices-right (above w t) x =
@@ -141,7 +141,7 @@ module _ (A : Automaton) (starts : List Cell) (F : Formed starts) where
 
 -- ---- one start cell more
 
-module _ (A : Automaton) (small : StatesSmall A) where
+module _ (A : Automaton) (small : StateNumbersSmall A) where
   length-choicesBy : (k : ℕ) (ws : List ℕ) (i : ℕ) (c : Cell) (cells : List ℕ) → length (choicesBy A k ws i c cells) ≡ length cells
   unfolding choicesBy
   length-choicesBy k ws i empty1 cells = refl
@@ -160,21 +160,21 @@ module _ (A : Automaton) (small : StatesSmall A) where
   pub length-withStart : (starts : List Cell) (ws : List ℕ) (i : ℕ) (cells : List ℕ) → length (withStart A starts ws i cells) ≡ length cells
   unfolding withStart
   length-withStart starts ws i cells =
-      length-choicesBy (annotationOrder starts (cellAt starts i)) ws i (cellAt starts i) (withCell cells i (valueOf (cellAt starts i)))
+      length-choicesBy (annotationOrderAt starts (cellAt starts i)) ws i (cellAt starts i) (withCell cells i (valueOf (cellAt starts i)))
       ∙ length-withCell cells i (valueOf (cellAt starts i))
 
   pub withStart-other : (starts : List Cell) (ws : List ℕ) (i : ℕ) (cells : List ℕ) (j : ℕ) → (j ≡ i → ⊥)
       → guidedCell (withStart A starts ws i cells) j ≡ guidedCell cells j
   unfolding withStart
   withStart-other starts ws i cells j e =
-      choicesBy-other (annotationOrder starts (cellAt starts i)) ws i (cellAt starts i) (withCell cells i (valueOf (cellAt starts i))) j e
+      choicesBy-other (annotationOrderAt starts (cellAt starts i)) ws i (cellAt starts i) (withCell cells i (valueOf (cellAt starts i))) j e
       ∙ withCell-other cells i (valueOf (cellAt starts i)) j e
 
 -- start cell i with its least choices
 abbrev pub startCell : Automaton → List Cell → ℕ → Guided
 startCell A starts i = record { cell = cellAt starts i; choice = leastChoice A (stackAt (stacks starts) i) }
 
-module _ (A : Automaton) (starts : List Cell) (F : Formed starts) (small : StatesSmall A) where
+module _ (A : Automaton) (starts : List Cell) (F : Formed starts) (small : StateNumbersSmall A) where
   -- the words of start cell i, by the words of the start cells
   pub withStart-guided : (i : ℕ) (cells : List ℕ) → i < length starts → i * 68 + 68 ≤ length cells
       → guidedCell (withStart A starts (cellWords A starts) i cells) i ≡ startCell A starts i
@@ -193,7 +193,7 @@ module _ (A : Automaton) (starts : List Cell) (F : Formed starts) (small : State
 -- ---- what is asked
 
 -- tables that stand name states below 64
-pub states-small : {z : Table} {inner entries moves : List ℕ} → Stands z inner entries moves → StatesSmall (automatonOf z inner entries moves)
+pub states-small : {z : Table} {inner entries moves : List ℕ} → TablesNamed z inner entries moves → StateNumbersSmall (automatonOf z inner entries moves)
 unfolding edges
 states-small {z} {inner} {entries} {moves} h =
     let m : length (rowsIn moveRow (z .moves) moves) ≡ z .moves = length-rowsIn moveRow (z .moves) moves in
@@ -204,9 +204,3 @@ states-small {z} {inner} {entries} {moves} h =
           move-small (h .moves-named) b (getD-rowsIn moveRow (z .moves) moves k noMove b);
       edges-small = λ k l. edge-small z inner entries k (h .edges-named) (omega arith) refl;
     }
-
--- the words as `acceptance::fill_words` leaves them
-pub words-front : (A : Automaton) (n : ℕ) (body more : List ℕ) {words : List ℕ} → words ≡ cellWords A (cellsIn n body) ++ more
-    → take n words ≡ cellWords A (cellsIn n body)
-words-front A n body more e =
-    ap (take n) e ∙ take-at (cellWords A (cellsIn n body)) more n (length-cellWords A (cellsIn n body) ∙ length-cellsIn n body)

@@ -8,7 +8,7 @@ use lib.ListN.{length, getD}
 use lib.Seq.{ext-getD}
 use lib.Dec.{eqb}
 use borrow.Author.Tests.{eqb-true, eqb-false}
-use Rattle.words.specs.Lists.Laws.{by-test}
+use Rattle.words.specs.Tests.{by-test}
 use Rattle.stacks.specs.Stack.{nil1, Annotation, of1}
 use Rattle.automata.specs.Automaton.{Automaton, edges}
 use Rattle.walks.specs.Cell as walks
@@ -22,11 +22,11 @@ use Rattle.cell_memory.specs.declared.Cell.the-variants.{Empty1, Symbol, Empty2
 use Rattle.cell_memory.specs.Memory.{cellOf, valueOf, guidedCell, guidedIn, withCell}
 use Rattle.cell_memory.specs.Memory.Laws.{valueOf-cellOf, length-guidedIn, guidedIn-at}
 use Rattle.acceptance.specs.Words.{moveMet, edgeMet}
-use Rattle.acceptance.specs.Cells.{annotationOrder, cellWords}
+use Rattle.acceptance.specs.Cells.{annotationOrderAt, cellWords}
 use Rattle.acceptance.specs.Cells.Body.{cellRead, cellsIn, cellsIn-at}
 use Rattle.least_choices.specs.Choices.{leastMet}
 use Rattle.least_choices.specs.Starts.{choicesBy, withStart, startCells}
-use Rattle.least_choices.specs.Starts.Laws.{StatesSmall, startCell, length-withStart, withStart-other, withStart-guided}
+use Rattle.least_choices.specs.Starts.Laws.{StateNumbersSmall, startCell, length-withStart, withStart-other, withStart-guided}
 
 -- ---- the choices of a cell by value
 
@@ -35,8 +35,8 @@ module _ (A : Automaton) (k : ℕ) (ws : List ℕ) (i : ℕ) (c : Cell) (cells :
   unfolding choicesBy cellOf
   by-empty1 e = rw e
 
-  pub by-symbol : (a u s : ℕ) {note rest : ℕ} {out : List ℕ} → c ≡ Symbol a u s → note ≡ getD ws u 0 → rest ≡ getD ws s 0
-      → out ≡ leastMet (λ m. m .state) (moveMet a k note rest) i 0 (A .moves) cells → out ≡ choicesBy A k ws i (cellOf c) cells
+  pub by-symbol : (a u s : ℕ) {annotation rest : ℕ} {out : List ℕ} → c ≡ Symbol a u s → annotation ≡ getD ws u 0 → rest ≡ getD ws s 0
+      → out ≡ leastMet (λ m. m .state) (moveMet a k annotation rest) i 0 (A .moves) cells → out ≡ choicesBy A k ws i (cellOf c) cells
   unfolding choicesBy cellOf
   by-symbol a u s e f g h = rw (e, ← f, ← g) h
 
@@ -52,28 +52,28 @@ module _ (A : Automaton) (k : ℕ) (ws : List ℕ) (i : ℕ) (c : Cell) (cells :
 -- ---- one start cell
 
 pub start-put : (A : Automaton) (n : ℕ) (body ws : List ℕ) {i k : ℕ} (c : Cell) (cells : List ℕ) {put out : List ℕ} → i < n
-    → cellOf c ≡ cellRead (recordAt 6 i body) → k ≡ annotationOrder (cellsIn n body) (cellOf c) → put ≡ withCell cells i c
+    → cellOf c ≡ cellRead (recordAt 6 i body) → k ≡ annotationOrderAt (cellsIn n body) (cellOf c) → put ≡ withCell cells i c
     → out ≡ choicesBy A k ws i (cellOf c) put → out ≡ withStart A (cellsIn n body) ws i cells
 unfolding withStart
 start-put A n body ws {i} {k} c cells {put} h e f g w =
     w
     ∙ ap (λ (o : ℕ). choicesBy A o ws i (cellOf c) put) f
-    ∙ ap (choicesBy A (annotationOrder (cellsIn n body) (cellOf c)) ws i (cellOf c))
+    ∙ ap (choicesBy A (annotationOrderAt (cellsIn n body) (cellOf c)) ws i (cellOf c))
     (g ∙ ap (withCell cells i) (sym (valueOf-cellOf c)))
-    ∙ ap (λ (x : walks.Cell). choicesBy A (annotationOrder (cellsIn n body) x) ws i x (withCell cells i (valueOf x))) (cellsIn-at n body h e)
+    ∙ ap (λ (x : walks.Cell). choicesBy A (annotationOrderAt (cellsIn n body) x) ws i x (withCell cells i (valueOf x))) (cellsIn-at n body h e)
 
 -- ---- all start cells
 
 -- The first i start cells stand there.
-pub record Taken (A : Automaton) (starts : List walks.Cell) (before now : List ℕ) (i : ℕ) : Type 0 where
+pub record StartTaken (A : Automaton) (starts : List walks.Cell) (before now : List ℕ) (i : ℕ) : Type 0 where
   pub long : length now ≡ length before
   pub there : (j : ℕ) → j < i → guidedCell now j ≡ startCell A starts j
 
-pub taken-none : (A : Automaton) (starts : List walks.Cell) (cells : List ℕ) → Taken A starts cells cells 0
+pub taken-none : (A : Automaton) (starts : List walks.Cell) (cells : List ℕ) → StartTaken A starts cells cells 0
 taken-none A starts cells = record { long = refl; there = λ j h. absurd (omega arith) }
 
-pub taken-more : {A : Automaton} {starts : List walks.Cell} {ws c₀ c c′ : List ℕ} {i : ℕ} → Taken A starts c₀ c i → Formed starts → StatesSmall A
-    → i < length starts → i * 68 + 68 ≤ length c₀ → ws ≡ cellWords A starts → c′ ≡ withStart A starts ws i c → Taken A starts c₀ c′ (i + 1)
+pub taken-more : {A : Automaton} {starts : List walks.Cell} {ws c₀ c c′ : List ℕ} {i : ℕ} → StartTaken A starts c₀ c i → Formed starts → StateNumbersSmall A
+    → i < length starts → i * 68 + 68 ≤ length c₀ → ws ≡ cellWords A starts → c′ ≡ withStart A starts ws i c → StartTaken A starts c₀ c′ (i + 1)
 taken-more {A} {starts} {ws} {c₀} {c} {c′} {i} h F small l fits e w =
     let len : length c ≡ length c₀ = h .long in
     record {
@@ -104,7 +104,7 @@ getD-zipWith f (x ∷ xs) [] x₀ y₀ z₀ i h k = absurd (omega arith)
 getD-zipWith f (x ∷ xs) (y ∷ ys) x₀ y₀ z₀ zero h k = refl
 getD-zipWith f (x ∷ xs) (y ∷ ys) x₀ y₀ z₀ (suc i) h k = getD-zipWith f xs ys x₀ y₀ z₀ i (omega arith) (omega arith)
 
-pub taken-all : {A : Automaton} {starts : List walks.Cell} {c₀ c : List ℕ} {i n : ℕ} → Taken A starts c₀ c i → length starts ≡ n → n ≤ i
+pub taken-all : {A : Automaton} {starts : List walks.Cell} {c₀ c : List ℕ} {i n : ℕ} → StartTaken A starts c₀ c i → length starts ≡ n → n ≤ i
     → guidedIn n c ≡ startCells A starts
 unfolding stackAt
 taken-all {A} {starts} {c₀} {c} {i} {n} h e l =

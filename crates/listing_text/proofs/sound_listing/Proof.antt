@@ -4,8 +4,8 @@ use mathlib.Core.Path.{refl}
 use native.Mathlib.Omega.{arith}
 use borrow.Author.Tests.{not-true, not-false}
 use borrow.Author.Needs.{needs}
-use Rattle.services.specs.Memory.{zeros}
-use Rattle.text.specs.Written.{written-same}
+use Rattle.words.specs.Lists.{zeros}
+use Rattle.text.specs.Written.Laws.{written-same}
 use Rattle.sound_files.specs.Saturated.Laws.{table-none}
 use Rattle.listing_text.specs.Prepared.Laws.{prepared}
 use Rattle.listing_text.specs.Texts.{listing-exceeded}

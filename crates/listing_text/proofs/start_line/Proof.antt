@@ -3,8 +3,8 @@
 use mathlib.Core.Path.{refl}
 use native.Mathlib.Omega.{arith}
 use borrow.Author.Needs.{needs}
-use Rattle.services.specs.Memory.{zeros}
-use Rattle.text.specs.Written.{written-same}
+use Rattle.words.specs.Lists.{zeros}
+use Rattle.text.specs.Written.Laws.{written-same}
 use Rattle.sound_files.specs.Sound.Laws.{start-sound}
 use Rattle.listing_text.specs.Texts.{starts-few, line-guided}
 use Rattle.listing_text.proofs.start_line.Statement.{statement}

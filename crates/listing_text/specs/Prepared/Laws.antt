@@ -11,10 +11,10 @@ use Rattle.saturate.specs.Case.{CaseSaturated}
 use Rattle.sound_files.specs.Refusal.{FilesSound}
 use Rattle.sound_files.specs.Saturated.Laws.{table-there}
 use Rattle.guided_start.specs.Tables.Laws.{tables-stand}
-use Rattle.listing_text.specs.Prepared.{Prepared}
+use Rattle.listing_text.specs.Prepared.{TableReady}
 
 -- the tables of a case that fits
 pub prepared : {case start : List ℕ} {fits : Bool} {z : Table} {k : ℕ} {inner entries moves sizes : List ℕ} → FilesSound case start
     → CaseSaturated case (1024 * 5) (64 * 2) fits z k inner entries moves sizes → fits ≡ true → length inner ≡ 192 → length sizes ≡ 2050
-    → Prepared case start z inner entries moves k sizes
+    → TableReady case start z inner entries moves k sizes
 prepared s C f i l = record { sound = s; tables = tables-stand C (s .sound-case) f i (omega arith); table-is = table-there C f }

@@ -8,8 +8,9 @@ use native.Mathlib.Omega.{arith}
 use lib.ListN.{length}
 use Rattle.files.specs.Start.{Files}
 use Rattle.services.specs.Listing.{startLine, startLines}
-use Rattle.text.specs.Written.{Written, written-then, written-same}
-use Rattle.text.specs.Lines.{startLines-next}
+use Rattle.text.specs.Written.{Written}
+use Rattle.text.specs.Written.Laws.{written-then, written-same}
+use Rattle.text.specs.Lines.Laws.{startLines-next}
 use Rattle.listing_text.specs.Starts.{Lined}
 
 module _ {f : Files} where

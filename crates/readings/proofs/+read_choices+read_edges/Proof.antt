@@ -10,9 +10,9 @@ use Rattle.tables.specs.Held.{automatonOf}
 use Rattle.joins.specs.Joining.{asJoins}
 use Rattle.readings.specs.Offers.Laws.{collects-over}
 use Rattle.readings.specs.Edges.{EdgesUpTo, edges-none, edges-yes, edges-no, edges-all, edges-left, edges-end}
-use Rattle.readings.specs.Remembering.{Remembers}
-use Rattle.readings.specs.Remembering.Laws.{edges-gives, remembers-same, remembers-found, remembers-more}
-use Rattle.readings.specs.Turns.{fewer-left}
+use Rattle.readings.specs.Memo.{MemoHolds}
+use Rattle.readings.specs.Memo.Laws.{edges-gives, memo-same, memo-found, memo-more}
+use Rattle.readings.specs.Turns.Laws.{fewer-left}
 use borrow.Author.Needs.{needs}
 use borrow.Fn.Kinds.{In}
 use borrow.Fn.PlainCycle.{Measures, is, falls, and}
@@ -22,11 +22,11 @@ use Rattle.readings.proofs.+read_choices+read_edges.Lts-read_choices as
 use Rattle.readings.proofs.read_edges.Reads as read-edges
 use Rattle.readings.proofs.read_edges.Kinds as read-edges-kinds
 use Rattle.readings.proofs.+read_choices+read_edges.Lts-read_edges as read-edges-lts
-use Rattle.remembered.proofs.edges_state.Reads as edges-state-reads
+use Rattle.memo_table.proofs.edges_state.Reads as edges-state-reads
 use Rattle.readings.proofs.read_from.Reads as read-from-reads
-use Rattle.remembered.proofs.holds.Reads as holds-reads
-use Rattle.remembered.proofs.place.Reads as place-reads
-use Rattle.remembered.proofs.put.Reads as put-reads
+use Rattle.memo_table.proofs.holds.Reads as holds-reads
+use Rattle.memo_table.proofs.place.Reads as place-reads
+use Rattle.memo_table.proofs.put.Reads as put-reads
 use Rattle.sets.proofs.join.Reads as join-reads
 use Rattle.sets.proofs.least_member.Reads as least-member-reads
 use Rattle.sets.proofs.one_bit.Reads as one-bit-reads
@@ -74,11 +74,11 @@ read-choices-claims t = (
 )
 
 abbrev read-choices-Inv-loop : read-choices-lts.InvT-loop
-read-choices-Inv-loop z inner entries moves to j part named s seen₀ out₀ n room count k₀ i₀ seen out k i =
-    (i ≤ count) × EdgesUpTo z inner entries moves (to .control) (to .symbol) (asJoins j) (part .member) (members (part .others)) named s room n out₀ i k out × (length out ≡ length out₀) × Remembers (automatonOf z inner entries moves) room k out seen × (length seen ≡ length seen₀)
+read-choices-Inv-loop z inner entries moves to j part named s seen₀ out₀ n room count k₀ i₀ memo out k i =
+    (i ≤ count) × EdgesUpTo z inner entries moves (to .control) (to .symbol) (asJoins j) (part .member) (members (part .others)) named s room n out₀ i k out × (length out ≡ length out₀) × MemoHolds (automatonOf z inner entries moves) room k out memo × (length memo ≡ length seen₀)
 
 abbrev read-choices-μ-loop : read-choices-lts.MeasureT-loop
-read-choices-μ-loop z inner entries moves to j part named s seen₀ out₀ n room count k₀ i₀ seen out k i =
+read-choices-μ-loop z inner entries moves to j part named s seen₀ out₀ n room count k₀ i₀ memo out k i =
     count - i
 
 read-choices-add-count : (t : ℕ) → read-choices-lts.Need-add-count (read-choices-claims t) (read-choices-at t) read-choices.Post read-choices-Inv-loop read-choices-μ-loop
@@ -110,8 +110,8 @@ read-choices-loop-less t c = search needs
 
 read-choices-loop-again : (t : ℕ) → read-choices-lts.Need-loop-again (read-choices-claims t) (read-choices-at t) read-choices.Post read-choices-Inv-loop read-choices-μ-loop
 read-choices-loop-again t c = ⊎-elim
-    (λ w. (omega (arith, (c .before .before .before .before .loop-test .taken)), edges-yes (c .before .before .before .before .before .before .before .before .before .before .before .before .args .z) _ _ _ _ _ _ _ _ _ _ _ _ _ _ _ _ _ (c .before .before .before .before .before .loop .inv .1) (c .before .before .before .before .loop-test .taken) (c .before .before .before .edge-of .ensures .0) _ _ _ _ _ _ _ (w .0 .taken) (w .1 .ensures) (w .2 .ensures) (w .3 .ensures) (w .6 .ensures .0) (w .6 .kept .1 .1 .1 .1 .1 .1 .1 .1 .1 .1 .0) (w .12) (w .13), ap length (w .12) ∙ (w .6 .kept .1 .1 .1 .1 .1 .1 .1 .1 .1 .1 .0) ∙ (c .before .before .before .before .before .loop .inv .2), remembers-same (w .6 .ensures .1) (w .11) (w .12) (w .13), ap length (w .11) ∙ (w .6 .kept .1 .1 .1 .1 .1 .1 .1 .1 .1 .0) ∙ (c .before .before .before .before .before .loop .inv .4)))
-    (λ w. (omega (arith, (c .before .before .before .before .loop-test .taken)), edges-no (c .before .before .before .before .before .before .before .before .before .before .before .before .args .z) _ _ _ _ _ _ _ _ _ _ _ _ _ _ _ _ _ (c .before .before .before .before .before .loop .inv .1) (c .before .before .before .before .loop-test .taken) (c .before .before .before .edge-of .ensures .0) _ _ (w .0 .left) (w .2) (w .3), ap length (w .2) ∙ (c .before .before .before .before .before .loop .inv .2), remembers-same (c .before .before .before .before .before .loop .inv .3) (w .1) (w .2) (w .3), ap length (w .1) ∙ (c .before .before .before .before .before .loop .inv .4)))
+    (λ w. (omega (arith, (c .before .before .before .before .loop-test .taken)), edges-yes (c .before .before .before .before .before .before .before .before .before .before .before .before .args .z) _ _ _ _ _ _ _ _ _ _ _ _ _ _ _ _ _ (c .before .before .before .before .before .loop .inv .1) (c .before .before .before .before .loop-test .taken) (c .before .before .before .edge-of .ensures .0) _ _ _ _ _ _ _ (w .0 .taken) (w .1 .ensures) (w .2 .ensures) (w .3 .ensures) (w .6 .ensures .0) (w .6 .kept .1 .1 .1 .1 .1 .1 .1 .1 .1 .1 .0) (w .12) (w .13), ap length (w .12) ∙ (w .6 .kept .1 .1 .1 .1 .1 .1 .1 .1 .1 .1 .0) ∙ (c .before .before .before .before .before .loop .inv .2), memo-same (w .6 .ensures .1) (w .11) (w .12) (w .13), ap length (w .11) ∙ (w .6 .kept .1 .1 .1 .1 .1 .1 .1 .1 .1 .0) ∙ (c .before .before .before .before .before .loop .inv .4)))
+    (λ w. (omega (arith, (c .before .before .before .before .loop-test .taken)), edges-no (c .before .before .before .before .before .before .before .before .before .before .before .before .args .z) _ _ _ _ _ _ _ _ _ _ _ _ _ _ _ _ _ (c .before .before .before .before .before .loop .inv .1) (c .before .before .before .before .loop-test .taken) (c .before .before .before .edge-of .ensures .0) _ _ (w .0 .left) (w .2) (w .3), ap length (w .2) ∙ (c .before .before .before .before .before .loop .inv .2), memo-same (c .before .before .before .before .before .loop .inv .3) (w .1) (w .2) (w .3), ap length (w .1) ∙ (c .before .before .before .before .before .loop .inv .4)))
     (c .if1 .came)
 
 read-choices-same-length : (t : ℕ) → read-choices-lts.Need-same-length (read-choices-claims t) (read-choices-at t) read-choices.Post read-choices-Inv-loop read-choices-μ-loop
@@ -170,7 +170,7 @@ read-edges-same-length-3 : (t : ℕ) → read-edges-lts.Need-same-length-3 (read
 read-edges-same-length-3 t c = search needs
 
 read-edges-returns-3 : (t : ℕ) → read-edges-lts.Need-returns-3 (read-edges-claims t) (read-edges-at t) read-edges.Post
-read-edges-returns-3 t c = (remembers-found _ _ _ _ _ (edges-gives _ _ _ _ _ _ _ _ _ _ (c .before .before .before .before .before .edges-state .ensures)) (c .before .before .before .before .before .before .before .before .before .before .before .before .before .pre .1 .4) (c .before .before .before .before .before .before .before .before .before .before .before .before .before .pre .1 .3 .number) (c .before .before .before .place .ensures) (c .before .holds .ensures) (c .if3 .taken), (c .before .before .before .before .before .before .before .before .before .before .before .before .before .pre .1 .4))
+read-edges-returns-3 t c = (memo-found _ _ _ _ _ (edges-gives _ _ _ _ _ _ _ _ _ _ (c .before .before .before .before .before .edges-state .ensures)) (c .before .before .before .before .before .before .before .before .before .before .before .before .before .pre .1 .4) (c .before .before .before .before .before .before .before .before .before .before .before .before .before .pre .1 .3 .number) (c .before .before .before .place .ensures) (c .before .holds .ensures) (c .if3 .taken), (c .before .before .before .before .before .before .before .before .before .before .before .before .before .pre .1 .4))
 
 read-edges-least-member-requires : (t : ℕ) → read-edges-lts.Need-least-member-requires (read-edges-claims t) (read-edges-at t) read-edges.Post
 read-edges-least-member-requires t c κs = omega arith
@@ -188,7 +188,7 @@ read-edges-same-length-5 : (t : ℕ) → read-edges-lts.Need-same-length-5 (read
 read-edges-same-length-5 t c = (c .before .before .before .before .before .before .before .before .read-choices .kept .1 .1 .1 .1 .1 .1 .1 .1 .1 .1 .0)
 
 read-edges-returns-4 : (t : ℕ) → read-edges-lts.Need-returns-4 (read-edges-claims t) (read-edges-at t) read-edges.Post
-read-edges-returns-4 t c = (edges-left _ _ _ _ _ _ _ _ _ (c .before .before .before .before .before .before .before .before .before .before .before .least-member .ensures .0) (c .before .before .before .before .before .before .before .before .read-choices .ensures .0), remembers-more _ _ _ _ _ (edges-gives _ _ _ _ _ _ _ _ _ _ (c .before .before .before .before .before .before .before .before .before .before .before .before .before .before .before .before .before .edges-state .ensures)) (edges-left _ _ _ _ _ _ _ _ _ (c .before .before .before .before .before .before .before .before .before .before .before .least-member .ensures .0) (c .before .before .before .before .before .before .before .before .read-choices .ensures .0)) (c .before .before .before .before .before .before .before .before .read-choices .ensures .1) (omega (arith, (c .before .before .before .before .before .before .before .before .before .before .before .before .before .before .before .place .ensures), (c .before .before .before .before .before .before .before .before .read-choices .kept .1 .1 .1 .1 .1 .1 .1 .1 .1 .0))) (c .before .before .put .ensures))
+read-edges-returns-4 t c = (edges-left _ _ _ _ _ _ _ _ _ (c .before .before .before .before .before .before .before .before .before .before .before .least-member .ensures .0) (c .before .before .before .before .before .before .before .before .read-choices .ensures .0), memo-more _ _ _ _ _ (edges-gives _ _ _ _ _ _ _ _ _ _ (c .before .before .before .before .before .before .before .before .before .before .before .before .before .before .before .before .before .edges-state .ensures)) (edges-left _ _ _ _ _ _ _ _ _ (c .before .before .before .before .before .before .before .before .before .before .before .least-member .ensures .0) (c .before .before .before .before .before .before .before .before .read-choices .ensures .0)) (c .before .before .before .before .before .before .before .before .read-choices .ensures .1) (omega (arith, (c .before .before .before .before .before .before .before .before .before .before .before .before .before .before .before .place .ensures), (c .before .before .before .before .before .before .before .before .read-choices .kept .1 .1 .1 .1 .1 .1 .1 .1 .1 .0))) (c .before .before .put .ensures))
 
 pub +read-choices+read-edges-spec : {M : Type 1} → statement M
 +read-choices+read-edges-spec = close μ-read-choices μ-read-edges (λ t. read-choices-lts.spec (read-choices-claims t)

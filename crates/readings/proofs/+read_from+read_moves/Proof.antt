@@ -10,9 +10,10 @@ use Rattle.tables.specs.Held.{automatonOf}
 use Rattle.joins.specs.Joining.{asJoins, asJoined}
 use Rattle.readings.specs.Offers.Laws.{collects-over}
 use Rattle.readings.specs.Edges.{collects-edges}
-use Rattle.readings.specs.Remembering.{Remembers}
-use Rattle.readings.specs.Remembering.Laws.{read-gives, remembers-same, remembers-later, remembers-found, remembers-more}
-use Rattle.readings.specs.Turns.{ReadUpTo, read-none, read-yes, read-no, read-all, read-left, read-end, fewer-left}
+use Rattle.readings.specs.Memo.{MemoHolds}
+use Rattle.readings.specs.Memo.Laws.{read-gives, memo-same, memo-later, memo-found, memo-more}
+use Rattle.readings.specs.Turns.{ReadUpTo}
+use Rattle.readings.specs.Turns.Laws.{read-none, read-yes, read-no, read-all, read-left, read-end, fewer-left}
 use borrow.Author.Needs.{needs}
 use borrow.Fn.Kinds.{In}
 use borrow.Fn.PlainCycle.{Measures, is, falls, and}
@@ -24,11 +25,11 @@ use Rattle.readings.proofs.read_moves.Kinds as read-moves-kinds
 use Rattle.readings.proofs.+read_from+read_moves.Lts-read_moves as read-moves-lts
 use Rattle.joins.proofs.candidate.Reads as candidate-reads
 use Rattle.readings.proofs.offer.Reads as offer-reads
-use Rattle.readings.proofs.outcome.Reads as outcome-reads
-use Rattle.remembered.proofs.read_state.Reads as read-state-reads
-use Rattle.remembered.proofs.holds.Reads as holds-reads
-use Rattle.remembered.proofs.place.Reads as place-reads
-use Rattle.remembered.proofs.put.Reads as put-reads
+use Rattle.readings.proofs.result.Reads as result-reads
+use Rattle.memo_table.proofs.read_state.Reads as read-state-reads
+use Rattle.memo_table.proofs.holds.Reads as holds-reads
+use Rattle.memo_table.proofs.place.Reads as place-reads
+use Rattle.memo_table.proofs.put.Reads as put-reads
 use Rattle.sets.proofs.least_member.Reads as least-member-reads
 use Rattle.tables.proofs.move_at.Reads as move-at-reads
 use Rattle.readings.proofs.+read_from+read_moves.{statement}
@@ -58,8 +59,8 @@ read-moves-below t =
 -- what the callees of read_from require and ensure
 abbrev read-from-claims : ℕ → read-from-lts.Claims
 read-from-claims t = (
-  outcome-reads.Asked,
-  outcome-reads.Learnt,
+  result-reads.Asked,
+  result-reads.Learnt,
   offer-reads.Asked,
   offer-reads.Learnt,
   read-state-reads.Asked,
@@ -79,8 +80,8 @@ read-from-claims t = (
 read-from-returns : (t : ℕ) → read-from-lts.Need-returns (read-from-claims t) (read-from-at t) read-from.Post
 read-from-returns t c = (collects-over _ _ _ (c .before .before .before .before .before .before .pre .1 .2 .number) (c .if1 .taken), (c .before .before .before .before .before .before .pre .1 .3))
 
-read-from-outcome-requires : (t : ℕ) → read-from-lts.Need-outcome-requires (read-from-claims t) (read-from-at t) read-from.Post
-read-from-outcome-requires t c κs = search needs
+read-from-result-requires : (t : ℕ) → read-from-lts.Need-result-requires (read-from-claims t) (read-from-at t) read-from.Post
+read-from-result-requires t c κs = search needs
 
 read-from-offer-requires : (t : ℕ) → read-from-lts.Need-offer-requires (read-from-claims t) (read-from-at t) read-from.Post
 read-from-offer-requires t c κs = ((c .before .before .before .before .before .before .before .before .before .pre .1 .0), (c .before .before .before .before .before .before .before .before .before .pre .1 .1), (c .before .before .before .before .before .before .before .before .before .pre .1 .2))
@@ -89,7 +90,7 @@ read-from-same-length : (t : ℕ) → read-from-lts.Need-same-length (read-from-
 read-from-same-length t c = search needs
 
 read-from-returns-2 : (t : ℕ) → read-from-lts.Need-returns-2 (read-from-claims t) (read-from-at t) read-from.Post
-read-from-returns-2 t c = (read-end (c .before .before .before .before .before .before .before .before .before .before .before .before .args .z) _ _ _ _ _ _ _ _ _ _ _ _ _ _ _ _ (c .before .before .before .before .before .if2 .taken) (c .before .before .before .before .outcome .ensures) (c .before .before .offer .ensures), remembers-later (c .before .before .before .before .before .before .before .before .before .before .before .before .pre .1 .3) (collects-edges (c .before .before .before .before .before .before .before .before .before .before .before .before .args .z) _ _ _ (c .before .before .offer .ensures)))
+read-from-returns-2 t c = (read-end (c .before .before .before .before .before .before .before .before .before .before .before .before .args .z) _ _ _ _ _ _ _ _ _ _ _ _ _ _ _ _ (c .before .before .before .before .before .if2 .taken) (c .before .before .before .before .result .ensures) (c .before .before .offer .ensures), memo-later (c .before .before .before .before .before .before .before .before .before .before .before .before .pre .1 .3) (collects-edges (c .before .before .before .before .before .before .before .before .before .before .before .before .args .z) _ _ _ (c .before .before .offer .ensures)))
 
 read-from-read-state-requires : (t : ℕ) → read-from-lts.Need-read-state-requires (read-from-claims t) (read-from-at t) read-from.Post
 read-from-read-state-requires t c κs = search needs
@@ -104,7 +105,7 @@ read-from-same-length-2 : (t : ℕ) → read-from-lts.Need-same-length-2 (read-f
 read-from-same-length-2 t c = search needs
 
 read-from-returns-3 : (t : ℕ) → read-from-lts.Need-returns-3 (read-from-claims t) (read-from-at t) read-from.Post
-read-from-returns-3 t c = (remembers-found _ _ _ _ _ (read-gives _ _ _ _ _ _ _ _ _ (c .before .before .before .before .before .read-state .ensures)) (c .before .before .before .before .before .before .before .before .before .before .before .before .before .pre .1 .3) (c .before .before .before .before .before .before .before .before .before .before .before .before .before .pre .1 .2 .number) (c .before .before .before .place .ensures) (c .before .holds .ensures) (c .if3 .taken), (c .before .before .before .before .before .before .before .before .before .before .before .before .before .pre .1 .3))
+read-from-returns-3 t c = (memo-found _ _ _ _ _ (read-gives _ _ _ _ _ _ _ _ _ (c .before .before .before .before .before .read-state .ensures)) (c .before .before .before .before .before .before .before .before .before .before .before .before .before .pre .1 .3) (c .before .before .before .before .before .before .before .before .before .before .before .before .before .pre .1 .2 .number) (c .before .before .before .place .ensures) (c .before .holds .ensures) (c .if3 .taken), (c .before .before .before .before .before .before .before .before .before .before .before .before .before .pre .1 .3))
 
 read-from-least-member-requires : (t : ℕ) → read-from-lts.Need-least-member-requires (read-from-claims t) (read-from-at t) read-from.Post
 read-from-least-member-requires t c κs = omega arith
@@ -122,7 +123,7 @@ read-from-same-length-4 : (t : ℕ) → read-from-lts.Need-same-length-4 (read-f
 read-from-same-length-4 t c = (c .before .before .before .before .before .before .before .before .read-moves .kept .1 .1 .1 .1 .1 .1 .1 .1 .1 .0)
 
 read-from-returns-4 : (t : ℕ) → read-from-lts.Need-returns-4 (read-from-claims t) (read-from-at t) read-from.Post
-read-from-returns-4 t c = (read-left _ _ _ _ _ _ _ _ (c .before .before .before .before .before .before .before .before .before .before .before .least-member .ensures .0) (c .before .before .before .before .before .before .before .before .read-moves .ensures .0), remembers-more _ _ _ _ _ (read-gives _ _ _ _ _ _ _ _ _ (c .before .before .before .before .before .before .before .before .before .before .before .before .before .before .before .before .before .read-state .ensures)) (read-left _ _ _ _ _ _ _ _ (c .before .before .before .before .before .before .before .before .before .before .before .least-member .ensures .0) (c .before .before .before .before .before .before .before .before .read-moves .ensures .0)) (c .before .before .before .before .before .before .before .before .read-moves .ensures .1) (omega (arith, (c .before .before .before .before .before .before .before .before .before .before .before .before .before .before .before .place .ensures), (c .before .before .before .before .before .before .before .before .read-moves .kept .1 .1 .1 .1 .1 .1 .1 .1 .0))) (c .before .before .put .ensures))
+read-from-returns-4 t c = (read-left _ _ _ _ _ _ _ _ (c .before .before .before .before .before .before .before .before .before .before .before .least-member .ensures .0) (c .before .before .before .before .before .before .before .before .read-moves .ensures .0), memo-more _ _ _ _ _ (read-gives _ _ _ _ _ _ _ _ _ (c .before .before .before .before .before .before .before .before .before .before .before .before .before .before .before .before .before .read-state .ensures)) (read-left _ _ _ _ _ _ _ _ (c .before .before .before .before .before .before .before .before .before .before .before .least-member .ensures .0) (c .before .before .before .before .before .before .before .before .read-moves .ensures .0)) (c .before .before .before .before .before .before .before .before .read-moves .ensures .1) (omega (arith, (c .before .before .before .before .before .before .before .before .before .before .before .before .before .before .before .place .ensures), (c .before .before .before .before .before .before .before .before .read-moves .kept .1 .1 .1 .1 .1 .1 .1 .1 .0))) (c .before .before .put .ensures))
 
 -- what the callees of read_moves require and ensure
 abbrev read-moves-claims : ℕ → read-moves-lts.Claims
@@ -136,11 +137,11 @@ read-moves-claims t = (
 )
 
 abbrev read-moves-Inv-loop : read-moves-lts.InvT-loop
-read-moves-Inv-loop z inner entries moves to s part j seen₀ out₀ n room count k₀ i₀ seen out k i =
-    (i ≤ count) × ReadUpTo (automatonOf z inner entries moves) (to .control) (to .symbol) s (asJoins j) (part .member) (members (part .others)) room n out₀ i k out × (length out ≡ length out₀) × Remembers (automatonOf z inner entries moves) room k out seen × (length seen ≡ length seen₀)
+read-moves-Inv-loop z inner entries moves to s part j seen₀ out₀ n room count k₀ i₀ memo out k i =
+    (i ≤ count) × ReadUpTo (automatonOf z inner entries moves) (to .control) (to .symbol) s (asJoins j) (part .member) (members (part .others)) room n out₀ i k out × (length out ≡ length out₀) × MemoHolds (automatonOf z inner entries moves) room k out memo × (length memo ≡ length seen₀)
 
 abbrev read-moves-μ-loop : read-moves-lts.MeasureT-loop
-read-moves-μ-loop z inner entries moves to s part j seen₀ out₀ n room count k₀ i₀ seen out k i = count - i
+read-moves-μ-loop z inner entries moves to s part j seen₀ out₀ n room count k₀ i₀ memo out k i = count - i
 
 read-moves-loop-holds : (t : ℕ) → read-moves-lts.Need-loop-holds (read-moves-claims t) (read-moves-at t) read-moves.Post read-moves-Inv-loop read-moves-μ-loop
 read-moves-loop-holds t c = (search needs, read-none (c .before .before .before .before .before .args .z) _ _ _ _ _ _ _ _ _ _ _ _ (c .before .before .before .before .before .pre .1 .2 .number), refl, (c .before .before .before .before .before .pre .1 .3), refl)
@@ -188,14 +189,14 @@ read-moves-loop-again t c =
       omega (arith, within),
       read-yes z _ _ _ _ _ _ _ _ _ _ _ _ _ _ _ _ _ (more .1) within row (joined .ensures) _ _ _ _ _ (ap asJoined (w .1 .given .1)) (w .5 .ensures .0) (w .5 .kept .1 .1 .1 .1 .1 .1 .1 .1 .1 .1 .1 .0) (w .11) (w .12),
       ap length (w .11) ∙ w .5 .kept .1 .1 .1 .1 .1 .1 .1 .1 .1 .1 .1 .0 ∙ more .2,
-      remembers-same (w .5 .ensures .1) (w .10) (w .11) (w .12),
+      memo-same (w .5 .ensures .1) (w .10) (w .11) (w .12),
       ap length (w .10) ∙ w .5 .kept .1 .1 .1 .1 .1 .1 .1 .1 .1 .1 .0 ∙ more .4,
     ))
     (λ w. (
       omega (arith, within),
       read-no z _ _ _ _ _ _ _ _ _ _ _ _ _ _ _ _ _ (more .1) within row (joined .ensures) _ _ (ap asJoined (w .1 .given .1)) (w .3) (w .4),
       ap length (w .3) ∙ more .2,
-      remembers-same (more .3) (w .2) (w .3) (w .4),
+      memo-same (more .3) (w .2) (w .3) (w .4),
       ap length (w .2) ∙ more .4,
     ))
     (c .match .came)
@@ -214,7 +215,7 @@ pub +read-from+read-moves-spec : {M : Type 1} → statement M
     (read-from-at t)
     read-from.Post
     (read-from-returns t)
-    (read-from-outcome-requires t)
+    (read-from-result-requires t)
     (read-from-offer-requires t)
     (read-from-same-length t)
     (read-from-returns-2 t)

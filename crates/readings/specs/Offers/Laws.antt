@@ -15,7 +15,8 @@ use lib.Dec.{leb}
 use borrow.Author.Tests.{leb-true, leb-false}
 use native.Mathlib.Numerals.{add-one}
 use Rattle.words.specs.Lists.{each, when, only, places, placesFrom}
-use Rattle.words.specs.Lists.Laws.{by-test, only-yes, only-no, each-append, each-one, places-take}
+use Rattle.words.specs.Lists.Laws.{only-yes, only-no, each-append, each-one, places-take}
+use Rattle.words.specs.Tests.{by-test}
 use Rattle.words.specs.Order.{insert, sorted, rising}
 use Rattle.words.specs.Order.Laws.{insert-out, insert-in, insert-key, insert-rising, sorted-unique}
 use Rattle.automata.specs.Automaton.{Automaton}
@@ -170,17 +171,17 @@ module _ {A : Automaton} {room : ℕ} where
 
 module _ (A : Automaton) (room : ℕ) {X : Type 0} (test : X → Bool) (l : List X) (d : X) (f : ℕ → List Result) where
   -- What the first i elements give, of those that pass the test, was offered.
-  pub record Passed (n : ℕ) (t : List ℕ) (i r : ℕ) (t′ : List ℕ) : Type 0 where
+  pub record OfferedBelow (n : ℕ) (t : List ℕ) (i r : ℕ) (t′ : List ℕ) : Type 0 where
     pub within : i ≤ length l
     pub offered : Collects A room n t (each (places test (take i l)) f) r t′
     pub long : length t′ ≡ length t
 
-  pub passed-none : (n : ℕ) (t : List ℕ) → n ≤ room + 1 → Passed n t 0 n t
+  pub passed-none : (n : ℕ) (t : List ℕ) → n ≤ room + 1 → OfferedBelow n t 0 n t
   unfolding places placesFrom each
   passed-none n t h = record { within = omega arith; offered = collects-none n t h; long = refl }
 
-  pub passed-more : {n i r r′ : ℕ} {t t′ t″ : List ℕ} → Passed n t i r t′ → i < length l → Collects A room r t′ (when (test (getD l i d)) (f i)) r′ t″
-      → length t″ ≡ length t′ → Passed n t (i + 1) r′ t″
+  pub passed-more : {n i r r′ : ℕ} {t t′ t″ : List ℕ} → OfferedBelow n t i r t′ → i < length l → Collects A room r t′ (when (test (getD l i d)) (f i)) r′ t″
+      → length t″ ≡ length t′ → OfferedBelow n t (i + 1) r′ t″
   unfolding each when
   passed-more {i = i} h b k e =
       record {
@@ -200,5 +201,5 @@ module _ (A : Automaton) (room : ℕ) {X : Type 0} (test : X → Bool) (l : List
           ∙ ap (λ (k : List ℕ). each k f) (sym (places-take test l i d b))
           ∙ ap (λ (k : ℕ). each (places test (take k l)) f) (sym (add-one i))
 
-  pub passed-all : {n i r : ℕ} {t t′ : List ℕ} → Passed n t i r t′ → length l ≤ i → Collects A room n t (each (places test l) f) r t′
+  pub passed-all : {n i r : ℕ} {t t′ : List ℕ} → OfferedBelow n t i r t′ → length l ≤ i → Collects A room n t (each (places test l) f) r t′
   passed-all {i = i} h b = collects-same (ap (λ (k : List X). each (places test k) f) (take-all i l b)) (h .offered)

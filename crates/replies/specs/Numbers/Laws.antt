@@ -1,6 +1,6 @@
 -- An answer's number tells whether it is a refusal.
 -- Assumes nothing.
-use Prim.Native.Nat.{ℕ, _≤_}
+use Prim.Native.Nat.{_≤_}
 use native.Mathlib.Omega.{arith}
 use Rattle.replies.specs.declared.Halt.the-variants.{Arrived, TraceFull, CellsShort}
 use Rattle.replies.specs.declared.Reply.{Reply}

@@ -5,18 +5,18 @@ use mathlib.Core.Path.{_≡_, refl, _∙_}
 use native.Mathlib.Omega.{arith}
 use lib.ListN.{length}
 use Rattle.tables.specs.Held.{automatonOf}
-use Rattle.readings.specs.Remembering.{Remembers}
+use Rattle.readings.specs.Memo.{MemoHolds}
 use Rattle.results.specs.Steps.{MovesUpTo, moves-none, moves-more, moves-all}
 use borrow.Author.Needs.{needs}
 use Rattle.results.proofs.by_moves.Statement.{statement}
 use Rattle.results.proofs.by_moves.Tie as tie
 
 abbrev Inv-loop : tie.InvT-loop
-Inv-loop z inner entries moves to kind b q seen₀ out₀ n room count k₀ i₀ seen out k i =
-    (i ≤ count) × MovesUpTo z inner entries moves (to .control) (to .symbol) kind b q room n out₀ i k out × (length out ≡ length out₀) × Remembers (automatonOf z inner entries moves) room k out seen × (length seen ≡ length seen₀)
+Inv-loop z inner entries moves to kind b q seen₀ out₀ n room count k₀ i₀ memo out k i =
+    (i ≤ count) × MovesUpTo z inner entries moves (to .control) (to .symbol) kind b q room n out₀ i k out × (length out ≡ length out₀) × MemoHolds (automatonOf z inner entries moves) room k out memo × (length memo ≡ length seen₀)
 
 abbrev μ-loop : tie.MeasureT-loop
-μ-loop z inner entries moves to kind b q seen₀ out₀ n room count k₀ i₀ seen out k i = count - i
+μ-loop z inner entries moves to kind b q seen₀ out₀ n room count k₀ i₀ memo out k i = count - i
 
 loop-holds : tie.Need-loop-holds Inv-loop μ-loop
 loop-holds c = (search needs, moves-none (c .before .before .before .before .before .args .z) _ _ _ _ _ _ _ _ _ _ _ (c .before .before .before .before .before .pre .3 .number), refl, (c .before .before .before .before .before .pre .4), refl)

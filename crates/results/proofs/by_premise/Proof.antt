@@ -1,7 +1,7 @@
 -- `results::by_premise` meets its contract.
 -- Assumes nothing.
 use Rattle.readings.specs.Edges.{collects-edges}
-use Rattle.readings.specs.Remembering.Laws.{remembers-later}
+use Rattle.readings.specs.Memo.Laws.{memo-later}
 use Rattle.results.specs.Steps.{by-rewriting, by-pushing1, by-pushing2, by-copying}
 use borrow.Author.Needs.{needs}
 use Rattle.results.proofs.by_premise.Statement.{statement}
@@ -10,8 +10,8 @@ use Rattle.results.proofs.by_premise.Tie as tie
 enum-told : tie.Need-enum-told
 enum-told c = search needs
 
-outcome-requires : tie.Need-outcome-requires
-outcome-requires c κs = search needs
+result-requires : tie.Need-result-requires
+result-requires c κs = search needs
 
 offer-requires : tie.Need-offer-requires
 offer-requires c κs = ((c .before .before .before .before .before .before .before .before .before .pre .1), (c .before .before .before .before .before .before .before .before .before .pre .2), (c .before .before .before .before .before .before .before .before .before .pre .3))
@@ -41,7 +41,7 @@ same-length : tie.Need-same-length
 same-length c = search needs
 
 returns : tie.Need-returns
-returns c = (by-rewriting (c .before .before .before .before .before .before .before .before .before .before .before .before .args .z) _ _ _ _ _ _ _ _ _ _ _ _ _ _ (c .before .before .before .before .before .enum-told .given .1) (c .before .before .before .before .outcome .ensures) (c .before .before .offer .ensures), remembers-later (c .before .before .before .before .before .before .before .before .before .before .before .before .pre .4) (collects-edges (c .before .before .before .before .before .before .before .before .before .before .before .before .args .z) _ _ _ (c .before .before .offer .ensures)))
+returns c = (by-rewriting (c .before .before .before .before .before .before .before .before .before .before .before .before .args .z) _ _ _ _ _ _ _ _ _ _ _ _ _ _ (c .before .before .before .before .before .enum-told .given .1) (c .before .before .before .before .result .ensures) (c .before .before .offer .ensures), memo-later (c .before .before .before .before .before .before .before .before .before .before .before .before .pre .4) (collects-edges (c .before .before .before .before .before .before .before .before .before .before .before .before .args .z) _ _ _ (c .before .before .offer .ensures)))
 
 same-length-2 : tie.Need-same-length-2
 same-length-2 c = search needs
@@ -75,7 +75,7 @@ by-premise-spec =
     tie.close
     (tie.spec
     enum-told
-    outcome-requires
+    result-requires
     offer-requires
     enum-told-2
     by-push-requires

@@ -1,7 +1,7 @@
 -- `results::by_rule` meets its contract.
 -- Assumes nothing.
 use Rattle.case_records.specs.Values.{theRule}
-use Rattle.results.specs.Uses.{rule-used}
+use Rattle.results.specs.Uses.Laws.{rule-used}
 use borrow.Author.Needs.{needs}
 use Rattle.results.proofs.by_rule.Statement.{statement}
 use Rattle.results.proofs.by_rule.Tie as tie

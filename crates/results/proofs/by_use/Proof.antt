@@ -1,8 +1,8 @@
 -- `results::by_use` meets its contract.
 -- Assumes nothing.
 use Rattle.readings.specs.Edges.{collects-edges}
-use Rattle.readings.specs.Remembering.Laws.{remembers-later}
-use Rattle.results.specs.Uses.{uses-moves, uses-entries, uses-nothing}
+use Rattle.readings.specs.Memo.Laws.{memo-later}
+use Rattle.results.specs.Uses.Laws.{uses-moves, uses-entries, uses-nothing}
 use borrow.Author.Needs.{needs}
 use Rattle.results.proofs.by_use.Statement.{statement}
 use Rattle.results.proofs.by_use.Tie as tie
@@ -38,13 +38,13 @@ same-length-3 : tie.Need-same-length-3
 same-length-3 c = search needs
 
 returns-2 : tie.Need-returns-2
-returns-2 c = (uses-entries (c .before .before .before .before .before .before .before .before .before .before .before .before .args .z) _ _ _ _ _ _ _ _ _ _ _ _ _ (c .before .before .before .before .before .used2 .given .1) (c .before .before .by-entries .ensures), remembers-later (c .before .before .before .before .before .before .before .before .before .before .before .before .pre .4) (collects-edges (c .before .before .before .before .before .before .before .before .before .before .before .before .args .z) _ _ _ (c .before .before .by-entries .ensures)))
+returns-2 c = (uses-entries (c .before .before .before .before .before .before .before .before .before .before .before .before .args .z) _ _ _ _ _ _ _ _ _ _ _ _ _ (c .before .before .before .before .before .used2 .given .1) (c .before .before .by-entries .ensures), memo-later (c .before .before .before .before .before .before .before .before .before .before .before .before .pre .4) (collects-edges (c .before .before .before .before .before .before .before .before .before .before .before .before .args .z) _ _ _ (c .before .before .by-entries .ensures)))
 
 same-length-4 : tie.Need-same-length-4
 same-length-4 c = search needs
 
 returns-3 : tie.Need-returns-3
-returns-3 c = (uses-nothing (c .before .before .before .before .before .before .before .before .before .before .before .before .args .z) _ _ _ _ _ _ _ _ _ _ _ _ _ (c .before .before .before .before .before .used3 .given .1) (c .before .before .offer .ensures), remembers-later (c .before .before .before .before .before .before .before .before .before .before .before .before .pre .4) (collects-edges (c .before .before .before .before .before .before .before .before .before .before .before .before .args .z) _ _ _ (c .before .before .offer .ensures)))
+returns-3 c = (uses-nothing (c .before .before .before .before .before .before .before .before .before .before .before .before .args .z) _ _ _ _ _ _ _ _ _ _ _ _ _ (c .before .before .before .before .before .used3 .given .1) (c .before .before .offer .ensures), memo-later (c .before .before .before .before .before .before .before .before .before .before .before .before .pre .4) (collects-edges (c .before .before .before .before .before .before .before .before .before .before .before .before .args .z) _ _ _ (c .before .before .offer .ensures)))
 
 pub by-use-spec : {M : Type 1} → statement M
 by-use-spec =

@@ -5,22 +5,22 @@ use mathlib.Core.Path.{_≡_, sym, _∙_}
 use native.Mathlib.Omega.{arith}
 use lib.ListN.{length, length-replicate}
 use Rattle.tables.specs.Held.{automatonOf}
-use Rattle.readings.specs.Remembering.{Remembers}
-use Rattle.readings.specs.Remembering.Laws.{remembers-none}
+use Rattle.readings.specs.Memo.{MemoHolds}
+use Rattle.readings.specs.Memo.Laws.{memo-none}
 use Rattle.results.specs.Collecting.{RulesUpTo, rules-none, rules-more, rules-all, next-small}
 use borrow.Author.Needs.{needs}
 use Rattle.results.proofs.collect.Statement.{statement}
 use Rattle.results.proofs.collect.Tie as tie
 
 abbrev Inv-loop : tie.InvT-loop
-Inv-loop z inner entries moves body count out₀ room seen₀ n₀ i₀ out seen n i =
-    (i ≤ count) × RulesUpTo (automatonOf z inner entries moves) room body out₀ i n out × Remembers (automatonOf z inner entries moves) room n out seen × (length seen ≡ 147456)
+Inv-loop z inner entries moves body count out₀ room seen₀ n₀ i₀ out memo n i =
+    (i ≤ count) × RulesUpTo (automatonOf z inner entries moves) room body out₀ i n out × MemoHolds (automatonOf z inner entries moves) room n out memo × (length memo ≡ 147456)
 
 abbrev μ-loop : tie.MeasureT-loop
-μ-loop z inner entries moves body count out₀ room seen₀ n₀ i₀ out seen n i = count - i
+μ-loop z inner entries moves body count out₀ room seen₀ n₀ i₀ out memo n i = count - i
 
 loop-holds : tie.Need-loop-holds Inv-loop μ-loop
-loop-holds c = (search needs, rules-none _ _ _ _, remembers-none 147456 (omega arith), length-replicate {A = ℕ} 147456 0)
+loop-holds c = (search needs, rules-none _ _ _ _, memo-none 147456 (omega arith), length-replicate {A = ℕ} 147456 0)
 
 rule-at-requires : tie.Need-rule-at-requires Inv-loop μ-loop
 rule-at-requires c κs = omega (arith, (c .before .before .before .before .before .before .before .pre .3 .rules-lent))

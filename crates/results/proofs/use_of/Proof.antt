@@ -1,6 +1,7 @@
 -- `results::use_of` meets its contract.
 -- Assumes nothing.
-use Rattle.results.specs.Uses.{useOf, use-is, use-pop2, use-collapse2}
+use Rattle.results.specs.Uses.{useOf}
+use Rattle.results.specs.Uses.Laws.{use-is, use-pop2, use-collapse2}
 use borrow.Author.Needs.{needs}
 use Rattle.results.proofs.use_of.Statement.{statement}
 use Rattle.results.proofs.use_of.Tie as tie
@@ -26,8 +27,8 @@ enum-told-2 c = search needs
 enum-told-3 : tie.Need-enum-told-3
 enum-told-3 c = search needs
 
-outcome-requires : tie.Need-outcome-requires
-outcome-requires c κs = search needs
+result-requires : tie.Need-result-requires
+result-requires c κs = search needs
 
 enum-told-4 : tie.Need-enum-told-4
 enum-told-4 c = search needs
@@ -35,8 +36,8 @@ enum-told-4 c = search needs
 enum-told-5 : tie.Need-enum-told-5
 enum-told-5 c = search needs
 
-outcome-requires-2 : tie.Need-outcome-requires-2
-outcome-requires-2 c κs = search needs
+result-requires-2 : tie.Need-result-requires-2
+result-requires-2 c κs = search needs
 
 returns : tie.Need-returns
 unfolding useOf
@@ -59,14 +60,14 @@ unfolding useOf
 returns-5 c = use-is _ _ _ _ _ (c .enum-told2 .given .1)
 
 returns-6 : tie.Need-returns-6
-returns-6 c = use-pop2 _ _ _ _ _ _ (c .before .enum-told3 .given .1) (c .before .before .before .one-bit .ensures) (c .outcome .ensures)
+returns-6 c = use-pop2 _ _ _ _ _ _ (c .before .enum-told3 .given .1) (c .before .before .before .one-bit .ensures) (c .result .ensures)
 
 returns-7 : tie.Need-returns-7
 unfolding useOf
 returns-7 c = use-is _ _ _ _ _ (c .enum-told4 .given .1)
 
 returns-8 : tie.Need-returns-8
-returns-8 c = use-collapse2 _ _ _ _ _ _ (c .before .enum-told5 .given .1) (c .before .before .before .one-bit .ensures) (c .outcome2 .ensures)
+returns-8 c = use-collapse2 _ _ _ _ _ _ (c .before .enum-told5 .given .1) (c .before .before .before .one-bit .ensures) (c .result2 .ensures)
 
 pub use-of-spec : {M : Type 1} → statement M
 use-of-spec =
@@ -79,10 +80,10 @@ use-of-spec =
     enum-told
     enum-told-2
     enum-told-3
-    outcome-requires
+    result-requires
     enum-told-4
     enum-told-5
-    outcome-requires-2
+    result-requires-2
     returns
     returns-2
     returns-3

@@ -11,7 +11,8 @@ use lib.ListN.{length, getD, length-map, List·getD-map}
 use lib.Dec.{leb, ltb}
 use borrow.Author.Tests.{not-false, leb-true, leb-false}
 use Rattle.words.specs.Lists.{only, every}
-use Rattle.words.specs.Lists.Laws.{by-test, getD-in, only-yes, only-no}
+use Rattle.words.specs.Lists.Laws.{getD-in, only-yes, only-no}
+use Rattle.words.specs.Tests.{by-test}
 use Rattle.words.specs.Order.{insert, sorted}
 use Rattle.words.specs.Order.Laws.{by-place, insert-before, insert-after, insert-held}
 use Rattle.stacks.specs.System.{Rule}
@@ -22,16 +23,18 @@ use Rattle.files.specs.Bytes.{placed, countOf, offsetOf, recordsOf}
 use Rattle.files.specs.Bytes.Laws.{numbered, unrefused, records-at, length-recordsOf}
 use Rattle.files.specs.Case.{caseBodies, caseTests, caseRefusal, Head, head, entriesOf, ownOf, rulesOf, ruleOf, ruleBytes, ruleRecords, EdgeBytes, innerEdges, edgeRecords, moveOf, moveRecords}
 use Rattle.files.specs.Case.Laws.{CasePlaces, case-placed, case-head, case-rules, case-inner, case-moves-few, case-states-few, case-edges-few}
-use Rattle.bytes_in.specs.Records.{recordAt, bodyOf, body-fits, records-here}
-use Rattle.services.specs.Memory.{zeros, lent}
+use Rattle.bytes_in.specs.Records.{recordAt, bodyOf}
+use Rattle.bytes_in.specs.Records.Laws.{body-fits, records-here}
+use Rattle.services.specs.Memory.{lent}
+use Rattle.words.specs.Lists.{zeros}
 use Rattle.tables.specs.declared.Table.{Table}
 use Rattle.tables.specs.Rows.{Layout, rowAt, rowsIn, putRow}
 use Rattle.tables.specs.Rows.Laws.{firstOf-list, length-rowsIn, getD-rowsIn}
 use Rattle.tables.specs.Records.{edgeRow, entryRow, moveRow}
 use Rattle.tables.specs.Held.{automatonOf}
 use Rattle.tables.specs.Filled.{Filled, filled-zeros, filled-put}
-use Rattle.case_tables.specs.Written.{written}
-use Rattle.case_tables.specs.Own.{Room}
+use Rattle.case_tables.specs.WrittenRows.{written}
+use Rattle.case_tables.specs.Own.{RoomForOwn}
 use Rattle.results.specs.Collecting.{ruleIn, rulesIn, RulesStand}
 use Rattle.saturation.specs.Rounding.{Standing}
 use Rattle.saturation.specs.Running.{mostMoves, mostEntries, sizeRow, Given, ended, Ends}
@@ -165,7 +168,7 @@ module _ (file : List ℕ) (sound : caseRefusal file ≡ 0) where
     total-is h n q r = r ∙ ap (λ (x : Head). length (entriesOf x (edgeRecords file))) q
 
     -- there is room for the own tables
-    pub own-room : (inner entries moves : List ℕ) → 192 ≤ length inner → length entries ≡ e → length moves ≡ m → within (lent m e) (ownOf file) ≡ true → Room file inner entries moves
+    pub own-room : (inner entries moves : List ℕ) → 192 ≤ length inner → length entries ≡ e → length moves ≡ m → within (lent m e) (ownOf file) ≡ true → RoomForOwn file inner entries moves
     unfolding lent
     own-room inner entries moves ri le lm w =
         let k : KeepsLimits (lent m e) (ownOf file) = within-keeps (lent m e) (ownOf file) w in
@@ -186,7 +189,7 @@ module _ (file : List ℕ) (sound : caseRefusal file ≡ 0) where
       pub moves-number : z .moves ≡ length (ownOf file .moves)
       moves-number = sym (length-rowsIn moveRow (z .moves) moves) ∙ ap (λ (A : Automaton). length (A .moves)) own
 
-      states-number : z .states ≡ ownOf file .J
+      states-number : z .inner1 ≡ ownOf file .J
       states-number = ap (λ (A : Automaton). A .J) own
 
       inner-few : length (ownOf file .inner) ≤ 64
@@ -194,7 +197,7 @@ module _ (file : List ℕ) (sound : caseRefusal file ≡ 0) where
       inner-few =
           let xs : List EdgeBytes = edgeRecords file in
           let inside : EdgeBytes → Bool = λ x. not (ltb (x .state) (head file .P)) in
-          let edge : EdgeBytes → Edge = λ x. record { state = x .state; first = x .second; S = x .S } in
+          let edge : EdgeBytes → Edge = λ x. record { state = x .state; first = x .first; S = x .S } in
           let a : length (innerEdges (head file) xs) ≤ length (map edge (only inside xs)) = length-sorted choiceKey (map edge (only inside xs)) in
           let b : length (map edge (only inside xs)) ≡ length (only inside xs) = length-map (only inside xs) edge in
           let c : length (only inside xs) ≤ length xs = length-only inside xs in
@@ -222,7 +225,7 @@ module _ (file : List ℕ) (sound : caseRefusal file ≡ 0) where
           let ni : z .edges ≡ length (ownOf file .inner) = edges-number in
           let ne : z .entries ≡ length (ownOf file .entries) = entries-number in
           let nm : z .moves ≡ length (ownOf file .moves) = moves-number in
-          let ns : z .states ≡ ownOf file .J = states-number in
+          let ns : z .inner1 ≡ ownOf file .J = states-number in
           let few : length (ownOf file .inner) ≤ 64 = inner-few in
           let states : ownOf file .J + length (ownOf file .entries) ≤ 64 = case-states-few file sound in
           let most : length (ownOf file .moves) ≤ 1024 = case-moves-few file sound in
@@ -253,7 +256,7 @@ module _ (file : List ℕ) (sound : caseRefusal file ≡ 0) where
           }
         where
           limits-same : (z′ : Table) (entries′ moves′ : List ℕ) → length moves ≡ m → length entries ≡ e
-              → Standing z′ (mostMoves (length moves)) (mostEntries (length entries) (z .states)) inner entries′ moves′
+              → Standing z′ (mostMoves (length moves)) (mostEntries (length entries) (z .inner1)) inner entries′ moves′
               → Standing z′ (mostMoves m) (mostEntries e (ownOf file .J)) inner entries′ moves′
           limits-same z′ entries′ moves′ lm le s =
               subst₂ (λ (x y : ℕ). Standing z′ x y inner entries′ moves′) (ap mostMoves lm) (ap₂ mostEntries le states-number) s

@@ -13,7 +13,8 @@ use Rattle.files.specs.Bytes.{firstHit, testsOn}
 use Rattle.files.specs.Bytes.Laws.{numbered, firstHit-past, firstHit-stays, firstHit-testsOn, numbered-testsOn}
 use Rattle.files.specs.Case.{caseTests, caseRefusal, rulesOf, ownOf}
 use Rattle.replies.specs.declared.Saturation.{Saturation}
-use Rattle.services.specs.Memory.{zeros, padded, moveTable, entryTable, lent}
+use Rattle.services.specs.Memory.{padded, moveTable, entryTable, lent}
+use Rattle.words.specs.Lists.{zeros}
 use Rattle.services.specs.Saturate.{Lent, saturated, tooLarge, sizeTests, saturateRefusal, saturateRefused, saturateFilled, saturateAnswer, saturateService}
 use Rattle.tables.specs.declared.Table.{Table}
 use Rattle.tables.specs.Rows.{rowsIn}

@@ -6,13 +6,13 @@ use native.Mathlib.Omega.{arith}
 use borrow.Author.Tests.{not-true, not-false}
 use lib.ListN.{length}
 use Rattle.results.specs.Collecting.{rulesIn}
-use Rattle.saturation.specs.Running.{Runs}
+use Rattle.saturation.specs.Running.{RunsRounds}
 use Rattle.saturation.specs.Running.Laws.{runs-given, moves-small, row-left, runs-over, runs-end, runs-more, moves-rise, standing-limits, rounded-limits, pending-room}
 use Rattle.saturation.proofs.saturate_tables.Statement.{statement}
 use Rattle.saturation.proofs.saturate_tables.Tie as tie
 
 abbrev Inv-loop : tie.InvT-loop
-Inv-loop inner entries₀ moves₀ body count pending₀ sizes₀ most table₀ k₀ entries moves pending sizes table k = Runs (rulesIn count body) inner table₀ entries₀ moves₀ table k entries moves sizes × (length pending ≡ length pending₀) × (length sizes ≡ length sizes₀)
+Inv-loop inner entries₀ moves₀ body count pending₀ sizes₀ most table₀ k₀ entries moves pending sizes table k = RunsRounds (rulesIn count body) inner table₀ entries₀ moves₀ table k entries moves sizes × (length pending ≡ length pending₀) × (length sizes ≡ length sizes₀)
 
 abbrev μ-loop : tie.MeasureT-loop
 μ-loop inner entries₀ moves₀ body count pending₀ sizes₀ most table₀ k₀ entries moves pending sizes table k = 1025 - table .moves

@@ -15,7 +15,7 @@ use Rattle.automata.specs.Saturation.{entryNumber, withEntry, add, addAll}
 use Rattle.words.specs.Lists.Laws.{getElem?-some}
 use Rattle.automata.specs.Facts.Laws.{entries-grow}
 use Rattle.rounds.specs.Added.{addAll-extends}
-use Rattle.rounds.specs.Entries.{Placed, placed}
+use Rattle.rounds.specs.Entries.{EntryPlaced, placed}
 use Rattle.tables.specs.declared.Table.{Table}
 use Rattle.tables.specs.Rows.{rowAt, rowsIn, putRow}
 use Rattle.tables.specs.Rows.Laws.{length-rowsIn, getD-rowsIn, length-putRow, put-more}
@@ -35,9 +35,9 @@ record Known (p S : ℕ) (es : List Entry) (i : ℕ) : Type 0 where
 known : (p S : ℕ) (es : List Entry) (i : ℕ) → i ≡ entryNumber p S es → Known p S es i
 known p S es i q = go (placed p S es)
   where
-    go : Placed p S es → Known p S es i
-    go (Placed.new n w k) = let e : i ≡ length es = q ∙ k in record { within = omega arith; old = λ h. absurd (omega arith); new = λ h. w }
-    go (Placed.old w k) =
+    go : EntryPlaced p S es → Known p S es i
+    go (EntryPlaced.new n w k) = let e : i ≡ length es = q ∙ k in record { within = omega arith; old = λ h. absurd (omega arith); new = λ h. w }
+    go (EntryPlaced.old w k) =
         let b : entryNumber p S es < length es = getElem?-some es (entryNumber p S es) k .0 in
         record { within = omega arith; old = λ h. w; new = λ h. absurd (omega arith) }
 
@@ -93,11 +93,11 @@ module _ (t : List ℕ) (n most : ℕ) (e : Entry) (i : ℕ) (q : i ≡ entryNum
 
 -- the table with one move more, and so many entries
 abbrev pub grownTo : Table → ℕ → Table
-grownTo z n = record { states = z .states; final1 = z .final1; final2 = z .final2; edges = z .edges; entries = n; moves = z .moves + 1 }
+grownTo z n = record { inner1 = z .inner1; final1 = z .final1; final2 = z .final2; edges = z .edges; entries = n; moves = z .moves + 1 }
 
 -- the last move
 abbrev pub lastMove : Table → ℕ → Result → Move
-lastMove z i x = record { state = z .states + i; symbol = x .symbol; order = x .order; B = x .B; R = x .R }
+lastMove z i x = record { state = z .inner1 + i; symbol = x .symbol; order = x .order; B = x .B; R = x .R }
 
 module _ (z : Table) (most : ℕ) (entries moves : List ℕ) (x : Result) (i : ℕ) (entries′ : List ℕ)
     (h : Entered entries (z .entries) most (record { control = x .control; S = x .S }) i entries′) (few : z .entries ≤ most) where
@@ -128,7 +128,7 @@ module _ (z : Table) (most : ℕ) (entries moves : List ℕ) (x : Result) (i : �
     unfolding addAll add
     grown inner = λ k.
         record {
-          J = z .states;
+          J = z .inner1;
           final1 = z .final1;
           final2 = z .final2;
           inner = rowsIn edgeRow (z .edges) inner;
@@ -267,8 +267,8 @@ module _ (z : Table) (most : ℕ) (entries moves : List ℕ) (n : ℕ) (pending 
   still-growing g =
       let a : most * 2 ≤ length entries = g .entries-lent in
       let b : length e₁ ≡ length entries = h .grows .entries-long in
-      let c : z .states + most ≤ 64 = g .states-few in
-      let d : z₁ .states ≡ z .states = h .grows .same-states in
+      let c : z .inner1 + most ≤ 64 = g .states-few in
+      let d : z₁ .states ≡ z .inner1 = h .grows .same-states in
       record { entries-few = h .few; entries-lent = omega arith; states-few = omega arith }
 
   pub still-room : i < n → (z .moves + n) * 5 ≤ length moves → z₁ .moves * 5 + 5 ≤ length m₁
@@ -301,9 +301,3 @@ module _ (z : Table) (most : ℕ) (entries moves : List ℕ) (n : ℕ) (pending 
   rows-all b =
       let len : length (rowsIn resultRow n pending) ≡ n = length-rowsIn resultRow n pending in
       up-to-all z most entries moves (rowsIn resultRow n pending) i z₁ e₁ m₁ h (omega arith)
-
-  pub rows-within : i ≤ n
-  rows-within =
-      let len : length (rowsIn resultRow n pending) ≡ n = length-rowsIn resultRow n pending in
-      let w : i ≤ length (rowsIn resultRow n pending) = h .within in
-      omega arith

@@ -9,7 +9,7 @@ use mathlib.Core.List.{List, [], _∷_, _++_}
 use native.Mathlib.Nat.{min-le-left, min-le-right, le-min}
 use native.Mathlib.Omega.{arith}
 use lib.ListN.{length}
-use Rattle.words.specs.Lists.Laws.{by-test}
+use Rattle.words.specs.Tests.{by-test}
 use Rattle.stacks.specs.System.{Rule}
 use Rattle.automata.specs.Automaton.{Automaton}
 use Rattle.automata.specs.Saturation.{Size, sizeOf, within, round, saturate, saturateFrom}
@@ -24,7 +24,7 @@ use Rattle.tables.specs.Held.{automatonOf}
 use Rattle.results.specs.Collecting.{newResults}
 use Rattle.saturation.specs.Adding.{Grows}
 use Rattle.saturation.specs.Rounding.{Standing, Rounded, round-is}
-use Rattle.saturation.specs.Running.{mostMoves, mostEntries, theSize, sizeRow, Given, ended, Ends, Runs}
+use Rattle.saturation.specs.Running.{mostMoves, mostEntries, theSize, sizeRow, Given, ended, Ends, RunsRounds}
 
 -- ---- limits
 
@@ -54,15 +54,15 @@ module _ (m e J : ℕ) (small : J ≤ 64) (A : Automaton) (same : A .J ≡ J) wh
 -- ---- the loop
 
 module _ (rules : List Rule) (inner : List ℕ) (z : Table) (entries moves : List ℕ) where
-  pub runs-given : (sizes : List ℕ) → Given z inner entries moves → Runs rules inner z entries moves z 0 entries moves sizes
+  pub runs-given : (sizes : List ℕ) → Given z inner entries moves → RunsRounds rules inner z entries moves z 0 entries moves sizes
   unfolding saturate rowsIn firstOf mostMoves mostEntries
   runs-given sizes g =
       let a : z .entries * 2 ≤ length entries = g .entries-stand .entries-lent in
-      let b : z .states + z .entries ≤ 64 = g .entries-stand .states-few in
+      let b : z .inner1 + z .entries ≤ 64 = g .entries-stand .states-few in
       let c : z .moves * 5 ≤ length moves = g .moves-stand .moves-lent in
       let d : z .moves ≤ 1024 = g .moves-few in
-      let e : min (length entries / 2) (64 - z .states) ≤ length entries / 2 = min-le-left (length entries / 2) (64 - z .states) in
-      let f : min (length entries / 2) (64 - z .states) ≤ 64 - z .states = min-le-right (length entries / 2) (64 - z .states) in
+      let e : min (length entries / 2) (64 - z .inner1) ≤ length entries / 2 = min-le-left (length entries / 2) (64 - z .inner1) in
+      let f : min (length entries / 2) (64 - z .inner1) ≤ 64 - z .inner1 = min-le-right (length entries / 2) (64 - z .inner1) in
       let h : min (length moves / 5) 1024 ≤ length moves / 5 = min-le-left (length moves / 5) 1024 in
       record {
         standing = record {
@@ -80,7 +80,7 @@ module _ (rules : List Rule) (inner : List ℕ) (z : Table) (entries moves : Lis
         moves-long = refl;
       }
 
-  module _ (z₁ : Table) (k : ℕ) (e₁ m₁ sizes : List ℕ) (h : Runs rules inner z entries moves z₁ k e₁ m₁ sizes) where
+  module _ (z₁ : Table) (k : ℕ) (e₁ m₁ sizes : List ℕ) (h : RunsRounds rules inner z entries moves z₁ k e₁ m₁ sizes) where
     -- the table after k rounds
     abbrev now : Automaton
     now = automatonOf z₁ inner e₁ m₁
@@ -98,17 +98,17 @@ module _ (rules : List Rule) (inner : List ℕ) (z : Table) (entries moves : Lis
     pub row-left : k ≤ 1024
     row-left = let a : z₁ .moves ≤ 1024 = moves-small in let b : k ≤ z₁ .moves = h .count in omega arith
 
-    states-small : z .states ≤ 64
+    states-small : z .inner1 ≤ 64
     states-small =
-        let a : z₁ .states + mostEntries (length entries) (z .states) ≤ 64 = h .standing .growing .states-few in
-        let b : z₁ .states ≡ z .states = h .same-states in
+        let a : z₁ .states + mostEntries (length entries) (z .inner1) ≤ 64 = h .standing .growing .states-few in
+        let b : z₁ .states ≡ z .inner1 = h .same-states in
         omega arith
 
     now-within : within limit now ≡ true
     now-within =
-        fits-within (length moves) (length entries) (z .states) states-small now (h .same-states)
+        fits-within (length moves) (length entries) (z .inner1) states-small now (h .same-states)
         (subst (λ (n : ℕ). n ≤ mostMoves (length moves)) (sym (length-rowsIn moveRow (z₁ .moves) m₁)) (h .standing .moves-few))
-        (subst (λ (n : ℕ). n ≤ mostEntries (length entries) (z .states)) (sym (length-rowsIn entryRow (z₁ .entries) e₁)) (h .standing .growing .entries-few))
+        (subst (λ (n : ℕ). n ≤ mostEntries (length entries) (z .inner1)) (sym (length-rowsIn entryRow (z₁ .entries) e₁)) (h .standing .growing .entries-few))
 
     module _ (sizes′ : List ℕ) (room : 2050 ≤ length sizes) (put : sizes′ ≡ putRow sizeRow sizes k (theSize (z₁ .moves) (z₁ .entries))) where
       sizes-more : rowsIn sizeRow (k + 1) sizes′ ≡ rowsIn sizeRow k sizes ++ (sizeOf now ∷ [])
@@ -126,11 +126,11 @@ module _ (rules : List Rule) (inner : List ℕ) (z : Table) (entries moves : Lis
       from-here = h .left ∙ ap (λ (n : ℕ). saturateFrom rules limit n (rowsIn sizeRow k sizes) now) fuel
 
       module _ (fits : Bool) (z₂ : Table) (e₂ m₂ : List ℕ)
-          (r : Rounded rules inner z₁ (mostMoves (length moves)) (mostEntries (length entries) (z .states)) e₁ m₁ fits z₂ e₂ m₂) where
+          (r : Rounded rules inner z₁ (mostMoves (length moves)) (mostEntries (length entries) (z .inner1)) e₁ m₁ fits z₂ e₂ m₂) where
         abbrev next : Automaton
         next = round rules now
 
-        same-J : next .J ≡ z .states
+        same-J : next .J ≡ z .inner1
         same-J = round-extends rules now .same-J ∙ h .same-states
 
         -- ---- a limit is passed
@@ -140,14 +140,14 @@ module _ (rules : List Rule) (inner : List ℕ) (z : Table) (entries moves : Lis
         none-left zero l o = refl
         none-left (suc n) l o = saturateFrom-exceeds rules limit n l next o
 
-        over-differs : (mostMoves (length moves) < length (next .moves)) ⊎ (mostEntries (length entries) (z .states) < length (next .entries))
+        over-differs : (mostMoves (length moves) < length (next .moves)) ⊎ (mostEntries (length entries) (z .inner1) < length (next .entries))
             → length (next .moves) ≡ length (now .moves) → ⊥
         over-differs (inl l) e =
             let a : z₁ .moves ≤ mostMoves (length moves) = h .standing .moves-few in
             let b : length (now .moves) ≡ z₁ .moves = length-rowsIn moveRow (z₁ .moves) m₁ in
             omega arith
         over-differs (inr l) e =
-            let a : z₁ .entries ≤ mostEntries (length entries) (z .states) = h .standing .growing .entries-few in
+            let a : z₁ .entries ≤ mostEntries (length entries) (z .inner1) = h .standing .growing .entries-few in
             let b : length (now .entries) ≡ z₁ .entries = length-rowsIn entryRow (z₁ .entries) e₁ in
             let c : length (next .entries) ≡ length (now .entries) = ap (λ (A : Automaton). length (A .entries)) (still-same rules now e) in
             omega arith
@@ -155,8 +155,8 @@ module _ (rules : List Rule) (inner : List ℕ) (z : Table) (entries moves : Lis
         pub runs-over : fits ≡ false → Ends rules inner z entries moves false z₂ (k + 1) e₂ m₂ sizes′
         unfolding ended
         runs-over e =
-            let o : (mostMoves (length moves) < length (next .moves)) ⊎ (mostEntries (length entries) (z .states) < length (next .entries)) = r .over e in
-            let w : within limit next ≡ false = over-without (length moves) (length entries) (z .states) states-small next same-J o in
+            let o : (mostMoves (length moves) < length (next .moves)) ⊎ (mostEntries (length entries) (z .inner1) < length (next .entries)) = r .over e in
+            let w : within limit next ≡ false = over-without (length moves) (length entries) (z .inner1) states-small next same-J o in
             let b : k ≤ 1024 = row-left in
             record {
               saturated = from-here
@@ -198,7 +198,7 @@ module _ (rules : List Rule) (inner : List ℕ) (z : Table) (entries moves : Lis
                 few = omega arith;
               }
 
-          pub runs-more : (z₂ .moves ≡ z₁ .moves → ⊥) → Runs rules inner z entries moves z₂ (k + 1) e₂ m₂ sizes′
+          pub runs-more : (z₂ .moves ≡ z₁ .moves → ⊥) → RunsRounds rules inner z entries moves z₂ (k + 1) e₂ m₂ sizes′
           runs-more n =
               let more : z₂ .moves ≡ z₁ .moves + length (newResults rules now) = grown .moves-more in
               let b : k ≤ z₁ .moves = h .count in

@@ -8,11 +8,11 @@ use mathlib.Core.List.{List, [], _++_}
 use lib.ListN.{length}
 use lib.Dec.{eqb, leb}
 use borrow.Author.Tests.{eqb-true, eqb-false, ne-eqb, le-leb, lt-leb, leb-true, leb-false}
-use Rattle.words.specs.Lists.Laws.{by-test}
+use Rattle.words.specs.Tests.{by-test}
 use Rattle.words.specs.Options.{by-option}
 use Rattle.automata.specs.Saturation.{Saturated}
 use Rattle.replies.specs.declared.Halt.the-variants.{CellsShort}
-use Rattle.walks.specs.Guide.{Outcome, outcome, noOutcome, startWalk, guided}
+use Rattle.walks.specs.Guide.{Report, walkedBy, noRun, startWalk, guided}
 use Rattle.files.specs.Bytes.{Test, firstHit, testsOn}
 use Rattle.files.specs.Bytes.Laws.{firstHit-testsOn, firstHit-fails, firstHit-passes}
 use Rattle.files.specs.Case.{caseRefusal, rulesOf}
@@ -41,9 +41,9 @@ pub data GuideCase (x : GuideInput) : GuideDone → Type 0 where
       → GuideCase x (guideLeft x (refused 7))
   size-exceeded : caseRefusal (x .case) ≡ 0 → startRefusal (guideFiles x) ≡ 0 → x .number < length (startsOf (x .start)) → saturated (guideLent x) ≡ none
       → GuideCase x (guideLeft x (refused 9))
-  no-run : (T : Saturated) → Started x T → accepted (T .table) (x .start) (startNamed x) ≡ false → GuideCase x (guideLeft x noOutcome)
+  no-run : (T : Saturated) → Started x T → accepted (T .table) (x .start) (startNamed x) ≡ false → GuideCase x (guideLeft x noRun)
   cells-short : (T : Saturated) → Started x T → accepted (T .table) (x .start) (startNamed x) ≡ true → cellsLent x < length (cellsOf (x .start))
-      → GuideCase x (guideLeft x (outcome (CellsShort (record { steps = 0; cells = 0 })) []))
+      → GuideCase x (guideLeft x (walkedBy (CellsShort (record { steps = 0; cells = 0 })) []))
   walked : (T : Saturated) → Started x T → accepted (T .table) (x .start) (startNamed x) ≡ true → length (cellsOf (x .start)) ≤ cellsLent x
       → GuideCase x (guideLeft x (guided (rulesOf (x .case)) T (cellsLent x) (x .trace) []
       (startWalk (T .table) (cellsOf (x .start)) (startNamed x .control) (startNamed x .root))))
@@ -85,7 +85,7 @@ module _ (x : GuideInput) where
       ∙ firstHit-testsOn guideLent sizeTests x
 
   -- what the run gives for the table
-  run-no : (T : Saturated) → accepted (T .table) (x .start) (startNamed x) ≡ false → guideRun x T ≡ noOutcome
+  run-no : (T : Saturated) → accepted (T .table) (x .start) (startNamed x) ≡ false → guideRun x T ≡ noRun
   unfolding guideRun
   run-no T e = rw (guideRun, e)
 
@@ -93,7 +93,7 @@ module _ (x : GuideInput) where
   unfolding guideRun
   run-walk T e = rw (guideRun, e)
 
-  pub walk-short : (T : Saturated) → cellsLent x < length (cellsOf (x .start)) → guideWalk x T ≡ outcome (CellsShort (record { steps = 0; cells = 0 })) []
+  pub walk-short : (T : Saturated) → cellsLent x < length (cellsOf (x .start)) → guideWalk x T ≡ walkedBy (CellsShort (record { steps = 0; cells = 0 })) []
   unfolding guideWalk
   walk-short T l = rw (guideWalk, lt-leb _ _ l)
 
@@ -108,9 +108,9 @@ module _ (x : GuideInput) where
       by-test (accepted (T .table) (x .start) (startNamed x))
       (λ a.
       by-test (leb (length (cellsOf (x .start))) (cellsLent x))
-      (λ l. let h = leb-true _ _ l in subst (λ (o : Outcome). GuideCase x (guideLeft x o)) (sym (run-walk T a ∙ walk-goes T h)) (walked T s a h))
-      (λ l. let h = leb-false _ _ l in subst (λ (o : Outcome). GuideCase x (guideLeft x o)) (sym (run-walk T a ∙ walk-short T h)) (cells-short T s a h)))
-      (λ a. subst (λ (o : Outcome). GuideCase x (guideLeft x o)) (sym (run-no T a)) (no-run T s a))
+      (λ l. let h = leb-true _ _ l in subst (λ (o : Report). GuideCase x (guideLeft x o)) (sym (run-walk T a ∙ walk-goes T h)) (walked T s a h))
+      (λ l. let h = leb-false _ _ l in subst (λ (o : Report). GuideCase x (guideLeft x o)) (sym (run-walk T a ∙ walk-short T h)) (cells-short T s a h)))
+      (λ a. subst (λ (o : Report). GuideCase x (guideLeft x o)) (sym (run-no T a)) (no-run T s a))
 
   sized : caseRefusal (x .case) ≡ 0 → startRefusal (guideFiles x) ≡ 0 → x .number < length (startsOf (x .start)) → GuideCase x (guideService x)
   sized sound s h =

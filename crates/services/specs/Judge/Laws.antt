@@ -9,7 +9,7 @@ use lib.ListN.{length}
 use lib.Dec.{eqb, ltb}
 use borrow.Author.Tests.{eqb-true, eqb-false, ne-eqb, lt-ltb, le-ltb, ltb-true, ltb-false}
 use Rattle.words.specs.Lists.{every}
-use Rattle.words.specs.Lists.Laws.{by-test}
+use Rattle.words.specs.Tests.{by-test}
 use Rattle.words.specs.Options.{by-option}
 use Rattle.automata.specs.Saturation.{Saturated}
 use Rattle.files.specs.Bytes.{Test, firstHit, testsOn}

@@ -8,7 +8,7 @@ use mathlib.Core.List.{List, [], _++_}
 use lib.Dec.{eqb}
 use borrow.Author.Tests.{eqb-true, eqb-false, ne-eqb}
 use Rattle.words.specs.Lists.{every}
-use Rattle.words.specs.Lists.Laws.{by-test}
+use Rattle.words.specs.Tests.{by-test}
 use Rattle.words.specs.Options.{by-option}
 use Rattle.automata.specs.Saturation.{Saturated}
 use Rattle.files.specs.Bytes.{Test, firstHit, testsOn}

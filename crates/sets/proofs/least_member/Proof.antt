@@ -4,7 +4,8 @@ use mathlib.Core.Path.{sym}
 use native.Mathlib.Nat.{mul-one}
 use native.Mathlib.Omega.{arith}
 use borrow.Author.Needs.{needs}
-use Rattle.sets.specs.Halving.{Halved, halved-more, bit-below, least-found}
+use Rattle.sets.specs.Halving.{Halved}
+use Rattle.sets.specs.Halving.Laws.{halved-more, bit-below, least-found}
 use Rattle.sets.proofs.least_member.Statement.{statement}
 use Rattle.sets.proofs.least_member.Tie as tie
 

@@ -13,8 +13,8 @@ use Rattle.tables.specs.Held.{automatonOf}
 use Rattle.saturation.specs.Running.{sizeRow, ended}
 use Rattle.saturation.specs.Rounding.{standing-entries, standing-moves}
 use Rattle.saturate.specs.Case.{CaseSaturated}
-use Rattle.acceptance.specs.Named.{Stands}
-use Rattle.acceptance.specs.Table.{stands, table-small}
+use Rattle.acceptance.specs.Named.{TablesNamed}
+use Rattle.acceptance.specs.Table.Laws.{stands, table-small}
 use Rattle.sound_files.specs.Saturated.{lentOf}
 
 module _ {case : List ℕ} {m e : ℕ} {fits : Bool} {z : Table} {k : ℕ} {inner entries moves sizes : List ℕ}
@@ -28,7 +28,7 @@ module _ {case : List ℕ} {m e : ℕ} {fits : Bool} {z : Table} {k : ℕ} {inne
   unfolding saturated ended
   table-none f = C .saturated ∙ ap (λ (b : Bool). ended b (automatonOf z inner entries moves) (rowsIn sizeRow k sizes)) f
 
-  pub table-stands : caseRefusal case ≡ 0 → fits ≡ true → Stands z inner entries moves
+  pub table-stands : caseRefusal case ≡ 0 → fits ≡ true → TablesNamed z inner entries moves
   table-stands sound f =
       let s = C .standing f in
       stands (table-small (lentOf case m e) sound (table-there f)) (record {

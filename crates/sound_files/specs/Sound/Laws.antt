@@ -16,7 +16,8 @@ use Rattle.files.specs.Case.{head}
 use Rattle.files.specs.Case.Laws.{case-head}
 use Rattle.files.specs.Start.{Files, Start, startBodies, startTests, startRefusal, startOf, startsOf, cellBytes, cellOf, cellRecords, cellsOf}
 use Rattle.files.specs.Start.Laws.{start-places, start-facts, start-cells}
-use Rattle.bytes_in.specs.Records.{recordAt, bodyOf, body-records, body-fits}
+use Rattle.bytes_in.specs.Records.{recordAt, bodyOf}
+use Rattle.bytes_in.specs.Records.Laws.{body-records, body-fits}
 use Rattle.start_file.specs.Checks.{filesOf}
 use Rattle.sound_files.specs.Starts.{StartsStand}
 use Rattle.sound_files.specs.Starts.Laws.{start-stands}

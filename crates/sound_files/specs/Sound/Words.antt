@@ -10,8 +10,10 @@ use Rattle.automata.specs.Automaton.{Automaton}
 use Rattle.files.specs.Bytes.{countOf}
 use Rattle.files.specs.Start.{Start, startOf, startsOf, cellsOf}
 use Rattle.services.specs.Judge.{accepted}
-use Rattle.bytes_in.specs.Records.{bodyOf, body-records}
-use Rattle.acceptance.specs.Cells.{cellWords, length-cellWords}
+use Rattle.bytes_in.specs.Records.{bodyOf}
+use Rattle.bytes_in.specs.Records.Laws.{body-records}
+use Rattle.acceptance.specs.Cells.{cellWords}
+use Rattle.acceptance.specs.Cells.Laws.{length-cellWords}
 use Rattle.acceptance.specs.Cells.Body.{cellsIn}
 use Rattle.acceptance.specs.Starts.{cells-body, start-accepted}
 use Rattle.sound_files.specs.Starts.{startsIn}

@@ -12,7 +12,8 @@ use borrow.Author.Tests.{eqb-true, eq-eqb}
 use Rattle.stacks.specs.Stack.{Stack1, nil1, cons1, Stack2, nil2, cons2, Annotation, of1, of2}
 use Rattle.stacks.specs.Stack.{Operation, rewrite, push1, push2, copy, pop1, pop2, collapse1, collapse2, after}
 use Rattle.stacks.specs.System.{Configuration, Rule, entered, stepOn, step, Run, stay, go}
-use Rattle.stacks.specs.Published.{Character, _annotated_, top₁, top₂, _:₁_, Published, pop₁, pop₂, push₂, collapse₁, collapse₂, push¹, push², rew}
+use Rattle.stacks.specs.Published.{Character, _annotated_, top₁, top₂, Published, pop₁, pop₂, push₂, collapse₁, collapse₂, push¹, push², rew}
+use Rattle.stacks.specs.Published.{_:₁_}
 use Rattle.stacks.specs.Published.{Performs, pops₁, pops₂, pushes₂, collapses₁, collapses₂, pushes¹, pushes², rewrites}
 use Rattle.stacks.specs.Published.{Transition, Transitions, nothing, and-then, published, publishedRule}
 

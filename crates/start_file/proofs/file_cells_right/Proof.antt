@@ -6,7 +6,7 @@ use mathlib.Core.List.{List, map}
 use native.Mathlib.Omega.{arith}
 use Rattle.files.specs.Start.{cellBytes, cellRecords, cellsRight}
 use Rattle.files.specs.Start.Laws.{StartPlaces, start-places}
-use Rattle.bytes_in.specs.Records.{body-fits, records-here}
+use Rattle.bytes_in.specs.Records.Laws.{body-fits, records-here}
 use borrow.Author.Needs.{needs}
 use Rattle.start_file.proofs.file_cells_right.Statement.{statement}
 use Rattle.start_file.proofs.file_cells_right.Tie as tie

@@ -7,7 +7,7 @@ use native.Mathlib.Omega.{arith}
 use Rattle.words.specs.Lists.{every}
 use Rattle.files.specs.Start.{startOf, startsOf, cellBytes, cellRecords, startRight}
 use Rattle.files.specs.Start.Laws.{StartPlaces, start-places}
-use Rattle.bytes_in.specs.Records.{body-fits, records-here}
+use Rattle.bytes_in.specs.Records.Laws.{body-fits, records-here}
 use borrow.Author.Needs.{needs}
 use Rattle.start_file.proofs.file_starts_right.Statement.{statement}
 use Rattle.start_file.proofs.file_starts_right.Tie as tie

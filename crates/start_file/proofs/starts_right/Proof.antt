@@ -9,7 +9,7 @@ use borrow.Author.Tests.{not-true, not-false}
 use Rattle.words.specs.Lists.{every}
 use Rattle.files.specs.Bytes.{records}
 use Rattle.files.specs.Start.{startOf, cellBytes, startRight}
-use Rattle.bytes_in.specs.Records.{every-none, every-more, every-not}
+use Rattle.bytes_in.specs.Records.Laws.{every-none, every-more, every-not}
 use borrow.Author.Needs.{needs}
 use Rattle.start_file.proofs.starts_right.Statement.{statement}
 use Rattle.start_file.proofs.starts_right.Tie as tie

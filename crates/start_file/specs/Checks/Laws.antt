@@ -6,11 +6,12 @@ use mathlib.Core.Path.{_≡_, refl, ap, sym, _∙_}
 use mathlib.Core.List.{List, _∷_, map}
 use native.Mathlib.Numerals.{add-one}
 use Rattle.words.specs.Lists.{every}
-use Rattle.words.specs.Lists.Laws.{by-test}
+use Rattle.words.specs.Tests.{by-test}
 use Rattle.files.specs.Bytes.{placed, firstHit, records}
 use Rattle.files.specs.Case.{Head, head}
 use Rattle.files.specs.Start.{startBodies, CellBytes, cellBytes, startsOf, cellRecords, startRight, cellRight, cellsRight, startFileRight, startTests, startRefusal}
-use Rattle.bytes_in.specs.Records.{recordAt, recordsFrom, from-first, from-last, from-cons}
+use Rattle.bytes_in.specs.Records.{recordAt}
+use Rattle.bytes_in.specs.Records.Laws.{from-first, from-last, from-cons}
 use Rattle.start_file.specs.Checks.{filesOf, CellsFrom, refusalBy, refusalFor}
 
 -- ---- the loop over the cells

@@ -38,11 +38,11 @@ module _ (z : Table) (inner entries : List ℕ) where
   edge-inner n h =
       let len : length (rowsIn edgeRow (z .edges) inner) ≡ z .edges = length-rowsIn edgeRow (z .edges) inner in
       sym
-      (List·getD-append (rowsIn edgeRow (z .edges) inner) (entryEdges (z .states) (rowsIn entryRow (z .entries) entries)) noEdge n (omega arith)
+      (List·getD-append (rowsIn edgeRow (z .edges) inner) (entryEdges (z .inner1) (rowsIn entryRow (z .entries) entries)) noEdge n (omega arith)
       ∙ getD-rowsIn edgeRow (z .edges) inner n noEdge h)
 
   pub edge-entry : (n : ℕ) (e : Entry) → z .edges ≤ n → n < z .edges + z .entries → e ≡ rowAt entryRow entries (n - z .edges)
-      → record { state = e .control; first = z .states + (n - z .edges); S = e .S } ≡ getD (edgesIn z inner entries) n noEdge
+      → record { state = e .control; first = z .inner1 + (n - z .edges); S = e .S } ≡ getD (edgesIn z inner entries) n noEdge
   edge-entry n e h l q =
       let inside : List Edge = rowsIn edgeRow (z .edges) inner in
       let es : List Entry = rowsIn entryRow (z .entries) entries in
@@ -53,31 +53,31 @@ module _ (z : Table) (inner entries : List ℕ) where
       let is : getD es k noEntry ≡ e = getD-rowsIn entryRow (z .entries) entries k noEntry (omega arith) ∙ sym q in
       sym
       (ap (λ (i : ℕ). getD (edgesIn z inner entries) i noEdge) at
-      ∙ getD-append-add inside (entryEdges (z .states) es) k noEdge
-      ∙ getD-entryEdges (z .states) es k (omega arith)
-      ∙ ap (λ (x : Entry). record { state = x .control; first = z .states + k; S = x .S }) is)
+      ∙ getD-append-add inside (entryEdges (z .inner1) es) k noEdge
+      ∙ getD-entryEdges (z .inner1) es k (omega arith)
+      ∙ ap (λ (x : Entry). record { state = x .control; first = z .inner1 + k; S = x .S }) is)
 
 -- ---- the entry that an order-1 state is
 
 module _ (z : Table) (entries moves : List ℕ) (r : ℕ) where
-  pub entryAt-inner : r < z .states → entryAt (tableOf z entries moves) r ≡ Option.none
+  pub entryAt-inner : r < z .inner1 → entryAt (tableOf z entries moves) r ≡ Option.none
   unfolding entryAt
-  entryAt-inner h = rw (entryAt, lt-leb (z .states) r h)
+  entryAt-inner h = rw (entryAt, lt-leb (z .inner1) r h)
 
-  pub entryAt-past : z .states ≤ r → z .entries ≤ r - z .states → entryAt (tableOf z entries moves) r ≡ Option.none
+  pub entryAt-past : z .inner1 ≤ r → z .entries ≤ r - z .inner1 → entryAt (tableOf z entries moves) r ≡ Option.none
   unfolding entryAt
   entryAt-past h l =
       let len : length (rowsIn entryRow (z .entries) entries) ≡ z .entries = length-rowsIn entryRow (z .entries) entries in
-      rw (entryAt, le-leb (z .states) r h) (getElem?-past (rowsIn entryRow (z .entries) entries) (r - z .states) (omega arith))
+      rw (entryAt, le-leb (z .inner1) r h) (getElem?-past (rowsIn entryRow (z .entries) entries) (r - z .inner1) (omega arith))
 
-  pub entryAt-there : (e : Entry) → z .states ≤ r → r - z .states < z .entries → e ≡ rowAt entryRow entries (r - z .states)
+  pub entryAt-there : (e : Entry) → z .inner1 ≤ r → r - z .inner1 < z .entries → e ≡ rowAt entryRow entries (r - z .inner1)
       → entryAt (tableOf z entries moves) r ≡ some e
   unfolding entryAt
   entryAt-there e h l q =
       let len : length (rowsIn entryRow (z .entries) entries) ≡ z .entries = length-rowsIn entryRow (z .entries) entries in
-      rw (entryAt, le-leb (z .states) r h)
-      (getElem?-below (rowsIn entryRow (z .entries) entries) (r - z .states) noEntry (omega arith)
-      ∙ ap some (getD-rowsIn entryRow (z .entries) entries (r - z .states) noEntry l ∙ sym q))
+      rw (entryAt, le-leb (z .inner1) r h)
+      (getElem?-below (rowsIn entryRow (z .entries) entries) (r - z .inner1) noEntry (omega arith)
+      ∙ ap some (getD-rowsIn entryRow (z .entries) entries (r - z .inner1) noEntry l ∙ sym q))
 
 module _ (A : Automaton) (r : ℕ) where
   pub none-of : (p : ℕ) → entryAt A r ≡ Option.none → entryOf A p r ≡ false

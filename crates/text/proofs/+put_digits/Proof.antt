@@ -2,7 +2,7 @@
 -- Assumes nothing.
 use mathlib.Core.Path.{sym}
 use native.Mathlib.Omega.{arith}
-use Rattle.text.specs.Written.{written-then, written-same}
+use Rattle.text.specs.Written.Laws.{written-then, written-same}
 use Rattle.text.specs.Decimal.{decimal-one, decimal-more, length-one, length-more}
 use borrow.Author.Needs.{needs}
 use Prim.Native.Nat.{ℕ, _<_}

@@ -3,7 +3,7 @@
 use mathlib.Core.Path.{ap, sym}
 use native.Mathlib.Omega.{arith}
 use Rattle.services.specs.Listing.{ascii, haltText}
-use Rattle.text.specs.Written.{written-then, written-same}
+use Rattle.text.specs.Written.Laws.{written-then, written-same}
 use borrow.Author.Needs.{needs}
 use Rattle.text.proofs.put_halt.Statement.{statement}
 use Rattle.text.proofs.put_halt.Tie as tie

@@ -2,7 +2,7 @@
 -- Assumes nothing.
 use native.Mathlib.Omega.{arith}
 use Rattle.services.specs.Listing.{ascii}
-use Rattle.text.specs.Written.{written-then}
+use Rattle.text.specs.Written.Laws.{written-then}
 use Rattle.text.specs.Decimal.{decimal-length}
 use Rattle.text.specs.Lines.{replyLine}
 use borrow.Author.Needs.{needs}

@@ -2,7 +2,8 @@
 -- Assumes nothing.
 use Prim.Native.Nat.{_-_}
 use lib.ListN.{length}
-use Rattle.text.specs.Written.{Copied, copied-none, copied-more, copied-all}
+use Rattle.text.specs.Written.{Copied}
+use Rattle.text.specs.Written.Laws.{copied-none, copied-more, copied-all}
 use borrow.Author.Needs.{needs}
 use Rattle.text.proofs.put_text.Statement.{statement}
 use Rattle.text.proofs.put_text.Tie as tie

@@ -10,10 +10,10 @@ use lib.ListN.{length, getD, take}
 use Rattle.stacks.specs.Stack.{Stack1, nil1, cons1, Stack2, nil2, cons2, Annotation, of1, of2, after, newCells}
 use Rattle.stacks.specs.Stack.{Operation, rewrite, push1, push2, copy, pop1, pop2, collapse1, collapse2}
 use Rattle.walks.specs.Cell.{Cell, empty1, symbol, empty2, above, order1, order2, stackAt, stackOf, stacksFrom, stacks, cellsAfter, rootAfter}
-use Rattle.walks.specs.Cell.Formed.{cellOrder, cellAt, orderAt, Formed, TopFormed}
-pub use Rattle.walks.specs.Cell.Values.{pass, pass-append, length-pass, pass-kept, pass-extends, pass-at}
-use Rattle.walks.specs.Cell.Values.{pass-same, Valuation, valueAt, valueBy, valueOf, values, length-values, values-extend, value-kept, value-before, value-at}
-use Rattle.walks.specs.Cell.Values.{Stands, makeFrom, rootValue, root-stands}
+use Rattle.walks.specs.Cell.Formed.{cellOrder, cellAt, orderAt, Formed}
+use Rattle.walks.specs.Cell.Values.{pass}
+use Rattle.walks.specs.Cell.Values.{pass-same, Valuation, valueAt, valueBy, valueOf, values, length-values, value-kept, value-before, value-at}
+use Rattle.walks.specs.Cell.Values.{HasValue, makeFrom, rootValue, root-stands}
 
 -- ---- the stacks of cells are values of cells
 
@@ -60,18 +60,6 @@ map-same {A} (x ∷ xs) = ap (λ (l : List A). x ∷ l) (map-same xs)
 pub length-stacks : (cells : List Cell) → length (stacks cells) ≡ length cells
 length-stacks cells = ap length (stacks-values cells) ∙ length-values stackKind cells
 
-pub stacks-append : (cells more : List Cell) → stacks (cells ++ more) ≡ stacksFrom (stacks cells) more
-unfolding stacks
-stacks-append cells more =
-    stacksFrom-pass [] (cells ++ more) ∙ pass-append stackOf [] cells more
-    ∙ ap (λ (us : List Annotation). pass stackOf us more) (sym (stacksFrom-pass [] cells)) ∙ sym (stacksFrom-pass (stacks cells) more)
-
--- adding cells changes no earlier one
-pub stacks-extend : (cells more : List Cell) → (us : List Annotation) × (stacks (cells ++ more) ≡ stacks cells ++ us)
-stacks-extend cells more =
-    let r = values-extend stackKind cells more in
-    (r .0, stacks-values (cells ++ more) ∙ r .1 ∙ ap (λ (us : List Annotation). us ++ r .0) (sym (stacks-values cells)))
-
 pub stack-kept : (cells more : List Cell) (n : ℕ) → n < length cells → stackAt (stacks (cells ++ more)) n ≡ stackAt (stacks cells) n
 stack-kept cells more n h = stack-value (cells ++ more) n ∙ value-kept stackKind cells more n h ∙ sym (stack-value cells n)
 
@@ -91,31 +79,31 @@ stack-at {cells} x n h =
 -- ---- orders
 
 -- the order of a stack
-unfoldable pub noteOrder : Annotation → ℕ
-noteOrder (of1 s) = 1
-noteOrder (of2 t) = 2
+unfoldable pub annotationOrder : Annotation → ℕ
+annotationOrder (of1 s) = 1
+annotationOrder (of2 t) = 2
 
-pub note-of1 : (v : Annotation) → noteOrder v ≡ 1 → v ≡ of1 (order1 v)
-unfolding noteOrder order1
-note-of1 (of1 s) e = refl
-note-of1 (of2 t) e = absurd (omega arith)
+pub annotation-of1 : (v : Annotation) → annotationOrder v ≡ 1 → v ≡ of1 (order1 v)
+unfolding annotationOrder order1
+annotation-of1 (of1 s) e = refl
+annotation-of1 (of2 t) e = absurd (omega arith)
 
-pub note-of2 : (v : Annotation) → noteOrder v ≡ 2 → v ≡ of2 (order2 v)
-unfolding noteOrder order2
-note-of2 (of1 s) e = absurd (omega arith)
-note-of2 (of2 t) e = refl
+pub annotation-of2 : (v : Annotation) → annotationOrder v ≡ 2 → v ≡ of2 (order2 v)
+unfolding annotationOrder order2
+annotation-of2 (of1 s) e = absurd (omega arith)
+annotation-of2 (of2 t) e = refl
 
 -- the stack of a cell has the cell's order
-pub stackOf-order : (us : List Annotation) (c : Cell) → noteOrder (stackOf us c) ≡ cellOrder c
-unfolding noteOrder stackOf cellOrder
+pub stackOf-order : (us : List Annotation) (c : Cell) → annotationOrder (stackOf us c) ≡ cellOrder c
+unfolding annotationOrder stackOf cellOrder
 stackOf-order us empty1 = refl
 stackOf-order us (symbol a u s) = refl
 stackOf-order us empty2 = refl
 stackOf-order us (above w t) = refl
 
-pub stack-order : (cells : List Cell) (n : ℕ) → n < length cells → noteOrder (stackAt (stacks cells) n) ≡ orderAt cells n
+pub stack-order : (cells : List Cell) (n : ℕ) → n < length cells → annotationOrder (stackAt (stacks cells) n) ≡ orderAt cells n
 unfolding orderAt
-stack-order cells n h = ap noteOrder (stack-before cells n h) ∙ stackOf-order (take n (stacks cells)) (cellAt cells n)
+stack-order cells n h = ap annotationOrder (stack-before cells n h) ∙ stackOf-order (take n (stacks cells)) (cellAt cells n)
 
 -- ---- the new cells of an operation
 
@@ -156,18 +144,8 @@ pub root-after : (op : Operation) (a : ℕ) (cells : List Cell) {u s t : ℕ} (U
     → stackAt (stacks cells) u ≡ U → stackAt (stacks cells) s ≡ of1 S → stackAt (stacks cells) t ≡ of2 T → after op a U S T ≡ some w
     → stackAt (stacks (cells ++ cellsAfter op (length cells) a u s t)) (rootAfter op (length cells) u t) ≡ of2 w
 root-after op a cells {u} {s} {t} U {S} {T} hu hs ht eu es et e =
-    let stands : (n : ℕ) (v : Annotation) → n < length cells → stackAt (stacks cells) n ≡ v → Stands stackKind cells n v =
+    let stands : (n : ℕ) (v : Annotation) → n < length cells → stackAt (stacks cells) n ≡ v → HasValue stackKind cells n v =
     λ n v h q. record { exists = h; is = sym (stack-value cells n) ∙ q } in
     let r = root-stands stackKind (λ i. tt) a (stands u U hu eu) (stands s (of1 S) hs es) (stands t (of2 T) ht et) op in
     stack-value (cells ++ cellsAfter op (length cells) a u s t) (rootAfter op (length cells) u t)
     ∙ (rw (makeFrom-same 0 (λ i. tt) (cellsAfter op (length cells) a u s t)) at (r .is)) ∙ after-value op a U S T e
-
--- "An applied rule leaves .. the stack in its operation's line."
-pub root-stack : (op : Operation) (a : ℕ) {cells : List Cell} {u s t : ℕ} {w : Stack2} → TopFormed cells u s t
-    → after op a (stackAt (stacks cells) u) (order1 (stackAt (stacks cells) s)) (order2 (stackAt (stacks cells) t)) ≡ some w
-    → order2 (stackAt (stacks (cells ++ cellsAfter op (length cells) a u s t)) (rootAfter op (length cells) u t)) ≡ w
-unfolding order2
-root-stack op a {cells} {u} {s} {t} x e = ap order2
-    (root-after op a cells (stackAt (stacks cells) u) (x .u-exists) (x .s-exists) (x .t-exists) refl
-    (note-of1 (stackAt (stacks cells) s) (stack-order cells s (x .s-exists) ∙ x .s-order))
-    (note-of2 (stackAt (stacks cells) t) (stack-order cells t (x .t-exists) ∙ x .t-order)) e)

@@ -33,14 +33,6 @@ module _ {A B : Type 0} (f : List B → A → B) where
       let q : length (xs ++ (f xs c ∷ [])) ≡ length xs + 1 = length-append xs (f xs c ∷ []) in
       omega arith
 
-  -- adding elements changes no earlier value
-  pub pass-kept : (xs : List B) (cs : List A) (d : B) (n : ℕ) → n < length xs → getD (pass xs cs) n d ≡ getD xs n d
-  unfolding pass
-  pass-kept xs [] d n h = refl
-  pass-kept xs (c ∷ cs) d n h =
-      let q : length (xs ++ (f xs c ∷ [])) ≡ length xs + 1 = length-append xs (f xs c ∷ []) in
-      pass-kept (xs ++ (f xs c ∷ [])) cs d n (omega arith) ∙ List·getD-append xs (f xs c ∷ []) d n h
-
   pub pass-extends : (xs : List B) (cs : List A) → (ys : List B) × (pass xs cs ≡ xs ++ ys)
   unfolding pass
   pass-extends xs [] = ([], sym (append-nil xs))
@@ -149,17 +141,17 @@ module _ {C F X : Type 0} (K : Valuation C F X) where
   -- ---- the new cells of an operation
 
   -- cell n has the value v
-  pub record Stands (cs : List C) (n : ℕ) (v : X) : Type 0 where
+  pub record HasValue (cs : List C) (n : ℕ) (v : X) : Type 0 where
     pub exists : n < length cs
     pub is : valueAt (values cs) n ≡ v
 
-  pub stands-kept : {cs : List C} {n : ℕ} {v : X} (more : List C) → Stands cs n v → Stands (cs ++ more) n v
+  pub stands-kept : {cs : List C} {n : ℕ} {v : X} (more : List C) → HasValue cs n v → HasValue (cs ++ more) n v
   stands-kept {cs} {n} more x =
       let l : length (cs ++ more) ≡ length cs + length more = length-append cs more in
       let h = x .exists in
       record { exists = omega arith; is = value-kept cs more n h ∙ x .is }
 
-  pub stands-new : (cs : List C) (c : Cell) (f : F) {n : ℕ} → length cs ≡ n → Stands (cs ++ K .make c f ∷ []) n (valueBy (values cs) c f)
+  pub stands-new : (cs : List C) (c : Cell) (f : F) {n : ℕ} → length cs ≡ n → HasValue (cs ++ K .make c f ∷ []) n (valueBy (values cs) c f)
   unfolding valueAt pass
   stands-new cs c f {n} e =
       let l : length (cs ++ K .make c f ∷ []) ≡ length cs + 1 = length-append cs (K .make c f ∷ []) in
@@ -169,23 +161,23 @@ module _ {C F X : Type 0} (K : Valuation C F X) where
             (getD-at (values cs) (valueOf (values cs) (K .make c f)) [] (K .none1) n (length-values cs ∙ e) ∙ valueOf-make (values cs) c f);
       }
 
-  pub stands-symbol : {cs : List C} {u s n : ℕ} {U S : X} (f : F) (a : ℕ) → Stands cs u U → Stands cs s S → length cs ≡ n
-      → Stands (cs ++ K .make (symbol a u s) f ∷ []) n (K .symbolBy f a U S)
+  pub stands-symbol : {cs : List C} {u s n : ℕ} {U S : X} (f : F) (a : ℕ) → HasValue cs u U → HasValue cs s S → length cs ≡ n
+      → HasValue (cs ++ K .make (symbol a u s) f ∷ []) n (K .symbolBy f a U S)
   unfolding valueBy
   stands-symbol {cs} {u} {s} f a x y e =
       let r = stands-new cs (symbol a u s) f e in
       record { exists = r .exists; is = r .is ∙ ap₂ (K .symbolBy f a) (x .is) (y .is) }
 
-  pub stands-above : {cs : List C} {w t n : ℕ} {W T : X} (f : F) → Stands cs w W → Stands cs t T → length cs ≡ n
-      → Stands (cs ++ K .make (above w t) f ∷ []) n (K .aboveBy f W T)
+  pub stands-above : {cs : List C} {w t n : ℕ} {W T : X} (f : F) → HasValue cs w W → HasValue cs t T → length cs ≡ n
+      → HasValue (cs ++ K .make (above w t) f ∷ []) n (K .aboveBy f W T)
   unfolding valueBy
   stands-above {cs} {w} {t} f x y e =
       let r = stands-new cs (above w t) f e in
       record { exists = r .exists; is = r .is ∙ ap₂ (K .aboveBy f) (x .is) (y .is) }
 
   -- cells added one after another
-  stands-then : (cs : List C) (c : C) (more : List C) {n : ℕ} {v : X} → Stands (cs ++ c ∷ [] ++ more) n v → Stands (cs ++ c ∷ more) n v
-  stands-then cs c more {n} {v} x = subst (λ (l : List C). Stands l n v) (append-assoc cs (c ∷ []) more) x
+  stands-then : (cs : List C) (c : C) (more : List C) {n : ℕ} {v : X} → HasValue (cs ++ c ∷ [] ++ more) n v → HasValue (cs ++ c ∷ more) n v
+  stands-then cs c more {n} {v} x = subst (λ (l : List C). HasValue l n v) (append-assoc cs (c ∷ []) more) x
 
   length-more : (cs : List C) (c : C) → length (cs ++ c ∷ []) ≡ length cs + 1
   length-more cs c = length-append cs (c ∷ [])
@@ -206,10 +198,10 @@ module _ {C F X : Type 0} (K : Valuation C F X) where
   rootValue collapse1 f a U S T = K .aboveBy (f 0) U T
   rootValue collapse2 f a U S T = U
 
-  module _ (f : ℕ → F) (a : ℕ) {cs : List C} {u s t : ℕ} {U S T : X} (x : Stands cs u U) (y : Stands cs s S) (z : Stands cs t T) where
+  module _ (f : ℕ → F) (a : ℕ) {cs : List C} {u s t : ℕ} {U S T : X} (x : HasValue cs u U) (y : HasValue cs s S) (z : HasValue cs t T) where
     -- a push: b annotated by cell v, then a annotated u, then s
-    push-stands : (b : ℕ) {v : ℕ} {N : X} → Stands cs v N
-        → Stands (cs ++ K .make (symbol a u s) (f 0) ∷ K .make (symbol b v (length cs)) (f 1) ∷ K .make (above (length cs + 1) t) (f 2) ∷ [])
+    push-stands : (b : ℕ) {v : ℕ} {N : X} → HasValue cs v N
+        → HasValue (cs ++ K .make (symbol a u s) (f 0) ∷ K .make (symbol b v (length cs)) (f 1) ∷ K .make (above (length cs + 1) t) (f 2) ∷ [])
         (length cs + 2) (K .aboveBy (f 2) (K .symbolBy (f 1) b N (K .symbolBy (f 0) a U S)) T)
     push-stands b {v} {N} k =
         let n : ℕ = length cs in
@@ -223,7 +215,7 @@ module _ {C F X : Type 0} (K : Valuation C F X) where
         stands-then cs c (d ∷ r ∷ []) (stands-then (cs ++ c ∷ []) d (r ∷ [])
         (stands-above (f 2) p (stands-kept (d ∷ []) (stands-kept (c ∷ []) z)) e))
 
-    copy-stands : Stands
+    copy-stands : HasValue
         (cs ++ K .make (symbol a u s) (f 0) ∷ K .make (above (length cs) t) (f 1) ∷ K .make (symbol a u s) (f 2)
         ∷ K .make (above (length cs + 2) (length cs + 1)) (f 3) ∷ [])
         (length cs + 3) (K .aboveBy (f 3) (K .symbolBy (f 2) a U S) (K .aboveBy (f 1) (K .symbolBy (f 0) a U S) T))
@@ -244,7 +236,7 @@ module _ {C F X : Type 0} (K : Valuation C F X) where
         (stands-above (f 3) q (stands-kept (g ∷ []) p) h)))
 
     pub root-stands : (op : Operation)
-        → Stands (cs ++ makeFrom 0 f (cellsAfter op (length cs) a u s t)) (rootAfter op (length cs) u t) (rootValue op f a U S T)
+        → HasValue (cs ++ makeFrom 0 f (cellsAfter op (length cs) a u s t)) (rootAfter op (length cs) u t) (rootValue op f a U S T)
     unfolding cellsAfter rootAfter rootValue makeFrom
     root-stands (rewrite b) =
         let c : C = K .make (symbol b u s) (f 0) in

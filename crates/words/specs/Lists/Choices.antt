@@ -16,24 +16,24 @@ use Rattle.words.specs.Order.Rising.{rising-each, rising-alike}
 
 module _ {A : Type 0} where
   -- xs has one element of each list of ls
-  pub data Chosen : List A → List (List A) → Type 0 where
-    none : Chosen [] []
-    also : {x : A} {l : List A} {xs : List A} {ls : List (List A)} → List·Memᴰ x l → Chosen xs ls → Chosen (x ∷ xs) (l ∷ ls)
+  pub data OneOfEach : List A → List (List A) → Type 0 where
+    none : OneOfEach [] []
+    also : {x : A} {l : List A} {xs : List A} {ls : List (List A)} → List·Memᴰ x l → OneOfEach xs ls → OneOfEach (x ∷ xs) (l ∷ ls)
 
-  pub choices-in : {xs : List A} {ls : List (List A)} → Chosen xs ls → List·Memᴰ xs (choices ls)
+  pub choices-in : {xs : List A} {ls : List (List A)} → OneOfEach xs ls → List·Memᴰ xs (choices ls)
   unfolding choices
   choices-in none = List·Memᴰ·head refl
   choices-in (also {x = x} {ls = ls} i c) = each-in (λ y. map (λ ys. y ∷ ys) (choices ls)) i (Memᴰ·map (λ ys. x ∷ ys) (choices-in c))
 
-  pub choices-out : (ls : List (List A)) {xs : List A} → List·Memᴰ xs (choices ls) → Chosen xs ls
+  pub choices-out : (ls : List (List A)) {xs : List A} → List·Memᴰ xs (choices ls) → OneOfEach xs ls
   unfolding choices
-  choices-out [] j = subst (λ (z : List A). Chosen z []) (sym (List·Memᴰ·eq-of-singleton j)) none
+  choices-out [] j = subst (λ (z : List A). OneOfEach z []) (sym (List·Memᴰ·eq-of-singleton j)) none
   choices-out (l ∷ ls) j =
       let r = each-out l (λ y. map (λ ys. y ∷ ys) (choices ls)) j in
       let m = Memᴰ·of-map (λ ys. r .0 ∷ ys) (choices ls) (r .2) in
-      subst (λ (z : List A). Chosen z (l ∷ ls)) (m .2) (also (r .1) (choices-out ls (m .1)))
+      subst (λ (z : List A). OneOfEach z (l ∷ ls)) (m .2) (also (r .1) (choices-out ls (m .1)))
 
-  pub chosen-length : {xs : List A} {ls : List (List A)} → Chosen xs ls → length xs ≡ length ls
+  pub chosen-length : {xs : List A} {ls : List (List A)} → OneOfEach xs ls → length xs ≡ length ls
   chosen-length none = refl
   chosen-length (also i c) = ap suc (chosen-length c)
 

@@ -1,11 +1,11 @@
 -- What holds of the lists of Lists.antt. Membership is data: `List·Memᴰ x l` is a place of x in l.
 -- Assumes nothing.
 use Prim.Native.Nat.{ℕ, zero, suc, _+_, _<_, _≤_, suc-le-suc}
-use mathlib.Core.Bool.{Bool, true, false, not, _&&_, _||_, false≢true, and-assoc, and-true, or-assoc, or-true, or-false}
+use mathlib.Core.Bool.{Bool, true, false, not, _&&_, _||_, false≢true, and-assoc, or-assoc, or-true, or-false}
 use mathlib.Core.Path.{_≡_, refl, ap, ap₂, sym, _∙_, subst}
 use mathlib.Core.Logic.{_⊎_, inl, inr, ⊎-elim}
 use mathlib.Core.Option.{Option, some, Option·some-injective, Option·none-ne-some, Option·some-ne-none}
-use mathlib.Core.List.{List, [], _∷_, Pairwise, _++_, map, append-nil, append-assoc}
+use mathlib.Core.List.{List, [], _∷_, _++_, map, append-nil, append-assoc}
 use mathlib.Core.List.{List·Memᴰ, List·Memᴰ·head, List·Memᴰ·tail, List·Memᴰ·not-nil, List·Memᴰ·append-cases, List·Memᴰ·eq-of-singleton}
 use mathlib.Core.List.{Memᴰ·append-left, Memᴰ·append-right, Memᴰ·cast}
 use native.Mathlib.Nat.{not-suc-le-zero, le-of-suc-le-suc, zero-add, add-zero}
@@ -15,8 +15,8 @@ use lib.Seq.{take-suc, length-take-le, getD-at}
 use lib.Dec.{ltb}
 use borrow.Author.Tests.{ltb-true, ltb-false}
 use Rattle.words.specs.Order.{rising, risingFrom}
-use Rattle.words.specs.Order.Laws.{less-one, risingFrom-cons, rising-numbers}
-pub use Rattle.words.specs.Tests.{by-test, and-left, and-right}
+use Rattle.words.specs.Order.Laws.{less-one, risingFrom-cons}
+use Rattle.words.specs.Tests.{by-test, and-left, and-right}
 use Rattle.words.specs.Lists.{zeros, each, when, only, every, some-of, first, placesFrom, places}
 
 -- ---- zeros
@@ -48,18 +48,10 @@ module _ {A B : Type 0} where
   unfolding each
   each-one x f = append-nil (f x)
 
-  -- one more turn of a loop over l
-  pub each-take : (l : List A) (i : ℕ) (d : A) (f : A → List B) → i < length l → each (take (suc i) l) f ≡ each (take i l) f ++ f (getD l i d)
-  each-take l i d f h =
-      ap (λ (k : List A). each k f) (take-suc l i d h) ∙ each-append (take i l) (getD l i d ∷ []) f ∙ ap (λ (k : List B). each (take i l) f ++ k) (each-one (getD l i d) f)
-
   pub each-same : (l : List A) (f g : A → List B) → ((x : A) → List·Memᴰ x l → f x ≡ g x) → each l f ≡ each l g
   unfolding each
   each-same [] f g h = refl
   each-same (x ∷ xs) f g h = ap₂ (λ (a b : List B). a ++ b) (h x (List·Memᴰ·head refl)) (each-same xs f g (λ y i. h y (List·Memᴰ·tail i)))
-
-  pub each-cong : (l k : List A) (f g : A → List B) → l ≡ k → ((x : A) → f x ≡ g x) → each l f ≡ each k g
-  each-cong l k f g e h = each-same l f g (λ x i. h x) ∙ ap (λ (z : List A). each z g) e
 
   pub each-none : (l : List A) (f : A → List B) → ((x : A) → List·Memᴰ x l → f x ≡ []) → each l f ≡ []
   unfolding each
@@ -124,12 +116,6 @@ module _ {A : Type 0} where
   only-append test xs ys =
       only-each test (xs ++ ys) ∙ each-append xs ys (λ z. when (test z) (z ∷ [])) ∙ ap₂ _++_ (sym (only-each test xs)) (sym (only-each test ys))
 
-  pub only-take : (test : A → Bool) (l : List A) (i : ℕ) (d : A) → i < length l
-      → only test (take (suc i) l) ≡ only test (take i l) ++ when (test (getD l i d)) (getD l i d ∷ [])
-  only-take test l i d h =
-      only-each test (take (suc i) l) ∙ each-take l i d (λ z. when (test z) (z ∷ [])) h
-      ∙ ap (λ (k : List A). k ++ when (test (getD l i d)) (getD l i d ∷ [])) (sym (only-each test (take i l)))
-
 -- ---- every and some
 
 module _ {A : Type 0} where
@@ -155,12 +141,6 @@ module _ {A : Type 0} where
       some-of-cons test x (xs ++ ys) ∙ ap (λ (t : Bool). test x || t) (some-of-append test xs ys)
       ∙ sym (or-assoc (test x) (some-of test xs) (some-of test ys)) ∙ ap (λ (t : Bool). t || some-of test ys) (sym (some-of-cons test x xs))
 
-  pub every-take : (test : A → Bool) (l : List A) (i : ℕ) (d : A) → i < length l → every test (take (suc i) l) ≡ every test (take i l) && test (getD l i d)
-  unfolding every
-  every-take test l i d h =
-      ap (every test) (take-suc l i d h) ∙ every-append test (take i l) (getD l i d ∷ [])
-      ∙ ap (λ (t : Bool). every test (take i l) && t) (every-cons test (getD l i d) [] ∙ and-true (test (getD l i d)))
-
   pub some-of-take : (test : A → Bool) (l : List A) (i : ℕ) (d : A) → i < length l → some-of test (take (suc i) l) ≡ some-of test (take i l) || test (getD l i d)
   unfolding some-of
   some-of-take test l i d h =
@@ -176,13 +156,6 @@ module _ {A : Type 0} where
   in-every test [] h = refl
   in-every test (x ∷ xs) h = every-cons test x xs ∙ ap₂ _&&_ (h x (List·Memᴰ·head refl)) (in-every test xs (λ y i. h y (List·Memᴰ·tail i)))
 
-  pub every-false : (test : A → Bool) (l : List A) → every test l ≡ false → (x : A) × List·Memᴰ x l × (test x ≡ false)
-  unfolding every
-  every-false test [] h = absurd (false≢true (sym h))
-  every-false test (x ∷ xs) h = by-test (test x)
-      (λ e. let r = every-false test xs (ap (λ (t : Bool). t && every test xs) (sym e) ∙ sym (every-cons test x xs) ∙ h) in (r .0, List·Memᴰ·tail (r .1), r .2))
-      (λ e. (x, List·Memᴰ·head refl, e))
-
   pub some-of-in : (test : A → Bool) {l : List A} {x : A} → List·Memᴰ x l → test x ≡ true → some-of test l ≡ true
   some-of-in test (List·Memᴰ·head {x = z} {xs = zs} e) h = some-of-cons test z zs ∙ ap (λ (t : Bool). t || some-of test zs) (sym (ap test e) ∙ h)
   some-of-in test (List·Memᴰ·tail {x = z} {xs = zs} i) h =
@@ -194,9 +167,6 @@ module _ {A : Type 0} where
   some-of-out test (x ∷ xs) h = by-test (test x)
       (λ e. (x, List·Memᴰ·head refl, e))
       (λ e. let r = some-of-out test xs (ap (λ (t : Bool). t || some-of test xs) (sym e) ∙ sym (some-of-cons test x xs) ∙ h) in (r .0, List·Memᴰ·tail (r .1), r .2))
-
-  pub some-of-false : (test : A → Bool) {l : List A} {x : A} → some-of test l ≡ false → List·Memᴰ x l → test x ≡ false
-  some-of-false test {l} {x} h i = by-test (test x) (λ e. absurd (false≢true (sym h ∙ some-of-in test i e))) (λ e. e)
 
 -- ---- the first
 
@@ -241,13 +211,6 @@ module _ {A : Type 0} where
   some-first test (List·Memᴰ·tail {x = z} {xs = zs} i) h = by-test (test z)
       (λ y. (z, first-yes test z zs y))
       (λ n. let r = some-first test i h in (r .0, first-no test z zs n ∙ r .1))
-
-  pub first-append : (test : A → Bool) (xs ys : List A) {x : A} → first test xs ≡ some x → first test (xs ++ ys) ≡ some x
-  unfolding first
-  first-append test [] ys {x} h = absurd (Option·none-ne-some x h)
-  first-append test (z ∷ zs) ys h = by-test (test z)
-      (λ e. first-yes test z (zs ++ ys) e ∙ sym (first-yes test z zs e) ∙ h)
-      (λ e. first-no test z (zs ++ ys) e ∙ first-append test zs ys (sym (first-no test z zs e) ∙ h))
 
   pub first-past : (test : A → Bool) (xs ys : List A) → ((x : A) → List·Memᴰ x xs → test x ≡ false) → first test (xs ++ ys) ≡ first test ys
   first-past test [] ys h = refl
@@ -376,6 +339,3 @@ module _ {A : Type 0} where
   pub places-rising : (test : A → Bool) (l : List A) → rising (λ m. m ∷ []) (places test l) ≡ true
   unfolding places
   places-rising test l = placesFrom-rising 0 test l
-
-  pub places-pairwise : (test : A → Bool) (l : List A) → Pairwise _<_ (places test l)
-  places-pairwise test l = rising-numbers (places test l) (places-rising test l)

@@ -1,17 +1,17 @@
 -- What holds of the order of lists of numbers, and of lists sorted by such a key.
 -- Assumes nothing.
 use Prim.Native.Nat.{ℕ, _<_, _≤_}
-use mathlib.Core.Bool.{Bool, true, false, false≢true, Bool-set}
+use mathlib.Core.Bool.{Bool, true, false, false≢true}
 use mathlib.Core.Path.{_≡_, refl, ap, ap₂, sym, _∙_}
-use mathlib.Core.Logic.{_⊎_, inl, inr, ⊎-elim, ∥∥₁-elim}
-use mathlib.Core.List.{List, [], _∷_, _++_, map, Pairwise, Pairwise·nil, Pairwise·cons, Pairwise·imp}
+use mathlib.Core.Logic.{_⊎_, inl, inr, ⊎-elim}
+use mathlib.Core.List.{List, [], _∷_, _++_, map}
 use mathlib.Core.List.{List·Memᴰ, List·Memᴰ·head, List·Memᴰ·tail, List·Memᴰ·not-nil, List·Memᴰ·cases-cons, List·Memᴰ·append-cases, List·Memᴰ·eq-of-singleton}
 use mathlib.Core.List.{Memᴰ·append-left, Memᴰ·append-right, Memᴰ·cast}
 use native.Mathlib.Omega.{arith}
 use lib.Arith.{lt-of-le-ne}
 use lib.Dec.{eqb, ltb}
 use borrow.Author.Tests.{lt-ltb, le-ltb, ltb-true, ltb-false, eqb-true, eqb-false, eq-eqb, ne-eqb}
-pub use Rattle.words.specs.Tests.{by-test}
+use Rattle.words.specs.Tests.{by-test}
 use Rattle.words.specs.Lists.{only}
 use Rattle.words.specs.Order.{less, same, insert, sorted, risingFrom, rising}
 
@@ -109,9 +109,6 @@ same-refl (x ∷ xs) = rw (same, eq-eqb x x refl) (same-refl xs)
 pub eq-same : (k l : List ℕ) → k ≡ l → same k l ≡ true
 eq-same k l e = rw e (same-refl l)
 
-pub same-differs : (k l : List ℕ) → same k l ≡ false → k ≡ l → ⊥
-same-differs k l h e = false≢true (sym h ∙ eq-same k l e)
-
 pub differs-same : (k l : List ℕ) → (k ≡ l → ⊥) → same k l ≡ false
 differs-same k l h = by-test (same k l) (λ e. absurd (h (same-eq k l e))) (λ e. e)
 
@@ -158,18 +155,6 @@ module _ {A : Type 0} (key : A → List ℕ) where
   risingFrom-weaken x y l h r =
       less-risingFrom x l (λ z j. less-transitive (key x) (key y) (key z) h (risingFrom-less y l r j)) (rising-tail y l r)
 
-  -- each element is before all that follow
-  pub rising-pairwise : (l : List A) → rising key l ≡ true → Pairwise (λ x y. less (key x) (key y) ≡ true) l
-  rising-pairwise [] r = Pairwise·nil
-  rising-pairwise (x ∷ l) r =
-      let f : risingFrom key x l ≡ true = sym (rising-cons x l) ∙ r in
-      Pairwise·cons (λ y m. ∥∥₁-elim m (Bool-set (less (key x) (key y)) true) (λ j. risingFrom-less x l f j)) (rising-pairwise l (rising-tail x l f))
-
-  pub pairwise-rising : {l : List A} → Pairwise (λ x y. less (key x) (key y) ≡ true) l → rising key l ≡ true
-  unfolding rising
-  pairwise-rising Pairwise·nil = refl
-  pairwise-rising (Pairwise·cons {a = x} {l = l} h p) = less-risingFrom x l (λ y j. h y ∣ j ∣₁) (pairwise-rising p)
-
   pub rising-append : (xs ys : List A) → rising key xs ≡ true → rising key ys ≡ true
       → ((x y : A) → List·Memᴰ x xs → List·Memᴰ y ys → less (key x) (key y) ≡ true) → rising key (xs ++ ys) ≡ true
   unfolding rising
@@ -183,11 +168,6 @@ module _ {A : Type 0} (key : A → List ℕ) where
   append-rising-left [] ys r = refl
   append-rising-left (x ∷ xs) ys r = less-risingFrom x xs
       (λ y j. risingFrom-less x (xs ++ ys) r (Memᴰ·append-left ys j)) (append-rising-left xs ys (rising-tail x (xs ++ ys) r))
-
-  pub append-rising-right : (xs ys : List A) → rising key (xs ++ ys) ≡ true → rising key ys ≡ true
-  unfolding rising
-  append-rising-right [] ys r = r
-  append-rising-right (x ∷ xs) ys r = append-rising-right xs ys (rising-tail x (xs ++ ys) r)
 
   pub append-rising-less : {xs : List A} (ys : List A) {x y : A} → rising key (xs ++ ys) ≡ true → List·Memᴰ x xs → List·Memᴰ y ys → less (key x) (key y) ≡ true
   unfolding rising
@@ -287,13 +267,6 @@ module _ {A : Type 0} (key : A → List ℕ) where
       (λ h. (z, rw (insert-held x z l h) (List·Memᴰ·head refl), sym h))
       (λ h. let r = insert-key x l in (r .0, rw (insert-after x z l h) (List·Memᴰ·tail (r .1)), r .2))
 
-  -- nothing is inserted where the key is held
-  pub insert-present : (x : A) {l : List A} {y : A} → rising key l ≡ true → List·Memᴰ y l → key y ≡ key x → insert key x l ≡ l
-  insert-present x r (List·Memᴰ·head {x = z} {xs = l} e) h = insert-held x z l (sym h ∙ ap key e)
-  insert-present x {y = y} r (List·Memᴰ·tail {x = z} {xs = l} j) h =
-      let f : risingFrom key z l ≡ true = sym (rising-cons z l) ∙ r in
-      insert-after x z l (rw h at (risingFrom-less z l f j)) ∙ ap (λ (k : List A). z ∷ k) (insert-present x (rising-tail z l f) j h)
-
   pub risingFrom-insert : (z x : A) (l : List A) → less (key z) (key x) ≡ true → risingFrom key z l ≡ true → risingFrom key z (insert key x l) ≡ true
   unfolding insert risingFrom
   risingFrom-insert z x [] h r = risingFrom-cons z x [] h refl
@@ -353,12 +326,6 @@ module _ {A : Type 0} (key : A → List ℕ) where
     sorted-unique l k r f g = sorted-same l k f g ∙ sorted-of-rising k r
 
 -- ---- rising lists of numbers, and of what a map gives
-
-pub rising-numbers : (l : List ℕ) → rising (λ n. n ∷ []) l ≡ true → Pairwise _<_ l
-rising-numbers l r = Pairwise·imp (λ x y h. one-less x y h) (rising-pairwise (λ n. n ∷ []) l r)
-
-pub numbers-rising : {l : List ℕ} → Pairwise _<_ l → rising (λ n. n ∷ []) l ≡ true
-numbers-rising p = pairwise-rising (λ n. n ∷ []) (Pairwise·imp (λ x y h. less-one x y h) p)
 
 module _ {A B : Type 0} (key : B → List ℕ) (f : A → B) where
   pub risingFrom-map : (x : A) (l : List A) → risingFrom key (f x) (map f l) ≡ risingFrom (λ y. key (f y)) x l

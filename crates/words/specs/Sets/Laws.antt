@@ -1,20 +1,20 @@
 -- What holds of sets as words, for every width.
 -- Assumes nothing.
 use Prim.Native.Nat.{ℕ, zero, suc, _+_, _-_, _*_, _/_, _%_, _^_, _<_, _≤_, max}
-use mathlib.Core.Bool.{Bool, true, false, _||_, false≢true, or-comm, or-assoc, or-self, or-true}
+use mathlib.Core.Bool.{Bool, true, false, _||_, false≢true, or-comm, or-assoc, or-true}
 use mathlib.Core.Path.{_≡_, refl, ap, ap₂, sym, _∙_, subst}
 use mathlib.Core.Logic.{_⊎_, inl, inr, ⊎-elim, ⊎-map}
-use mathlib.Core.List.{List, [], _∷_, Pairwise, List·Memᴰ, List·Memᴰ·head, List·Memᴰ·tail, List·Memᴰ·not-nil, List·Memᴰ·cases-cons, Memᴰ·cast}
+use mathlib.Core.List.{List, [], _∷_, List·Memᴰ, List·Memᴰ·head, List·Memᴰ·tail, List·Memᴰ·not-nil, List·Memᴰ·cases-cons, Memᴰ·cast}
 use native.Mathlib.Nat.{div-div-eq-div-mul, pow-succ', div-one, zero-div, div-eq-of-lt, one-mul, lt-of-lt-of-le, lt-of-not-le, mod-eq-of-lt, add-zero, zero-add, suc-add, mul-one, mul-comm, mul-sub}
 use native.Mathlib.Omega.{arith}
 use lib.Dec.{eqb, eqb·zero-suc, eqb·suc-zero, eqb·suc-suc}
 use lib.Arith.{bin-ind}
-use lib.Bits.{bitOr, digits, or-shr, or-step, or-lt, shifted-half, shifted-even}
+use lib.Bits.{bitOr, digits, or-shr, or-step, shifted-half, shifted-even}
 use lib.Pow.{pow-mono, pow-lt}
 use borrow.Author.Tests.{eqb-true, eq-eqb}
-pub use Rattle.words.specs.Tests.{or-cases}
+use Rattle.words.specs.Tests.{or-cases}
 use Rattle.words.specs.Order.{rising, risingFrom}
-use Rattle.words.specs.Order.Laws.{less-one, risingFrom-cons, rising-numbers}
+use Rattle.words.specs.Order.Laws.{less-one, risingFrom-cons}
 use Rattle.words.specs.Sets.{member, single, joinBits, join, partOf, membersFrom, members}
 
 -- ---- one bit
@@ -124,9 +124,6 @@ join-assoc a b c = ext-all (join (join a b) c) (join a (join b c)) λ n.
     ∙ ap (λ (t : Bool). member a n || t) (sym (member-join b c n))
     ∙ sym (member-join a (join b c) n)
 
-pub join-self : (a : ℕ) → join a a ≡ a
-join-self a = ext-all (join a a) a λ n. member-join a a n ∙ or-self (member a n)
-
 pub join-empty-left : (a : ℕ) → join 0 a ≡ a
 unfolding join joinBits
 join-empty-left a = refl
@@ -135,13 +132,6 @@ pub join-empty-right : (a : ℕ) → join a 0 ≡ a
 join-empty-right a = join-comm a 0 ∙ join-empty-left a
 
 -- ---- words of a width
-
-pub join-below : (w a b : ℕ) → a < 2 ^ w → b < 2 ^ w → join a b < 2 ^ w
-join-below w a b ha hb = rw (join-or a b) (or-lt w a b ha hb)
-
-pub single-below : (w n : ℕ) → n < w → single n < 2 ^ w
-unfolding single
-single-below w n h = pow-lt h
 
 -- the machine's `1 << n`
 pub single-shift : (w n : ℕ) → n < w → 1 * 2 ^ n % 2 ^ w ≡ single n
@@ -202,9 +192,6 @@ all-single P q y n h = subst P (single-has h) y
 pub all-one : (q : ℕ) {P : ℕ → Type 0} → All (single q) P → P q
 all-one q x = x q (has-single q)
 
-pub all-map : {s : ℕ} {P Q : ℕ → Type 0} → ((n : ℕ) → P n → Q n) → All s P → All s Q
-all-map f x n h = f n (x n h)
-
 -- a set is empty or has a member
 pub zero-or-member : (s : ℕ) → (s ≡ 0) ⊎ ((n : ℕ) × Has s n)
 zero-or-member = bin-ind (λ (s : ℕ). (s ≡ 0) ⊎ ((n : ℕ) × Has s n)) (inl refl) step
@@ -253,12 +240,6 @@ part-join-right a b = has-part λ n h. has-join-right a h
 
 pub join-zero : (a b : ℕ) → join a b ≡ 0 → (a ≡ 0) × (b ≡ 0)
 join-zero a b e = (part-antisym a 0 (rw e at (part-join-left a b)) (part-empty a), part-antisym b 0 (rw e at (part-join-right a b)) (part-empty b))
-
-pub join-part : (a b c : ℕ) → partOf a c ≡ true → partOf b c ≡ true → partOf (join a b) c ≡ true
-join-part a b c x y = has-part (all-join (part-has a c x) (part-has b c y))
-
-pub single-part : {q s : ℕ} → Has s q → partOf (single q) s ≡ true
-single-part {q} {s} h = has-part (all-single (Has s) q h)
 
 pub all-part : (a b : ℕ) {P : ℕ → Type 0} → partOf a b ≡ true → All b P → All a P
 all-part a b e x n h = x n (part-has a b e n h)
@@ -333,9 +314,6 @@ pub members-empty : members 0 ≡ []
 unfolding members
 members-empty = membersFrom-empty 0 0
 
-pub members-none : (s : ℕ) → members s ≡ [] → s ≡ 0
-members-none s e = ⊎-elim (λ z. z) (λ x. absurd (List·Memᴰ·not-nil (rw e at (has-in (x .1))))) (zero-or-member s)
-
 -- ---- the members in rising order, and the least of them
 
 pub membersFrom-after : (k n s x : ℕ) → x < n → risingFrom (λ m. m ∷ []) x (membersFrom k n s) ≡ true
@@ -355,9 +333,6 @@ membersFrom-rising (suc k) n s = by-parity s
 pub members-rising : (s : ℕ) → rising (λ m. m ∷ []) (members s) ≡ true
 unfolding members
 members-rising s = membersFrom-rising s 0 s
-
-pub members-pairwise : (s : ℕ) → Pairwise _<_ (members s)
-members-pairwise s = rising-numbers (members s) (members-rising s)
 
 pub membersFrom-shifted : (q k n x : ℕ) → membersFrom (q + k) n (x * 2 ^ q) ≡ membersFrom k (q + n) x
 membersFrom-shifted zero k n x = simp (zero-add, mul-one)
@@ -389,9 +364,3 @@ members-least s x q e o =
     ∙ membersFrom-least q s x o
     ∙ ap (λ (r : ℕ). q ∷ membersFrom w 0 r) m
     ∙ ap (λ (r : List ℕ). q ∷ r) (sym (members-bound w (s - 2 ^ q) (omega arith)))
-
-pub members-single : (q : ℕ) → members (single q) ≡ q ∷ []
-unfolding single
-members-single q =
-    let z : 2 ^ q - 2 ^ q ≡ 0 = omega arith in
-    members-least (2 ^ q) 1 q (sym (one-mul (2 ^ q))) refl ∙ ap (λ (r : List ℕ). q ∷ r) (ap members z ∙ members-empty)

@@ -1,0 +1,60 @@
+-- Laws of the definitions in Bounds.antt.
+-- Assumes nothing.
+use Prim.Native.Nat.{ℕ, zero, suc, _+_, _/_, _%_, _^_, _≤_}
+use mathlib.Core.Bool.{false, _&&_}
+use mathlib.Core.Path.{_≡_, refl}
+use lib.Dec.{eqb, ltb, leb}
+use borrow.Author.Tests.{eq-eqb, ne-eqb}
+use native.Mathlib.Omega.{arith}
+use Rattle.files.specs.Case.{Head, inner1, inner2, RuleBytes, ruleRight, EdgeBytes, edgeRight, annotationRight}
+use Rattle.case_records.specs.Inner.{every-below, every-between}
+use Rattle.case_records.specs.Bounds.{operandRight, firstRight}
+
+-- ---- the tests by their parts
+
+pub inner1-is : (h : Head) (s : ℕ) → inner1 h s ≡ eqb (s / 2 ^ h .J) 0
+unfolding inner1
+inner1-is h s = every-below (h .J) s
+
+pub inner2-is : (h : Head) (s : ℕ) → inner2 h s ≡ eqb (s % 2 ^ h .P) 0 && eqb (s / 2 ^ (h .P + h .I)) 0
+unfolding inner2
+inner2-is h s = every-between (h .P) (h .P + h .I) s
+
+pub rule-parts : (h : Head) (x : RuleBytes)
+    → ruleRight h x
+    ≡ ltb (x .p) (h .P)
+    && ltb (x .a) (h .A)
+    && leb 1 (x .code)
+    && leb (x .code) 8
+    && ltb (x .next) (h .P)
+    && operandRight h (x .code) (x .b)
+unfolding ruleRight operandRight
+rule-parts h x = refl
+
+pub edge-parts : (h : Head) (x : EdgeBytes) → edgeRight h x ≡ firstRight h x && ltb (x .state) (h .P + h .I) && inner2 h (x .S)
+unfolding edgeRight firstRight
+edge-parts h x = refl
+
+-- ---- annotations, by their order
+
+pub annotation-empty : (h : Head) (order B : ℕ) → (order ≡ 0 → ⊥) → B ≡ 0 → annotationRight h order B ≡ false
+unfolding annotationRight
+annotation-empty h zero B n e = absurd (n refl)
+annotation-empty h (suc zero) B n e = rw (eq-eqb B 0 e)
+annotation-empty h (suc (suc zero)) B n e = rw (eq-eqb B 0 e)
+annotation-empty h (suc (suc (suc k))) B n e = refl
+
+pub annotation-one : (h : Head) (order B : ℕ) → order ≡ 1 → (B ≡ 0 → ⊥) → annotationRight h order B ≡ inner1 h B
+unfolding annotationRight
+annotation-one h order B e n = rw (e, ne-eqb B 0 n)
+
+pub annotation-two : (h : Head) (order B : ℕ) → order ≡ 2 → (B ≡ 0 → ⊥) → annotationRight h order B ≡ inner2 h B
+unfolding annotationRight
+annotation-two h order B e n = rw (e, ne-eqb B 0 n)
+
+pub annotation-more : (h : Head) (order B : ℕ) → 3 ≤ order → annotationRight h order B ≡ false
+unfolding annotationRight
+annotation-more h zero B n = absurd (omega arith)
+annotation-more h (suc zero) B n = absurd (omega arith)
+annotation-more h (suc (suc zero)) B n = absurd (omega arith)
+annotation-more h (suc (suc (suc k))) B n = refl

@@ -1,0 +1,122 @@
+-- What holds of remembered states: a state that a row holds need not be worked through again, and one that was worked through may be put
+-- into a row.
+-- Assumes nothing.
+use Prim.Native.Nat.{ℕ, _+_, _*_, _≤_, _<_}
+use mathlib.Core.Bool.{Bool, true}
+use mathlib.Core.Path.{_≡_, ap, sym, _∙_, subst}
+use mathlib.Core.Logic.{_⊎_, inl, inr, ⊎-elim}
+use mathlib.Core.Option.{Option}
+use mathlib.Core.List.{List, []}
+use native.Mathlib.Omega.{arith}
+use lib.ListN.{length, replicate, length-replicate, getD-replicate}
+use borrow.Author.Tests.{ne-eqb}
+use Rattle.words.specs.Sets.{members}
+use Rattle.words.specs.Order.{same}
+use Rattle.words.specs.Order.Laws.{number-cases}
+use Rattle.automata.specs.Automaton.{Automaton}
+use Rattle.automata.specs.Derivation.{Result}
+use Rattle.automata.specs.Saturation.{held}
+use Rattle.tables.specs.Rows.{rowAt, putRow}
+use Rattle.tables.specs.Rows.Laws.{length-putRow, put-same, put-other}
+use Rattle.tables.specs.Pending.{pendingIn}
+use Rattle.memo_table.specs.declared.State.{State}
+use Rattle.memo_table.specs.States.{stateWords, stateRow, readState, edgesState, same-states}
+use Rattle.joins.specs.Joining.{theJoins}
+use Rattle.readings.specs.Offers.{offerAll, Collects}
+use Rattle.readings.specs.Offers.Again.{offerAll-both, offerAll-twice}
+use Rattle.readings.specs.Readings.{readResults, edgeResults}
+use Rattle.readings.specs.Memo.{stateResults, MemoHolds}
+
+-- ---- what states give
+
+module _ (A : Automaton) (x : State) (p a S left order B R : ℕ) where
+  pub read-gives : x ≡ readState p a S left order B R → stateResults A x ≡ readResults A p a S (members left) (theJoins order B R)
+  unfolding stateResults
+  read-gives e = ap (stateResults A) e
+
+  pub edges-gives : (N : ℕ) → x ≡ edgesState p a S left N order B R → stateResults A x ≡ edgeResults A p a (theJoins order B R) (members left) N S
+  unfolding stateResults
+  edges-gives N e = ap (stateResults A) e
+
+-- an empty row
+results-empty : (A : Automaton) (x : State) → x .kind ≡ 0 → stateResults A x ≡ []
+unfolding stateResults
+results-empty A x e =
+    let one : x .kind ≡ 1 → ⊥ = omega arith in
+    let two : x .kind ≡ 2 → ⊥ = omega arith in
+    rw (stateResults, ne-eqb (x .kind) 1 one, ne-eqb (x .kind) 2 two)
+
+-- ---- tables of states
+
+module _ {A : Automaton} {room n : ℕ} {t : List ℕ} where
+  -- a table of zeros remembers nothing
+
+  pub memo-none : (k : ℕ) → 9 ≤ k → MemoHolds A room n t (replicate k 0)
+  unfolding rowAt offerAll
+  memo-none k h =
+      record { some-row = le-length; absorbed = nothing }
+    where
+      le-length : 9 ≤ length {A = ℕ} (replicate k 0)
+      le-length = let l : length {A = ℕ} (replicate k 0) ≡ k = length-replicate k 0 in omega arith
+
+      nothing : (i : ℕ) → i * 9 + 9 ≤ length {A = ℕ} (replicate k 0)
+          → offerAll (held A) room (pendingIn room n t) (stateResults A (rowAt stateRow (replicate k 0) i)) ≡ pendingIn room n t
+      nothing i b =
+          let l : length {A = ℕ} (replicate k 0) ≡ k = length-replicate k 0 in
+          ap (offerAll (held A) room (pendingIn room n t)) (results-empty A (rowAt stateRow (replicate k 0) i) (getD-replicate k (i * 9 + 0) 0 0 (omega arith)))
+
+  pub memo-same : {r : ℕ} {t′ memo memo′ : List ℕ} → MemoHolds A room n t memo → memo′ ≡ memo → t′ ≡ t → r ≡ n → MemoHolds A room r t′ memo′
+  memo-same h es et er = rw (es, et, er) h
+
+  -- what is offered later changes nothing
+
+  pub memo-later : {r : ℕ} {t′ memo : List ℕ} {xs : List Result} → MemoHolds A room n t memo → Collects A room n t xs r t′ → MemoHolds A room r t′ memo
+  memo-later {memo = memo} {xs = xs} h c =
+      record {
+        some-row = h .some-row;
+        absorbed = λ i b.
+            ap (λ (o : Option (List Result)). offerAll (held A) room o (stateResults A (rowAt stateRow memo i))) (c .collected)
+            ∙ offerAll-both room (held A) xs (stateResults A (rowAt stateRow memo i)) (pendingIn room n t)
+            ∙ ap (λ (o : Option (List Result)). offerAll (held A) room o xs) (h .absorbed i b)
+            ∙ sym (c .collected);
+      }
+
+  -- a state that a row holds was worked through
+
+  pub memo-found : (memo : List ℕ) (x : State) (i : ℕ) (found : Bool) (xs : List Result) → stateResults A x ≡ xs → MemoHolds A room n t memo → n ≤ room + 1
+      → i * 9 + 9 ≤ length memo → found ≡ same (stateWords (rowAt stateRow memo i)) (stateWords x) → found ≡ true → Collects A room n t xs n t
+  memo-found memo x i found xs g h m b e f =
+      record {
+        collected =
+            sym (h .absorbed i b)
+            ∙ ap (offerAll (held A) room (pendingIn room n t)) (ap (stateResults A) (same-states (rowAt stateRow memo i) x (sym e ∙ f)) ∙ g);
+        number = m;
+      }
+
+  -- a state that was worked through may be put into a row
+
+  pub memo-more : {r : ℕ} {t′ : List ℕ} (memo memo′ : List ℕ) (x : State) (i : ℕ) (xs : List Result) → stateResults A x ≡ xs → Collects A room n t xs r t′
+      → MemoHolds A room r t′ memo → i * 9 + 9 ≤ length memo → memo′ ≡ putRow stateRow memo i x → MemoHolds A room r t′ memo′
+  memo-more {r} {t′} memo memo′ x i xs g c h b q =
+      subst (λ (l : List ℕ). MemoHolds A room r t′ l) (sym q)
+      (record {
+        some-row = let l : length (putRow stateRow memo i x) ≡ length memo = length-putRow stateRow memo i x in omega (arith, h .some-row);
+        absorbed = λ j d. let l : length (putRow stateRow memo i x) ≡ length memo = length-putRow stateRow memo i x in
+            ⊎-elim (λ a. other j (inl a) (omega arith)) (⊎-elim (λ e. own j e) (λ a. other j (inr a) (omega arith))) (number-cases j i);
+      })
+    where
+      Absorbs : State → Type 0
+      Absorbs y = offerAll (held A) room (pendingIn room r t′) (stateResults A y) ≡ pendingIn room r t′
+
+      worked : Absorbs x
+      worked =
+          ap (offerAll (held A) room (pendingIn room r t′)) g
+          ∙ ap (λ (o : Option (List Result)). offerAll (held A) room o xs) (c .collected)
+          ∙ offerAll-twice room (held A) xs (pendingIn room n t)
+          ∙ sym (c .collected)
+
+      own : (j : ℕ) → j ≡ i → Absorbs (rowAt stateRow (putRow stateRow memo i x) j)
+      own j e = subst Absorbs (sym (ap (rowAt stateRow (putRow stateRow memo i x)) e ∙ put-same stateRow memo i x b)) worked
+
+      other : (j : ℕ) → (j < i) ⊎ (i < j) → j * 9 + 9 ≤ length memo → Absorbs (rowAt stateRow (putRow stateRow memo i x) j)
+      other j a d = subst Absorbs (sym (put-other stateRow memo i j x a)) (h .absorbed j d)
