@@ -10,7 +10,7 @@ use lib.Dec.{eqb}
 use Rattle.words.specs.Sets.{member, join, single, partOf}
 use Rattle.stacks.specs.Stack.{Stack1, nil1, cons1, Stack2, nil2, cons2, Annotation, of1, of2}
 use Rattle.automata.specs.Automaton.{Automaton, Move, Edge, edges}
-use Rattle.walks.specs.Cell.Laws.{annotationOrder}
+use Rattle.stacks.specs.Stack.{annotationOrder}
 
 -- an annotation of order k whose accepting states are `note` is as a move of this order and annotation set asks
 unfoldable pub annotationMet : ℕ → ℕ → ℕ → ℕ → Bool

@@ -1,8 +1,8 @@
 -- Sets that name states of a range only, told by a division and a remainder.
 -- Assumes nothing.
 use Prim.Native.Nat.{ℕ, suc, _+_, _-_, _/_, _%_, _^_, _<_, _≤_}
-use mathlib.Core.Bool.{Bool, true, false, _&&_}
-use mathlib.Core.Path.{_≡_, refl, ap, sym, _∙_}
+use mathlib.Core.Bool.{Bool, true, _&&_}
+use mathlib.Core.Path.{_≡_, ap, sym, _∙_}
 use mathlib.Core.Logic.{⊎-elim}
 use native.Mathlib.Nat.{div-lt-iff-lt-mul, one-mul, mod-lt}
 use native.Mathlib.Omega.{arith}
@@ -13,7 +13,7 @@ use Rattle.words.specs.Sets.{member, members}
 use Rattle.words.specs.Sets.Laws.{Has, has-below, has-empty, has-in, in-has, zero-or-member}
 use Rattle.words.specs.Lists.{every}
 use Rattle.words.specs.Lists.Laws.{in-every, every-in}
-use Rattle.words.specs.Tests.{by-test, and-left, and-right}
+use Rattle.words.specs.Tests.{by-test, and-left, and-right, equal-tests}
 
 -- ---- members of the high and of the low part of a word
 
@@ -30,12 +30,6 @@ member-low s k n h =
     ap (λ (i : ℕ). eqb (i % 2) 1) x ∙ ap (λ (i : ℕ). eqb i 1) y
 
 -- ---- what the quotient and the remainder say of the members
-
--- two Booleans of which each is true where the other is
-both-ways : (x y : Bool) → (x ≡ true → y ≡ true) → (y ≡ true → x ≡ true) → x ≡ y
-both-ways true y f g = sym (f refl)
-both-ways false true f g = g refl
-both-ways false false f g = refl
 
 quotient-below : (k s : ℕ) → s / 2 ^ k ≡ 0 → s < 2 ^ k
 quotient-below k s e = rw (one-mul (2 ^ k)) at (div-lt-iff-lt-mul {x = s} {y = 1} (pow-pos k) .0 (omega arith))
@@ -67,7 +61,7 @@ from-remainder k s f =
 -- every member is below k
 pub every-below : (k s : ℕ) → every (λ n. ltb n k) (members s) ≡ eqb (s / 2 ^ k) 0
 every-below k s =
-    both-ways _ _
+    equal-tests _ _
     (λ t. eq-eqb _ _ (below-quotient k s (λ n m. ltb-true _ _ (every-in (λ (i : ℕ). ltb i k) t (has-in m)))))
     (λ t. in-every _ (members s) (λ n m. lt-ltb _ _ (has-below k (quotient-below k s (eqb-true _ _ t)) (in-has s m))))
 
@@ -75,7 +69,7 @@ every-below k s =
 pub every-between : (k l s : ℕ)
     → every (λ n. leb k n && ltb n l) (members s) ≡ eqb (s % 2 ^ k) 0 && eqb (s / 2 ^ l) 0
 every-between k l s =
-    both-ways _ _
+    equal-tests _ _
     (λ t.
     let in-range : (n : ℕ) → Has s n → leb k n && ltb n l ≡ true = λ n m. every-in (λ (i : ℕ). leb k i && ltb i l) t (has-in m) in
     both

@@ -10,7 +10,7 @@ use native.Mathlib.Omega.{arith}
 use lib.ListN.{length}
 use Rattle.words.specs.Sets.{members}
 use Rattle.words.specs.Sets.Laws.{All, in-has, all-empty}
-use Rattle.stacks.specs.Stack.{Stack1, cons1, Stack2, cons2, Annotation, of1, of2}
+use Rattle.stacks.specs.Stack.{Stack1, cons1, Stack2, cons2, Annotation, of1, of2, annotationOrder}
 use Rattle.automata.specs.Automaton.{Automaton, moveAt, edgeAt}
 use Rattle.automata.specs.Automaton.Laws.{MoveOf, EdgeOf}
 use Rattle.automata.specs.Acceptance.Laws.{Accepts1, Accepts2, AcceptsAnnotation, annotation-any}
@@ -20,12 +20,6 @@ use Rattle.automata.specs.Derivation.Joining.{Fits, joinAll-some, joinAll-all, 
 use Rattle.automata.specs.Facts.{TableFacts}
 use Rattle.automata.specs.Facts.Laws.{moveAt-facts}
 
--- ---- the order of an annotation
-
-abbrev pub orderOf : Annotation → ℕ
-orderOf (of1 v) = 1
-orderOf (of2 v) = 2
-
 module _ (A : Automaton) where
   -- state q, of the annotation's order, accepts the annotation
   abbrev pub AcceptsAs : Annotation → ℕ → Type 0
@@ -33,16 +27,16 @@ module _ (A : Automaton) where
   AcceptsAs (of2 v) q = Accepts2 A v q
 
   -- where B is empty at order 0 and no order is above 2, acceptance is: the order is 0 or u's, and each member of B accepts u
-  pub annotation-out : (u : Annotation) (k B : ℕ) → k ≤ 2 → (k ≡ 0 → B ≡ 0) → AcceptsAnnotation A u k B → Fits (orderOf u) k × All B (AcceptsAs u)
-  unfolding AcceptsAnnotation
+  pub annotation-out : (u : Annotation) (k B : ℕ) → k ≤ 2 → (k ≡ 0 → B ≡ 0) → AcceptsAnnotation A u k B → Fits (annotationOrder u) k × All B (AcceptsAs u)
+  unfolding AcceptsAnnotation annotationOrder
   annotation-out u zero B l e x = (inl refl, rw (e refl) (all-empty (AcceptsAs u)))
   annotation-out (of1 v) (suc zero) B l e x = (inr refl, x)
   annotation-out (of1 v) (suc (suc k)) B l e x = absurd x
   annotation-out (of2 v) (suc zero) B l e x = absurd x
   annotation-out (of2 v) (suc (suc k)) B l e x = (inr (omega arith), x)
 
-  pub annotation-in : (u : Annotation) (k B : ℕ) → Fits (orderOf u) k → All B (AcceptsAs u) → AcceptsAnnotation A u k B
-  unfolding AcceptsAnnotation
+  pub annotation-in : (u : Annotation) (k B : ℕ) → Fits (annotationOrder u) k → All B (AcceptsAs u) → AcceptsAnnotation A u k B
+  unfolding AcceptsAnnotation annotationOrder
   annotation-in u k B (inl e) x = annotation-any A u k B e
   annotation-in (of1 v) k B (inr e) x = rw e x
   annotation-in (of2 v) k B (inr e) x = rw e x
@@ -51,7 +45,7 @@ module _ (A : Automaton) where
 
 module _ (A : Automaton) (u : Annotation) (s : Stack1) where
   pub record Meets (j : Joins) : Type 0 where
-    pub fits : Fits (orderOf u) (j .order)
+    pub fits : Fits (annotationOrder u) (j .order)
     pub annotation : All (j .B) (AcceptsAs A u)
     pub rest : All (j .R) (Accepts1 A s)
 
@@ -81,7 +75,7 @@ module _ (A : Automaton) (u : Annotation) (s : Stack1) where
       let k = f r (in-has R i) in
       (k .number, (k .move, move-meets F (k .number) (k .move .below) (k .annotation) (k .rest)))) in
       let met : (i : ℕ) → List·Memᴰ i ms → Meets (joinsOf (moveAt A i)) = λ i l. paired-state p l .2 .1 in
-      let (k, e, o) = joinAll-some A (orderOf u) j ms (x .fits) (λ i l. met i l .fits) in
+      let (k, e, o) = joinAll-some A (annotationOrder u) j ms (x .fits) (λ i l. met i l .fits) in
       let b = joinAll-all A (AcceptsAs A u) (Accepts1 A s) j ms e (x .annotation, x .rest) (λ i l. (met i l .annotation, met i l .rest)) in
       record {
         moves = ms;

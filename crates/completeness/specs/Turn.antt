@@ -7,7 +7,7 @@ use mathlib.Core.Logic.{inl, inr}
 use mathlib.Core.Option.{Option, none, some}
 use mathlib.Core.List.{List, [], _∷_}
 use Rattle.words.specs.Sets.Laws.{All, all-empty, all-join, all-single}
-use Rattle.stacks.specs.Stack.{Stack1, cons1, Stack2, cons2, Annotation, of1, of2}
+use Rattle.stacks.specs.Stack.{Stack1, cons1, Stack2, cons2, Annotation, of1, of2, annotationOrder}
 use Rattle.stacks.specs.Stack.{Operation, rewrite, push1, push2, copy, pop1, pop2, collapse1, collapse2, after}
 use Rattle.stacks.specs.System.{Rule}
 use Rattle.automata.specs.Automaton.{Automaton, Move, moveAt, edgeAt}
@@ -17,7 +17,7 @@ use Rattle.automata.specs.Derivation.{Joins, joinsOf, Derivation, named, edgeSe
 use Rattle.automata.specs.Derivation.Laws.{conclusion, Concludes, concludes, ByPush, ByEntry, Says}
 use Rattle.automata.specs.Facts.{TableFacts}
 use Rattle.automata.specs.Facts.Laws.{control-edge}
-use Rattle.completeness.specs.Reading.{orderOf, Meets, move-meets, read, choose}
+use Rattle.completeness.specs.Reading.{Meets, move-meets, read, choose}
 
 -- the operation left a stack that control p accepts
 abbrev pub LeavesAccepted : Automaton → ℕ → Option Stack2 → Type 0
@@ -92,7 +92,7 @@ module _ {P : ℕ} (A : Automaton) (F : TableFacts P A) where
     push-turn : (b : ℕ) (v u : Annotation) (s : Stack1) (t : Stack2) (start : Move → Joins) (set : ℕ → Move → ℕ)
         → (m : AtMove (ρ .next) b v (cons1 (ρ .symbol) u s) t)
         → Meets A u s (start (moveAt A (m .move))) → All (set (m .S) (moveAt A (m .move))) (Accepts2 A t)
-        → Turn (ByPush A ρ (orderOf v) b start set) u s t
+        → Turn (ByPush A ρ (annotationOrder v) b start set) u s t
     push-turn b v u s t start set m x y =
         let r = read A u s F (ρ .symbol) (moveAt A (m .move) .R) (start (moveAt A (m .move))) x (m .meets .rest) in
         record {
@@ -146,7 +146,7 @@ module _ {P : ℕ} (A : Automaton) (F : TableFacts P A) where
         }
 
     pub turn : (o : Operation) (u : Annotation) (s : Stack1) (t : Stack2) → LeavesAccepted A (ρ .next) (after o (ρ .symbol) u s t) → Turn (Says A ρ o) u s t
-    unfolding after
+    unfolding after annotationOrder
     turn (rewrite b) u s t x =
         let m = at-move next b u s t x in
         record {

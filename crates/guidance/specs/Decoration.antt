@@ -59,22 +59,22 @@ pub record WalkFormed (w : Walk) : Type 0 where
 
 -- ---- orders
 
-unfoldable pub orderOf′ : DecoratedAnnotation → ℕ
-orderOf′ (of1′ s) = 1
-orderOf′ (of2′ t) = 2
+unfoldable pub annotationOrder′ : DecoratedAnnotation → ℕ
+annotationOrder′ (of1′ s) = 1
+annotationOrder′ (of2′ t) = 2
 
-pub annotation-of1′ : (v : DecoratedAnnotation) → orderOf′ v ≡ 1 → v ≡ of1′ (order1′ v)
-unfolding orderOf′ order1′
+pub annotation-of1′ : (v : DecoratedAnnotation) → annotationOrder′ v ≡ 1 → v ≡ of1′ (order1′ v)
+unfolding annotationOrder′ order1′
 annotation-of1′ (of1′ s) e = refl
 annotation-of1′ (of2′ t) e = absurd (omega arith)
 
-pub annotation-of2′ : (v : DecoratedAnnotation) → orderOf′ v ≡ 2 → v ≡ of2′ (order2′ v)
-unfolding orderOf′ order2′
+pub annotation-of2′ : (v : DecoratedAnnotation) → annotationOrder′ v ≡ 2 → v ≡ of2′ (order2′ v)
+unfolding annotationOrder′ order2′
 annotation-of2′ (of1′ s) e = absurd (omega arith)
 annotation-of2′ (of2′ t) e = refl
 
-pub valueBy-order : (xs : List DecoratedAnnotation) (c : Cell) (f : ℕ → ℕ) → orderOf′ (valueBy decoratedKind xs c f) ≡ cellOrder c
-unfolding orderOf′ valueBy cellOrder
+pub valueBy-order : (xs : List DecoratedAnnotation) (c : Cell) (f : ℕ → ℕ) → annotationOrder′ (valueBy decoratedKind xs c f) ≡ cellOrder c
+unfolding annotationOrder′ valueBy cellOrder
 valueBy-order xs empty1 f = refl
 valueBy-order xs (symbol a u s) f = refl
 valueBy-order xs empty2 f = refl
@@ -83,10 +83,10 @@ valueBy-order xs (above w t) f = refl
 pub bare-at : (cells : List Guided) (n : ℕ) → n < length cells → cellAt (bare cells) n ≡ getD cells n noGuided .cell
 bare-at cells n h = getD-map-below (λ g. g .cell) cells n noGuided empty1 h
 
-pub annotation-order : (cells : List Guided) (n : ℕ) → n < length cells → orderOf′ (annotationAt cells n) ≡ orderAt (bare cells) n
+pub annotation-order : (cells : List Guided) (n : ℕ) → n < length cells → annotationOrder′ (annotationAt cells n) ≡ orderAt (bare cells) n
 unfolding annotationAt orderAt valueOf
 annotation-order cells n h =
-    ap orderOf′ (value-before decoratedKind cells noGuided n h)
+    ap annotationOrder′ (value-before decoratedKind cells noGuided n h)
     ∙ valueBy-order _ (getD cells n noGuided .cell) (getD cells n noGuided .choice) ∙ ap cellOrder (sym (bare-at cells n h))
 
 -- the decorated stack of a cell, by those of the cells that it refers to

@@ -19,7 +19,7 @@ use Rattle.walks.specs.Cell.Values.{valueBy, values, HasValue, makeFrom, rootVa
 use Rattle.walks.specs.Guide.{Guided, Walk, Top, guidedAt, topOn, topOf, choicesAfter, Next, arrived, to, stuck, moved, byDerivation, atTop, next}
 use Rattle.soundness.specs.Decorated.{Decorated1, Decorated2, cons2′, DecoratedAnnotation, of1′, of2′, DecoratedWalk, DecoratedTop, topOf as topOf′, choicesOf, afterDecorated, DecoratedNext, arrived as arrived′, to as to′, stuck as stuck′, leaves, byDerivation as byDerivation′, atTop as atTop′, next as next′}
 use Rattle.guidance.specs.Run.{added}
-use Rattle.guidance.specs.Decoration.{order1′, order2′, decoratedKind, annotationAt, bare, decoratedOf, WalkFormed, orderOf′, annotation-of1′, annotation-of2′, bare-at, annotation-order, annotation-at}
+use Rattle.guidance.specs.Decoration.{order1′, order2′, decoratedKind, annotationAt, bare, decoratedOf, WalkFormed, annotationOrder′, annotation-of1′, annotation-of2′, bare-at, annotation-order, annotation-at}
 
 -- ---- the top
 
@@ -134,8 +134,8 @@ after-annotation collapse2 fs a (of2′ u) s t {v} e = ap of2′ (Option·some-i
 
 -- an operation that leaves a stack takes the annotation's order
 after-takes : (op : Operation) (fs : List (ℕ → ℕ)) (a : ℕ) (u : DecoratedAnnotation) (s : Decorated1) (t : Decorated2) {v : Decorated2}
-    → afterDecorated op fs a u s t ≡ some v → Takes op (orderOf′ u)
-unfolding afterDecorated orderOf′
+    → afterDecorated op fs a u s t ≡ some v → Takes op (annotationOrder′ u)
+unfolding afterDecorated annotationOrder′
 after-takes (rewrite b) fs a u s t e = tt
 after-takes (push1 b) fs a u s t e = tt
 after-takes (push2 b) fs a u s t e = tt
@@ -197,12 +197,12 @@ module _ (rules : List Rule) (T : Saturated) (w : Walk) (F : WalkFormed w) (x : 
       (formed-after (x .a) (F .formed) X (ρ .operation) takes)
 
   pub moved-formed : WalkFormed (moved rules T w x d ρ)
-  unfolding moved added annotationAt orderOf′
+  unfolding moved added annotationAt annotationOrder′
   moved-formed =
       record {
         formed = new-formed;
         root-exists = root-annotation .exists;
-        root-order = sym (annotation-order (old ++ new) root (root-annotation .exists)) ∙ ap orderOf′ (root-annotation .is);
+        root-order = sym (annotation-order (old ++ new) root (root-annotation .exists)) ∙ ap annotationOrder′ (root-annotation .is);
       }
 
   pub moved-decorated : decoratedOf (moved rules T w x d ρ) ≡ record { control = ρ .next; stack = v }

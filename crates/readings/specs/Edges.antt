@@ -1,28 +1,26 @@
 -- The turns of the loop over edges, and what does not depend on the inner edges.
 -- Assumes nothing.
-use Prim.Native.Nat.{ℕ, suc, _+_, _≤_, _<_}
+use Prim.Native.Nat.{ℕ, _+_, _≤_, _<_}
 use mathlib.Core.Bool.{Bool}
 use mathlib.Core.Path.{_≡_, refl, ap, ap₂, sym, _∙_}
-use mathlib.Core.List.{List, [], _∷_}
+use mathlib.Core.List.{List, _∷_}
 use native.Mathlib.Omega.{arith}
-use lib.ListN.{length, getD, length-append}
+use lib.ListN.{length, getD}
 use lib.Dec.{eqb}
 use borrow.Author.Tests.{eq-eqb, ne-eqb}
 use Rattle.words.specs.Sets.{join, single, members}
 use Rattle.words.specs.Sets.Laws.{members-empty}
 use Rattle.words.specs.Lists.{when}
-use Rattle.automata.specs.Automaton.{Automaton, Edge, Entry, noEdge, edges, edgeAt, edgesOf, entryEdges, entryAt, entryOf, entryControl, entrySet}
+use Rattle.automata.specs.Automaton.{Automaton, Edge, noEdge, edges, edgeAt, edgesOf, entryAt, entryOf, entryControl, entrySet}
 use Rattle.automata.specs.Derivation.{Result, Joins, resultOf}
 use Rattle.automata.specs.Saturation.{isResult, held}
 use Rattle.tables.specs.declared.Table.{Table}
-use Rattle.tables.specs.Rows.{rowsIn}
-use Rattle.tables.specs.Rows.Laws.{length-rowsIn}
-use Rattle.tables.specs.Records.{edgeRow, entryRow}
 use Rattle.tables.specs.Held.{automatonOf, tableOf, edgesIn}
 use Rattle.tables.specs.Pending.{pendingIn}
 use Rattle.readings.specs.Offers.{Collects, offerAll}
 use Rattle.readings.specs.Offers.Laws.{OfferedBelow, passed-none, passed-more, passed-all, collects-same, collects-none}
 use Rattle.readings.specs.Readings.{readResults, edgeResults}
+use Rattle.tables.specs.Held.Laws.{length-edgesIn}
 
 -- ---- what does not depend on the inner edges
 
@@ -36,17 +34,6 @@ module _ (z : Table) (inner entries moves : List ℕ) where
       record { collected = c .collected ∙ ap (λ (h : Result → Bool). offerAll h room (pendingIn room n t) xs) held-edges; number = c .number }
 
 -- ---- edges of one state
-
-length-entryEdges : (r : ℕ) (l : List Entry) → length (entryEdges r l) ≡ length l
-unfolding entryEdges
-length-entryEdges r [] = refl
-length-entryEdges r (e ∷ es) = ap suc (length-entryEdges (suc r) es)
-
-pub length-edgesIn : (z : Table) (inner entries : List ℕ) → length (edgesIn z inner entries) ≡ z .edges + z .entries
-length-edgesIn z inner entries =
-    length-append (rowsIn edgeRow (z .edges) inner) (entryEdges (z .inner1) (rowsIn entryRow (z .entries) entries))
-    ∙ ap₂ _+_ (length-rowsIn edgeRow (z .edges) inner)
-    (length-entryEdges (z .inner1) (rowsIn entryRow (z .entries) entries) ∙ length-rowsIn entryRow (z .entries) entries)
 
 -- an edge of state q
 abbrev pub edgesTest : ℕ → Edge → Bool

@@ -19,6 +19,11 @@ mutual
     of1 : Stack1 → Annotation
     of2 : Stack2 → Annotation
 
+-- the order of an annotation
+unfoldable pub annotationOrder : Annotation → ℕ
+annotationOrder (of1 s) = 1
+annotationOrder (of2 t) = 2
+
 -- The eight operations, by rising code; the first three name a symbol b.
 pub data Operation : Type 0 where
   rewrite push1 push2 : ℕ → Operation

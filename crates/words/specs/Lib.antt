@@ -4,3 +4,4 @@ pub mod Sets
 pub mod Lists
 pub mod Order
 pub mod Options
+pub mod Copied

@@ -1,7 +1,7 @@
 -- By the value of a test, and what a test under `&&` or `||` says of its parts.
 -- Assumes nothing.
 use mathlib.Core.Bool.{Bool, true, false, _&&_, _||_, false≢true}
-use mathlib.Core.Path.{_≡_, refl}
+use mathlib.Core.Path.{_≡_, refl, sym}
 use mathlib.Core.Logic.{_⊎_, inl, inr}
 
 -- by the value of a test
@@ -20,3 +20,9 @@ and-right false y e = absurd (false≢true e)
 pub or-cases : (x y : Bool) → x || y ≡ true → (x ≡ true) ⊎ (y ≡ true)
 or-cases true y e = inl refl
 or-cases false y e = inr e
+
+-- two tests of which each says the other
+pub equal-tests : (x y : Bool) → (x ≡ true → y ≡ true) → (y ≡ true → x ≡ true) → x ≡ y
+equal-tests true y f g = sym (f refl)
+equal-tests false true f g = g refl
+equal-tests false false f g = refl

@@ -7,7 +7,8 @@ use Rattle.automata.specs.Automaton.{noEdge}
 use Rattle.tables.specs.Held.{edgesIn}
 use Rattle.acceptance.specs.Words.{edgeMet, statesMet}
 use Rattle.acceptance.specs.Words.Turns.{states-none, states-more, states-all}
-use Rattle.acceptance.specs.Named.Laws.{length-edgesIn, edge-small}
+use Rattle.acceptance.specs.Named.Laws.{edge-small}
+use Rattle.tables.specs.Held.Laws.{length-edgesIn}
 use borrow.Author.Needs.{needs}
 use Rattle.acceptance.proofs.above_word.Statement.{statement}
 use Rattle.acceptance.proofs.above_word.Tie as tie

@@ -4,16 +4,15 @@ use Prim.Native.Nat.{ℕ, _+_, _-_, _<_}
 use mathlib.Core.Path.{_≡_, refl, ap, sym, _∙_, subst}
 use mathlib.Core.List.{List}
 use native.Mathlib.Omega.{arith}
-use lib.ListN.{length, getD, length-append}
+use lib.ListN.{getD}
 use lib.Dec.{ltb}
 use borrow.Author.Tests.{ltb-true, ltb-false}
 use Rattle.words.specs.Tests.{by-test}
-use Rattle.automata.specs.Automaton.{Move, Edge, noEdge, noMove, entryEdges}
-use Rattle.automata.specs.Automaton.Laws.{length-entryEdges}
+use Rattle.automata.specs.Automaton.{Move, Edge, noEdge, noMove}
 use Rattle.tables.specs.declared.Table.{Table}
 use Rattle.tables.specs.Rows.{rowAt, rowsIn}
-use Rattle.tables.specs.Rows.Laws.{length-rowsIn, getD-rowsIn}
-use Rattle.tables.specs.Records.{moveRow, entryRow, edgeRow}
+use Rattle.tables.specs.Rows.Laws.{getD-rowsIn}
+use Rattle.tables.specs.Records.{moveRow, entryRow}
 use Rattle.tables.specs.Held.{edgesIn}
 use Rattle.tables.specs.Held.Laws.{edge-inner, edge-entry}
 use Rattle.acceptance.specs.Named.{MovesNamed, EdgesNamed}
@@ -26,14 +25,6 @@ move-small {i = i} h l e = subst (λ (k : ℕ). k < 64) (ap (λ (x : Move). x .s
 pub move-row : (z : Table) (moves : List ℕ) {i : ℕ} {m : Move} → i < z .moves → m ≡ rowAt moveRow moves i
     → m ≡ getD (rowsIn moveRow (z .moves) moves) i noMove
 move-row z moves {i} l e = e ∙ sym (getD-rowsIn moveRow (z .moves) moves i noMove l)
-
-pub length-edgesIn : (z : Table) (inner entries : List ℕ) → length (edgesIn z inner entries) ≡ z .edges + z .entries
-length-edgesIn z inner entries =
-    let a : length (rowsIn edgeRow (z .edges) inner) ≡ z .edges = length-rowsIn edgeRow (z .edges) inner in
-    let b : length (rowsIn entryRow (z .entries) entries) ≡ z .entries = length-rowsIn entryRow (z .entries) entries in
-    let d = length-entryEdges (z .inner1) (rowsIn entryRow (z .entries) entries) in
-    length-append (rowsIn edgeRow (z .edges) inner) (entryEdges (z .inner1) (rowsIn entryRow (z .entries) entries))
-    ∙ (let e : length (rowsIn edgeRow (z .edges) inner) + length (entryEdges (z .inner1) (rowsIn entryRow (z .entries) entries)) ≡ z .edges + z .entries = omega arith in e)
 
 pub edge-small : (z : Table) (inner entries : List ℕ) (i : ℕ) {e : Edge} → EdgesNamed z inner entries → i < z .edges + z .entries
     → e ≡ getD (edgesIn z inner entries) i noEdge → e .state < 64

@@ -9,18 +9,12 @@ use Rattle.words.specs.Sets.{member, partOf, members}
 use Rattle.words.specs.Sets.Laws.{member-join, member-empty, member-single, has-in, in-has, part-has, has-part}
 use Rattle.words.specs.Lists.{only, every, some-of}
 use Rattle.words.specs.Lists.Laws.{every-in, in-every, only-yes, only-no, some-of-cons}
-use Rattle.words.specs.Tests.{by-test}
+use Rattle.words.specs.Tests.{by-test, equal-tests}
 use Rattle.stacks.specs.Stack.{Stack1, nil1, cons1, Stack2, nil2, cons2, Annotation, of1, of2}
 use Rattle.automata.specs.Automaton.{Automaton, edges}
 use Rattle.automata.specs.Acceptance.{accepts1, accepts2, acceptsAnnotation}
-use Rattle.walks.specs.Cell.Laws.{annotationOrder}
+use Rattle.stacks.specs.Stack.{annotationOrder}
 use Rattle.acceptance.specs.Words.{annotationMet, moveMet, edgeMet, statesMet, word1, word2, wordAnnotation}
-
--- two tests that hold together are equal
-pub equal-tests : (x y : Bool) → (x ≡ true → y ≡ true) → (y ≡ true → x ≡ true) → x ≡ y
-equal-tests true y f g = sym (f refl)
-equal-tests false true f g = g refl
-equal-tests false false f g = refl
 
 -- a set all of whose members pass is a part of the word of those that pass
 pub every-part : (s w : ℕ) (test : ℕ → Bool) → ((q : ℕ) → member w q ≡ test q) → partOf s w ≡ every test (members s)

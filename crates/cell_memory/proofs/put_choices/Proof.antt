@@ -2,7 +2,9 @@
 -- Assumes nothing.
 use Prim.Native.Nat.{_-_}
 use borrow.Author.Needs.{needs}
-use Rattle.cell_memory.specs.Memory.Laws.{Copied, copied-none, copied-more, copied-all}
+use Rattle.words.specs.Copied.{Copied}
+use Rattle.words.specs.Copied.Laws.{copied-none, copied-more}
+use Rattle.cell_memory.specs.Memory.Laws.{choices-copied}
 use Rattle.cell_memory.proofs.put_choices.Statement.{statement}
 use Rattle.cell_memory.proofs.put_choices.Tie as tie
 
@@ -49,7 +51,7 @@ same-length : tie.Need-same-length Inv-loop μ-loop
 same-length c = search needs
 
 returns : tie.Need-returns Inv-loop μ-loop
-returns c = copied-all _ (c .before .loop .inv) (search needs) (search needs)
+returns c = choices-copied _ (c .before .loop .inv) (search needs) (search needs)
 
 pub put-choices-spec : {M : Type 1} → statement M
 put-choices-spec =

@@ -5,10 +5,9 @@ use mathlib.Core.Bool.{true, false}
 use mathlib.Core.Path.{_≡_, refl, ap, ap₂, sym, _∙_, fun-ext}
 use mathlib.Core.List.{List, [], _∷_, _++_, append-assoc}
 use native.Mathlib.Nat.{add-zero}
-use native.Mathlib.Numerals.{add-one}
 use native.Mathlib.Omega.{arith}
 use lib.ListN.{length, getD, take, drop, set, length-set, length-append, length-take, length-drop, getD-replicate, replicate-append-replicate, List·getD-append, List·getD-eq-default}
-use lib.Seq.{sets, sets-eq, length-sets, paste, paste-zero, paste-suc, take-length, length-take-le, take-at, drop-at, drop-drop, drop-append-add, getD-set-same, getD-set-other, getD-take, getD-drop, getD-append-add}
+use lib.Seq.{sets, sets-eq, length-sets, length-take-le, take-at, drop-at, drop-drop, drop-append-add, getD-set-same, getD-set-other, getD-take, getD-drop, getD-append-add}
 use lib.Dec.{eqb, ltb}
 use borrow.Author.Tests.{ne-eqb, eqb-true, eqb-false, ltb-true, ltb-false}
 use Rattle.words.specs.Lists.{zeros}
@@ -19,6 +18,8 @@ use Rattle.walks.specs.Guide.{Guided, noGuided}
 use Rattle.cell_memory.specs.declared.Cell.{Cell}
 use Rattle.cell_memory.specs.declared.Cell.the-variants.{Empty1, Symbol, Empty2, Above}
 use Rattle.cell_memory.specs.Memory.{cellOf, valueOf, ofKind, cellIn, choicesIn, choiceIn, guidedCell, guidedIn, fields, withCell, withChoice, withChoices}
+use Rattle.words.specs.Copied.{Copied}
+use Rattle.words.specs.Copied.Laws.{copied-sets}
 
 -- ---- cells by value
 
@@ -273,32 +274,10 @@ module _ (ws : List ℕ) (i : ℕ) where
 
 -- ---- the loop that copies choices
 
--- the first q words of ns stand from `at` on
-pub record Copied (ws₀ : List ℕ) (at : ℕ) (ns : List ℕ) (q : ℕ) (ws : List ℕ) : Type 0 where
-  pub below : q ≤ length ns
-  pub written : ws ≡ paste ws₀ at ns q
-  pub long : length ws ≡ length ws₀
-
-pub copied-none : (ws : List ℕ) (at : ℕ) (ns : List ℕ) → Copied ws at ns 0 ws
-copied-none ws at ns = record { below = omega arith; written = paste-zero ws at ns; long = refl }
-
-pub copied-more : {ws₀ ws ns : List ℕ} {at q : ℕ} → Copied ws₀ at ns q ws → at + q < length ws₀ → q < length ns
-    → Copied ws₀ at ns (q + 1) (set ws (at + q) (getD ns q 0))
-copied-more {ws₀} {ws} {ns} {at} {q} h l l′ =
-    record {
-      below = omega arith;
-      written = ap (λ (r : List ℕ). set r (at + q) (getD ns q 0)) (h .written) ∙ paste-suc ws₀ at ns q 0 l l′ ∙ ap (paste ws₀ at ns) (sym (add-one q));
-      long = length-set ws (at + q) (getD ns q 0) ∙ h .long;
-    }
-
-pub copied-all : {ws₀ ws ns : List ℕ} {q : ℕ} (i : ℕ) → Copied ws₀ (i * 68 + 4) ns q ws → length ns ≤ q → i * 68 + 4 + length ns ≤ length ws₀
+pub choices-copied : {ws₀ ws ns : List ℕ} {q : ℕ} (i : ℕ) → Copied ws₀ (i * 68 + 4) ns q ws → length ns ≤ q → i * 68 + 4 + length ns ≤ length ws₀
     → ws ≡ withChoices ws₀ i ns
 unfolding withChoices
-copied-all {ws₀} {ws} {ns} {q} i h l fits =
-    let z : q ≡ length ns = omega (arith, h .below) in
-    h .written ∙ ap (paste ws₀ (i * 68 + 4) ns) z
-    ∙ ap (λ (r : List ℕ). take (i * 68 + 4) ws₀ ++ r ++ drop (i * 68 + 4 + length ns) ws₀) (take-length ns)
-    ∙ sym (sets-eq ns ws₀ (i * 68 + 4) (omega arith))
+choices-copied i h l fits = copied-sets h l fits
 
 -- ---- a cell is written as 68 zeros, and then its fields
 

@@ -20,7 +20,8 @@ use Rattle.files.specs.Bytes.{placed, countOf, offsetOf, recordsOf}
 use Rattle.files.specs.Bytes.Laws.{numbered, unrefused, bodies-first, bodies-end, placed-first, placed-bodies, length-recordsOf}
 use Rattle.files.specs.Case.{caseBodies, head, headRight, RuleBytes, ruleRight, ruleOf, ruleRecords, EdgeBytes, edgeBytes, edgeRight, edgeKey, edgeRecords, entriesOf, innerEdges, moveOf, moveRight, moveKey, moveRecords, states1, recordsRight, caseTests, caseRefusal, ownOf, rulesOf}
 use Rattle.files.specs.Case.Records.{HeadBounds, head-bounds, RuleBounds, rule-bounds, EdgeBounds, edge-bounds, MoveBounds, move-bounds}
-use Rattle.files.specs.Case.Records.{rising-once, entries-out, entries-rising, inner-out, inner-edges-rising}
+use Rattle.files.specs.Case.Records.{entries-out, entries-rising, inner-out, inner-edges-rising}
+use Rattle.words.specs.Order.Rising.{rising-once}
 
 -- ---- the places of the bodies
 

@@ -3,22 +3,21 @@
 use Prim.Native.Nat.{ℕ, zero, suc, _+_, _<_, _≤_}
 use mathlib.Core.Bool.{Bool, true, false, not, _&&_, false≢true}
 use mathlib.Core.Path.{_≡_, refl, ap, sym, _∙_}
-use mathlib.Core.Logic.{_⊎_, inl, inr, ⊎-elim}
-use mathlib.Core.List.{List, [], _∷_, map, List·Memᴰ, List·Memᴰ·head, List·Memᴰ·tail, Memᴰ·of-map}
-use native.Mathlib.Nat.{not-suc-le-zero, le-of-suc-le-suc}
+use mathlib.Core.Logic.{⊎-elim}
+use mathlib.Core.List.{List, [], _∷_, map, List·Memᴰ, Memᴰ·of-map}
 use native.Mathlib.Omega.{arith}
-use lib.ListN.{length, getD}
 use lib.Dec.{eqb, ltb, leb}
 use borrow.Author.Tests.{eqb-true, eqb-false, ltb-true, ltb-false, leb-true, lt-ltb, le-ltb, not-true}
 use Rattle.words.specs.Sets.Laws.{All, has-in}
 use Rattle.words.specs.Lists.{only}
-use Rattle.words.specs.Lists.Laws.{every-in, only-out, getD-in}
+use Rattle.words.specs.Lists.Laws.{every-in, only-out}
 use Rattle.words.specs.Tests.{and-left, and-right}
-use Rattle.words.specs.Order.{less, rising, risingFrom}
-use Rattle.words.specs.Order.Laws.{less-cons, less-lt, less-eq, less-differs, one-less, number-cases}
-use Rattle.words.specs.Order.Laws.{risingFrom-less, less-risingFrom, rising-tail, rising-only, rising-map, sorted-rising, sorted-out}
+use Rattle.words.specs.Order.{less, rising}
+use Rattle.words.specs.Order.Laws.{less-cons, less-lt, less-eq, one-less}
+use Rattle.words.specs.Order.Laws.{rising-only, rising-map, sorted-rising, sorted-out}
 use Rattle.automata.specs.Automaton.{Move, Edge, Entry, choiceKey, entryKey}
 use Rattle.files.specs.Case.{Head, inner1, inner2, headRight, RuleBytes, ruleRight, EdgeBytes, edgeRight, edgeKey, entriesOf, innerEdges, annotationRight, moveRight}
+use Rattle.words.specs.Order.Rising.{rising-other}
 
 -- ---- sets of inner states
 
@@ -195,37 +194,6 @@ move-bounds h n m e =
       annotation = annotation-bounds h (m .order) (m .B) (and-right b _ ec);
       rest-inner = inner1-all h (m .R) (and-right c _ e);
     }
-
--- ---- rising lists
-
--- keys that fall under another order keep the list rising
-pub rising-other : {A : Type 0} (key other : A → List ℕ) (l : List A)
-    → ((x y : A) → List·Memᴰ x l → List·Memᴰ y l → less (key x) (key y) ≡ true → less (other x) (other y) ≡ true)
-    → rising key l ≡ true → rising other l ≡ true
-unfolding rising risingFrom
-rising-other key other [] h r = refl
-rising-other key other (x ∷ l) h r = less-risingFrom other x l
-    (λ y j. h x y (List·Memᴰ·head refl) (List·Memᴰ·tail j) (risingFrom-less key x l r j))
-    (rising-other key other l (λ y z i j. h y z (List·Memᴰ·tail i) (List·Memᴰ·tail j)) (rising-tail key x l r))
-
--- an element of a rising list is before those of higher number
-pub rising-before : {A : Type 0} (key : A → List ℕ) (l : List A) (d : A) (i j : ℕ) → rising key l ≡ true → i < j → j < length l
-    → less (key (getD l i d)) (key (getD l j d)) ≡ true
-unfolding rising
-rising-before key [] d i j r h k = absurd (not-suc-le-zero k)
-rising-before key (x ∷ l) d i zero r h k = absurd (not-suc-le-zero h)
-rising-before key (x ∷ l) d zero (suc j) r h k = risingFrom-less key x l r (getD-in l j d (le-of-suc-le-suc k))
-rising-before key (x ∷ l) d (suc i) (suc j) r h k = rising-before key l d i j (rising-tail key x l r) (le-of-suc-le-suc h) (le-of-suc-le-suc k)
-
--- a rising list holds no key twice
-pub rising-once : {A : Type 0} (key : A → List ℕ) (l : List A) (d : A) (i j : ℕ) → rising key l ≡ true → i < length l → j < length l
-    → key (getD l i d) ≡ key (getD l j d) → i ≡ j
-rising-once key l d i j r hi hj e = go (number-cases i j)
-  where
-    go : (i < j) ⊎ ((i ≡ j) ⊎ (j < i)) → i ≡ j
-    go (inl k) = absurd (less-differs (key (getD l i d)) (key (getD l j d)) (rising-before key l d i j r k hj) e)
-    go (inr (inl q)) = q
-    go (inr (inr k)) = absurd (less-differs (key (getD l j d)) (key (getD l i d)) (rising-before key l d j i r k hi) (sym e))
 
 -- ---- entries and inner edges
 

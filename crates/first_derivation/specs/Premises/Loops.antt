@@ -20,6 +20,7 @@ use Rattle.tables.specs.Rows.{rowAt, rowsIn}
 use Rattle.tables.specs.Rows.Laws.{length-rowsIn, getD-rowsIn}
 use Rattle.tables.specs.Records.{moveRow, entryRow}
 use Rattle.tables.specs.Held.{automatonOf, tableOf}
+use Rattle.tables.specs.Held.Laws.{row-move}
 use Rattle.first_reading.specs.First.{onlyIf, isSome, firstBelow}
 use Rattle.first_reading.specs.First.Laws.{onlyIf-yes, onlyIf-no, atPlace, firstOf-places}
 use Rattle.first_reading.specs.Answer.{Answers, NotFoundBelow, Unchanged}
@@ -78,8 +79,7 @@ module _ (z : Table) (inner entries moves : List ℕ) (a : ℕ) (x : Result) (op
 
   module _ (i : ℕ) (below : i < z .moves) (m : Move) (is : m ≡ rowAt moveRow moves i) where
     move-is : m ≡ moveAt A i
-    unfolding moveAt
-    move-is = is ∙ sym (getD-rowsIn moveRow (z .moves) moves i noMove below)
+    move-is = row-move z inner entries moves i m below is
 
     gives-is : moveGives A a x op p′ b i ≡ onlyIf (eqb (m .symbol) b && entryOf A p′ (m .state)) (Option·map (withPremise i) (byMove A a x op i))
     unfolding moveGives

@@ -10,13 +10,13 @@ use Rattle.words.specs.Sets.{join, members}
 use Rattle.words.specs.Sets.Laws.{join-empty-left}
 use Rattle.words.specs.Order.{same}
 use Rattle.stacks.specs.Stack.{Operation, rewrite, push1, push2, copy, pop1, pop2, collapse1, collapse2}
-use Rattle.automata.specs.Automaton.{Automaton, Move, noMove, moveAt, entryAt, entrySet}
+use Rattle.automata.specs.Automaton.{Automaton, Move, moveAt, entryAt, entrySet}
 use Rattle.automata.specs.Derivation.{Result, joinsOf, named}
 use Rattle.tables.specs.declared.Table.{Table}
 use Rattle.tables.specs.Rows.{rowAt}
-use Rattle.tables.specs.Rows.Laws.{getD-rowsIn}
 use Rattle.tables.specs.Records.{moveRow}
 use Rattle.tables.specs.Held.{automatonOf, tableOf}
+use Rattle.tables.specs.Held.Laws.{row-move}
 use Rattle.first_reading.specs.First.{onlyIf, isSome}
 use Rattle.first_reading.specs.Answer.{writtenAll, Answer, Answers}
 use Rattle.first_reading.specs.Answer.Laws.{answer-eq, answer-by, answer-still, answers-none}
@@ -39,8 +39,7 @@ module _ (z : Table) (inner entries moves : List ℕ) (a : ℕ) (x : Result) (i 
   A = automatonOf z inner entries moves
 
   move-is : m ≡ moveAt A i
-  unfolding moveAt
-  move-is = is ∙ sym (getD-rowsIn moveRow (z .moves) moves i noMove below)
+  move-is = row-move z inner entries moves i m below is
 
   set-is : S ≡ entrySet A (moveAt A i .state)
   unfolding entrySet entryAt

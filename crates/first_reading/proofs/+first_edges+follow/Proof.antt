@@ -15,7 +15,7 @@ use Rattle.first_reading.specs.Answer.{NotFoundBelow, Unchanged}
 use Rattle.first_reading.specs.Answer.Laws.{answers-none, answers-is, answers-eq, answers-fails, answers-from, same-refl, same-after, passed-none, passed-more, passed-hit, passed-all}
 use Rattle.joins.specs.Joining.{asJoins}
 use Rattle.first_reading.specs.Words.{followed}
-use Rattle.first_reading.specs.Words.Reading.{fewer}
+use Rattle.words.specs.Lists.Laws.{fewer-left}
 use Rattle.first_reading.specs.Words.Edges.{base-other, base-answers, followed-other, followed-no-part, followed-yes, followed-no, edges-below, states-edges}
 use borrow.Fn.Kinds.{In}
 use borrow.Fn.PlainCycle.{Measures, is, falls, and}
@@ -140,7 +140,7 @@ first-edges-follow-requires : (t : ℕ) → first-edges-lts.Need-follow-requires
   follow-below t,
   follow.Post,
 ) (first-edges-at t) first-edges.Post first-edges-Inv-loop first-edges-μ-loop
-first-edges-follow-requires t c κs = (fewer _ _ _ _ (c .before .before .before .before .before .least-member .ensures .0) (c .before .before .before .before .before .before .before .before .before .before .before .before .pre .0), search needs)
+first-edges-follow-requires t c κs = (fewer-left _ _ _ _ (c .before .before .before .before .before .least-member .ensures .0) (c .before .before .before .before .before .before .before .before .before .before .before .before .pre .0), search needs)
 
 first-edges-same-length-2 : (t : ℕ) → first-edges-lts.Need-same-length-2 (
   first-reading-reads.Asked,

@@ -12,7 +12,8 @@ use Rattle.first_reading.specs.Answer.{NotFoundBelow, Unchanged}
 use Rattle.first_reading.specs.Answer.Laws.{answer-none, answer-is, answer-eq, answer-fails, answer-from, answer-states, same-refl, same-after, passed-none, passed-more, passed-hit, passed-all}
 use Rattle.joins.specs.Joining.{theJoins, asJoined}
 use Rattle.first_reading.specs.Words.{movesIn, tried}
-use Rattle.first_reading.specs.Words.Reading.{answer-base, reading-below, fewer, tried-nothing, tried-yes, tried-no}
+use Rattle.words.specs.Lists.Laws.{fewer-left}
+use Rattle.first_reading.specs.Words.Reading.{answer-base, reading-below, tried-nothing, tried-yes, tried-no}
 use borrow.Fn.Kinds.{In}
 use borrow.Fn.PlainCycle.{Measures, is, falls, and}
 use Rattle.first_reading.proofs.first_reading.Reads as first-reading
@@ -97,7 +98,7 @@ first-reading-loop-holds : (t : ℕ) → first-reading-lts.Need-loop-holds (firs
 first-reading-loop-holds t c = (passed-none, same-refl _)
 
 first-reading-read-with-requires : (t : ℕ) → first-reading-lts.Need-read-with-requires (first-reading-claims t) (first-reading-at t) first-reading.Post first-reading-Inv-loop first-reading-μ-loop
-first-reading-read-with-requires t c κs = (fewer _ _ _ _ (c .before .before .before .least-member .ensures .0) (c .before .before .before .before .before .before .before .pre .0), search needs)
+first-reading-read-with-requires t c κs = (fewer-left _ _ _ _ (c .before .before .before .least-member .ensures .0) (c .before .before .before .before .before .before .before .pre .0), search needs)
 
 first-reading-same-length : (t : ℕ) → first-reading-lts.Need-same-length (first-reading-claims t) (first-reading-at t) first-reading.Post first-reading-Inv-loop first-reading-μ-loop
 first-reading-same-length t c = search needs

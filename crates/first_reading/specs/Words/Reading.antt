@@ -1,12 +1,11 @@
 -- The search for the first reading, as the code goes: the base, one move tried, and the loop over the moves of the least state.
 -- Assumes nothing.
-use Prim.Native.Nat.{ℕ, suc, _+_, _*_, _<_}
+use Prim.Native.Nat.{ℕ, _<_}
 use mathlib.Core.Bool.{Bool, true, false, _&&_}
 use mathlib.Core.Path.{_≡_, refl, ap, sym, _∙_}
 use mathlib.Core.Option.{Option, none, some, Option·map}
 use mathlib.Core.List.{List, [], _∷_}
-use native.Mathlib.Omega.{arith}
-use lib.ListN.{length, getD, set}
+use lib.ListN.{getD, set}
 use lib.Dec.{eqb}
 use Rattle.words.specs.Sets.{members}
 use Rattle.words.specs.Sets.Laws.{members-empty}
@@ -102,7 +101,3 @@ reading-below n moves a goal left q qs j e =
     ∙ firstReading-cons (movesIn n moves) a goal q qs j
     ∙ firstOf-places (λ m. eqb (m .state) q && eqb (m .symbol) a) (rowsIn moveRow n moves) noMove _
     ∙ ap (λ (k : ℕ). firstBelow k (tried (movesIn n moves) a goal q qs j)) (length-rowsIn moveRow n moves)
-
--- the measure falls with the members left
-pub fewer : (l qs : List ℕ) (q m : ℕ) → l ≡ q ∷ qs → length l * 2 ≡ m → length qs * 2 + 1 < m
-fewer l qs q m e h = let k : length l ≡ suc (length qs) = ap length e in omega arith

@@ -42,6 +42,7 @@ use Rattle.guided_step.specs.Earlier.{tableUpTo}
 use Rattle.guided_step.specs.Earlier.Laws.{table-upTo, upTo-stands, result-table}
 use Rattle.guided_step.specs.Step.{saturatedIn, Small, Taken, Gives, AtTop, NextIs}
 use Rattle.guided_step.specs.Step.Chosen.{holds-kept, Sized, says-small}
+use Rattle.first_derivation.specs.Derived.Choices.{operation-is}
 
 -- ---- the table before a move's round
 
@@ -73,11 +74,6 @@ module _ (z : Table) (inner entries moves : List ℕ) (k : ℕ) (sizes : List �
       (subst (λ (u : Result). FindsFirst (automatonOf b inner entries moves) rules u r es₀ es ms₀ ms) y h)
 
 -- ---- the step at a top
-
--- the operation of a rule that is there
-operation-is : (rules : List Rule) (n : ℕ) {ρ : Rule} → getElem? rules n ≡ some ρ → operationBy rules n ≡ ρ .operation
-unfolding operationBy
-operation-is rules n e = rw (operationBy, e)
 
 module _ (rules : List Rule) (T : Saturated) (x : Top) (i : ℕ) where
   abbrev X : Result

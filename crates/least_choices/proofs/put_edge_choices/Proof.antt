@@ -4,7 +4,8 @@ use Prim.Native.Nat.{_-_, _≤_}
 use Rattle.automata.specs.Automaton.{noEdge}
 use Rattle.tables.specs.Held.{edgesIn}
 use Rattle.acceptance.specs.Words.{edgeMet}
-use Rattle.acceptance.specs.Named.Laws.{length-edgesIn, edge-small}
+use Rattle.acceptance.specs.Named.Laws.{edge-small}
+use Rattle.tables.specs.Held.Laws.{length-edgesIn}
 use Rattle.least_choices.specs.Choices.Laws.{Looked, looked-none, looked-more, looked-all}
 use borrow.Author.Needs.{needs}
 use Rattle.least_choices.proofs.put_edge_choices.Statement.{statement}

@@ -15,7 +15,8 @@ use Rattle.automata.specs.Automaton.{Automaton, Move, Edge, noMove, noEdge, edg
 use Rattle.automata.specs.Acceptance.{accepts1, accepts2, moveFits, edgeFits}
 use Rattle.walks.specs.Cell.{Cell, empty1, symbol, empty2, above, stacks, stackAt, stackOf, order1, order2}
 use Rattle.walks.specs.Cell.Formed.{Formed, Refers, cellAt, orderAt}
-use Rattle.walks.specs.Cell.Laws.{annotationOrder, annotation-of1, annotation-of2, stack-at, stack-order}
+use Rattle.walks.specs.Cell.Laws.{annotation-of1, annotation-of2, stack-at, stack-order}
+use Rattle.stacks.specs.Stack.{annotationOrder}
 use Rattle.walks.specs.Guide.{Guided, leastChoice}
 use Rattle.tables.specs.declared.Table.{Table}
 use Rattle.tables.specs.Rows.{rowsIn}
@@ -27,7 +28,8 @@ use Rattle.cell_memory.specs.Memory.Laws.{cellOf-valueOf, length-withCell, with
 use Rattle.acceptance.specs.Words.{moveMet, edgeMet, word1, word2, wordAnnotation}
 use Rattle.acceptance.specs.Words.Laws.{every-part, word1-member, word2-member, annotation-met}
 use Rattle.acceptance.specs.Named.{TablesNamed}
-use Rattle.acceptance.specs.Named.Laws.{move-small, length-edgesIn, edge-small}
+use Rattle.acceptance.specs.Named.Laws.{move-small, edge-small}
+use Rattle.tables.specs.Held.Laws.{length-edgesIn}
 use Rattle.acceptance.specs.Cells.{cellWords, annotationOrderAt}
 use Rattle.acceptance.specs.Cells.Laws.{cell-accepts1, cell-accepts2}
 use Rattle.least_choices.specs.Choices.{leastMet}

@@ -12,7 +12,8 @@ use Rattle.readings.specs.Offers.Laws.{collects-over}
 use Rattle.readings.specs.Edges.{EdgesUpTo, edges-none, edges-yes, edges-no, edges-all, edges-left, edges-end}
 use Rattle.readings.specs.Memo.{MemoHolds}
 use Rattle.readings.specs.Memo.Laws.{edges-gives, memo-same, memo-found, memo-more}
-use Rattle.readings.specs.Turns.Laws.{fewer-left}
+use Rattle.words.specs.Lists.Laws.{fewer-left}
+use Rattle.readings.specs.Turns.Laws.{}
 use borrow.Author.Needs.{needs}
 use borrow.Fn.Kinds.{In}
 use borrow.Fn.PlainCycle.{Measures, is, falls, and}

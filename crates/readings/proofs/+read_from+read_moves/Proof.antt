@@ -13,7 +13,8 @@ use Rattle.readings.specs.Edges.{collects-edges}
 use Rattle.readings.specs.Memo.{MemoHolds}
 use Rattle.readings.specs.Memo.Laws.{read-gives, memo-same, memo-later, memo-found, memo-more}
 use Rattle.readings.specs.Turns.{ReadUpTo}
-use Rattle.readings.specs.Turns.Laws.{read-none, read-yes, read-no, read-all, read-left, read-end, fewer-left}
+use Rattle.words.specs.Lists.Laws.{fewer-left}
+use Rattle.readings.specs.Turns.Laws.{read-none, read-yes, read-no, read-all, read-left, read-end}
 use borrow.Author.Needs.{needs}
 use borrow.Fn.Kinds.{In}
 use borrow.Fn.PlainCycle.{Measures, is, falls, and}

@@ -1,6 +1,6 @@
 -- Laws of the definitions in Turns.antt.
 -- Assumes nothing.
-use Prim.Native.Nat.{ℕ, suc, _+_, _*_, _≤_, _<_}
+use Prim.Native.Nat.{ℕ, _+_, _≤_, _<_}
 use mathlib.Core.Path.{_≡_, refl, ap, sym, _∙_}
 use mathlib.Core.Option.{Option, none, some}
 use mathlib.Core.List.{List, [], _∷_}
@@ -86,7 +86,3 @@ read-end z inner entries moves p a S order B R x left room n k t t′ e f c =
     collects-same
     (ap (λ (y : ResultWords). asResult y ∷ []) f ∙ ap (λ (l : List ℕ). readResults (automatonOf z inner entries moves) p a S l (theJoins order B R)) (sym (ap members e ∙ members-empty)))
     (collects-edges z inner entries moves c)
-
--- fewer states are left, twice their number and one more where one of them is set apart
-pub fewer-left : (l rs : List ℕ) (r m : ℕ) → l ≡ r ∷ rs → length l * 2 ≡ m → length rs * 2 + 1 < m
-fewer-left l rs r m e h = let k : length l ≡ suc (length rs) = ap length e in omega arith

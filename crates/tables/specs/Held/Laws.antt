@@ -1,39 +1,35 @@
 -- What holds of the automaton that three tables hold.
 -- Assumes nothing.
-use Prim.Native.Nat.{ℕ, zero, suc, _+_, _-_, _≤_, _<_}
+use Prim.Native.Nat.{ℕ, _+_, _-_, _≤_, _<_}
 use mathlib.Core.Bool.{false}
-use mathlib.Core.Path.{_≡_, ap, sym, _∙_, subst}
+use mathlib.Core.Path.{_≡_, ap, ap₂, sym, _∙_, subst}
 use mathlib.Core.Option.{Option, none, some}
-use mathlib.Core.List.{List, [], _∷_}
-use native.Mathlib.Nat.{add-zero}
+use mathlib.Core.List.{List}
 use native.Mathlib.Omega.{arith}
-use lib.ListN.{length, getD, List·getD-append, List·getD-eq-default}
+use lib.ListN.{length, getD, length-append, List·getD-append, List·getD-eq-default}
 use lib.Seq.{getD-append-add}
 use borrow.Author.Tests.{le-leb, lt-leb}
 use Rattle.words.specs.Lists.Laws.{getElem?-below, getElem?-past}
-use Rattle.automata.specs.Automaton.{Automaton, Move, Edge, Entry, noMove, noEdge, noEntry, entryEdges, entryAt, entryOf, entryControl, entrySet}
-use Rattle.automata.specs.Automaton.Laws.{entryAt-control, entryAt-set}
+use Rattle.automata.specs.Automaton.{Automaton, Move, Edge, Entry, noMove, noEdge, noEntry, moveAt, entryEdges, entryAt, entryOf, entryControl, entrySet}
+use Rattle.automata.specs.Automaton.Laws.{entryAt-control, entryAt-set, entryEdges-at, length-entryEdges}
 use Rattle.tables.specs.declared.Table.{Table}
 use Rattle.tables.specs.Rows.{rowAt, rowsIn}
 use Rattle.tables.specs.Rows.Laws.{length-rowsIn, getD-rowsIn}
 use Rattle.tables.specs.Records.{moveRow, entryRow, edgeRow}
-use Rattle.tables.specs.Held.{tableOf, edgesIn, entryFor, EdgesStand}
+use Rattle.tables.specs.Held.{automatonOf, tableOf, edgesIn, entryFor, EdgesStand}
 
 -- ---- edges by number
-
-pub getD-entryEdges : (r : ℕ) (l : List Entry) (k : ℕ) → k < length l
-    → getD (entryEdges r l) k noEdge ≡ record { state = getD l k noEntry .control; first = r + k; S = getD l k noEntry .S }
-unfolding entryEdges
-getD-entryEdges r [] k h = absurd (omega arith)
-getD-entryEdges r (e ∷ es) zero h = ap (λ (n : ℕ). record { state = e .control; first = n; S = e .S }) (sym (add-zero r))
-getD-entryEdges r (e ∷ es) (suc k) h =
-    getD-entryEdges (suc r) es k (omega arith)
-    ∙ ap (λ (n : ℕ). record { state = getD es k noEntry .control; first = n; S = getD es k noEntry .S }) (let z : suc r + k ≡ r + suc k = omega arith in z)
 
 pub first-small : (z : Table) (inner : List ℕ) (n : ℕ) (e : Edge) → EdgesStand z inner → n < z .edges → e ≡ rowAt edgeRow inner n → e .first < 64
 first-small z inner n e h l q = subst (λ (k : ℕ). k < 64) (ap (λ (x : Edge). x .first) (sym q)) (h .firsts-small n l)
 
 module _ (z : Table) (inner entries : List ℕ) where
+  pub length-edgesIn : length (edgesIn z inner entries) ≡ z .edges + z .entries
+  length-edgesIn =
+      length-append (rowsIn edgeRow (z .edges) inner) (entryEdges (z .inner1) (rowsIn entryRow (z .entries) entries))
+      ∙ ap₂ _+_ (length-rowsIn edgeRow (z .edges) inner)
+      (length-entryEdges (z .inner1) (rowsIn entryRow (z .entries) entries) ∙ length-rowsIn entryRow (z .entries) entries)
+
   pub edge-inner : (n : ℕ) → n < z .edges → rowAt edgeRow inner n ≡ getD (edgesIn z inner entries) n noEdge
   edge-inner n h =
       let len : length (rowsIn edgeRow (z .edges) inner) ≡ z .edges = length-rowsIn edgeRow (z .edges) inner in
@@ -54,8 +50,15 @@ module _ (z : Table) (inner entries : List ℕ) where
       sym
       (ap (λ (i : ℕ). getD (edgesIn z inner entries) i noEdge) at
       ∙ getD-append-add inside (entryEdges (z .inner1) es) k noEdge
-      ∙ getD-entryEdges (z .inner1) es k (omega arith)
+      ∙ entryEdges-at (z .inner1) es k (omega arith)
       ∙ ap (λ (x : Entry). record { state = x .control; first = z .inner1 + k; S = x .S }) is)
+
+-- ---- a move by number
+
+pub row-move : (z : Table) (inner entries moves : List ℕ) (i : ℕ) (m : Move) → i < z .moves → m ≡ rowAt moveRow moves i
+    → m ≡ moveAt (automatonOf z inner entries moves) i
+unfolding moveAt
+row-move z inner entries moves i m below is = is ∙ sym (getD-rowsIn moveRow (z .moves) moves i noMove below)
 
 -- ---- the entry that an order-1 state is
 

@@ -2,8 +2,9 @@
 -- Assumes nothing.
 use Prim.Native.Nat.{_-_}
 use lib.ListN.{length}
-use Rattle.text.specs.Written.{Copied}
-use Rattle.text.specs.Written.Laws.{copied-none, copied-more, copied-all}
+use Rattle.words.specs.Copied.{Copied}
+use Rattle.words.specs.Copied.Laws.{copied-none, copied-more}
+use Rattle.text.specs.Written.Laws.{written-copied}
 use borrow.Author.Needs.{needs}
 use Rattle.text.proofs.put_text.Statement.{statement}
 use Rattle.text.proofs.put_text.Tie as tie
@@ -33,7 +34,7 @@ loop-less : tie.Need-loop-less Inv-loop μ-loop
 loop-less c = search needs
 
 loop-again : tie.Need-loop-again Inv-loop μ-loop
-loop-again c = copied-more (c .before .before .loop .inv) (search needs)
+loop-again c = copied-more (c .before .before .loop .inv) (search needs) (search needs)
 
 add-result : tie.Need-add-result Inv-loop μ-loop
 add-result c = search needs
@@ -42,7 +43,7 @@ same-length : tie.Need-same-length Inv-loop μ-loop
 same-length c = search needs
 
 returns : tie.Need-returns Inv-loop μ-loop
-returns c = copied-all (c .before .loop .inv) (search needs)
+returns c = written-copied (c .before .loop .inv) (search needs) (search needs)
 
 pub put-text-spec : {M : Type 1} → statement M
 put-text-spec =

@@ -1,14 +1,15 @@
 -- Laws of the definitions in Written.antt.
 -- Assumes nothing.
-use Prim.Native.Nat.{ℕ, suc, _+_, _≤_, _<_}
-use mathlib.Core.Path.{_≡_, refl, ap, sym, _∙_}
+use Prim.Native.Nat.{ℕ, suc, _+_, _≤_}
+use mathlib.Core.Path.{_≡_, ap, sym, _∙_}
 use mathlib.Core.List.{List, [], _∷_, _++_}
 use native.Mathlib.Nat.{add-zero, add-assoc}
-use native.Mathlib.Numerals.{add-one}
 use native.Mathlib.Omega.{arith}
-use lib.ListN.{length, getD, take, drop, set, length-append, length-set}
-use lib.Seq.{sets, sets-eq, length-sets, length-take-le, take-all, take-suc}
-use Rattle.text.specs.Written.{Written, Copied}
+use lib.ListN.{length, take, drop, set, length-append}
+use lib.Seq.{sets, sets-eq, length-sets, length-take-le}
+use Rattle.text.specs.Written.{Written}
+use Rattle.words.specs.Copied.{Copied}
+use Rattle.words.specs.Copied.Laws.{copied-sets}
 
 -- ---- one text after another
 
@@ -47,18 +48,8 @@ pub written-same : {before a b after : List ℕ} {at end : ℕ} → a ≡ b → 
 written-same {before} {a} {b} {after} {at} {end} e h =
     record { place = h .place ∙ ap (λ (l : List ℕ). at + length l) e; is = h .is ∙ ap (sets before at) e }
 
-pub copied-none : (l : List ℕ) (at : ℕ) (s : List ℕ) → Copied l at s 0 l
-copied-none l at s = record { within = omega arith; written = record { place = refl; is = refl }; long = refl }
-
-pub copied-more : {l m s : List ℕ} {at i : ℕ} → Copied l at s i m → i < length s → Copied l at s (i + 1) (set m (at + i) (getD s i 0))
-copied-more {l} {m} {s} {at} {i} h more =
-    let byte : Written m (at + i) (getD s i 0 ∷ []) (set m (at + i) (getD s i 0)) (at + (i + 1)) =
-    record { place = sym (add-assoc at i 1); is = refl } in
-    record {
-      within = omega arith;
-      written = written-same (sym (take-suc s i 0 more) ∙ ap (λ (k : ℕ). take k s) (sym (add-one i))) (written-then (h .written) byte);
-      long = length-set m (at + i) (getD s i 0) ∙ h .long;
-    }
-
-pub copied-all : {l m s : List ℕ} {at i : ℕ} → Copied l at s i m → length s ≤ i → Written l at s m (at + i)
-copied-all {s = s} {i = i} h all = written-same (take-all i s all) (h .written)
+-- a text that was copied
+pub written-copied : {l m s : List ℕ} {at i : ℕ} → Copied l at s i m → length s ≤ i → at + length s ≤ length l → Written l at s m (at + i)
+written-copied {l} {m} {s} {at} {i} h all fits =
+    let z : i ≡ length s = omega (arith, h .within) in
+    record { place = ap (λ (k : ℕ). at + k) z; is = copied-sets h all fits }

@@ -7,7 +7,7 @@ use mathlib.Core.Option.{some, Option·some-injective, Option·none-ne-some}
 use mathlib.Core.List.{List, [], _∷_, _++_, map}
 use native.Mathlib.Omega.{arith}
 use lib.ListN.{length, getD, take}
-use Rattle.stacks.specs.Stack.{Stack1, nil1, cons1, Stack2, nil2, cons2, Annotation, of1, of2, after, newCells}
+use Rattle.stacks.specs.Stack.{Stack1, nil1, cons1, Stack2, nil2, cons2, Annotation, of1, of2, annotationOrder, after, newCells}
 use Rattle.stacks.specs.Stack.{Operation, rewrite, push1, push2, copy, pop1, pop2, collapse1, collapse2}
 use Rattle.walks.specs.Cell.{Cell, empty1, symbol, empty2, above, order1, order2, stackAt, stackOf, stacksFrom, stacks, cellsAfter, rootAfter}
 use Rattle.walks.specs.Cell.Formed.{cellOrder, cellAt, orderAt, Formed}
@@ -77,11 +77,6 @@ stack-at {cells} x n h =
     ∙ ap (λ (us : List Annotation). stackOf us (cellAt cells n)) (sym (stacks-values cells))
 
 -- ---- orders
-
--- the order of a stack
-unfoldable pub annotationOrder : Annotation → ℕ
-annotationOrder (of1 s) = 1
-annotationOrder (of2 t) = 2
 
 pub annotation-of1 : (v : Annotation) → annotationOrder v ≡ 1 → v ≡ of1 (order1 v)
 unfolding annotationOrder order1

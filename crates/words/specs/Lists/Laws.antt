@@ -1,6 +1,6 @@
 -- What holds of the lists of Lists.antt. Membership is data: `List·Memᴰ x l` is a place of x in l.
 -- Assumes nothing.
-use Prim.Native.Nat.{ℕ, zero, suc, _+_, _<_, _≤_, suc-le-suc}
+use Prim.Native.Nat.{ℕ, zero, suc, _+_, _*_, _<_, _≤_, suc-le-suc}
 use mathlib.Core.Bool.{Bool, true, false, not, _&&_, _||_, false≢true, and-assoc, or-assoc, or-true, or-false}
 use mathlib.Core.Path.{_≡_, refl, ap, ap₂, sym, _∙_, subst}
 use mathlib.Core.Logic.{_⊎_, inl, inr, ⊎-elim}
@@ -339,3 +339,8 @@ module _ {A : Type 0} where
   pub places-rising : (test : A → Bool) (l : List A) → rising (λ m. m ∷ []) (places test l) ≡ true
   unfolding places
   places-rising test l = placesFrom-rising 0 test l
+
+-- ---- a measure that falls with the elements left
+
+pub fewer-left : (l rest : List ℕ) (x m : ℕ) → l ≡ x ∷ rest → length l * 2 ≡ m → length rest * 2 + 1 < m
+fewer-left l rest x m e h = let k : length l ≡ suc (length rest) = ap length e in omega arith
