@@ -2,7 +2,7 @@
 -- Assumes nothing.
 use mathlib.Core.Path.{sym, _∙_}
 use borrow.Author.Tests.{not-true, not-false}
-use Rattle.start_file.specs.Checks.{refusalBy, refusalFor}
+use Rattle.start_file.specs.Checks.Laws.{by-place, by-starts, by-cells, by-none}
 use borrow.Author.Needs.{needs}
 use Rattle.start_file.proofs.check_start.Statement.{statement}
 use Rattle.start_file.proofs.check_start.Tie as tie
@@ -11,43 +11,30 @@ start-placed-requires : tie.Need-start-placed-requires
 start-placed-requires c κs = search needs
 
 returns : tie.Need-returns
-unfolding refusalFor refusalBy
-returns c = rw (refusalFor, sym (c .before .start-placed .ensures) ∙ not-true _ (c .if1 .taken))
+returns c = by-place _ _ _ (sym (c .before .start-placed .ensures) ∙ not-true _ (c .if1 .taken))
 
 file-starts-right-requires : tie.Need-file-starts-right-requires
 file-starts-right-requires c κs = sym (c .before .start-placed .ensures) ∙ not-false _ (c .if1 .left)
 
 returns-2 : tie.Need-returns-2
-unfolding refusalFor refusalBy
 returns-2 c =
-    rw (
-      refusalFor,
-      sym (c .before .before .before .start-placed .ensures) ∙ not-false _ (c .before .before .if1 .left),
-      sym (c .before .file-starts-right .ensures) ∙ not-true _ (c .if2 .taken),
-    )
+    by-starts _ _ _ (sym (c .before .before .before .start-placed .ensures) ∙ not-false _ (c .before .before .if1 .left))
+    (sym (c .before .file-starts-right .ensures) ∙ not-true _ (c .if2 .taken))
 
 file-cells-right-requires : tie.Need-file-cells-right-requires
 file-cells-right-requires c κs = sym (c .before .before .before .start-placed .ensures) ∙ not-false _ (c .before .before .if1 .left)
 
 returns-3 : tie.Need-returns-3
-unfolding refusalFor refusalBy
 returns-3 c =
-    rw (
-      refusalFor,
-      sym (c .before .before .before .before .before .start-placed .ensures) ∙ not-false _ (c .before .before .before .before .if1 .left),
-      sym (c .before .before .before .file-starts-right .ensures) ∙ not-false _ (c .before .before .if2 .left),
-      sym (c .before .file-cells-right .ensures) ∙ not-true _ (c .if3 .taken),
-    )
+    by-cells _ _ _ (sym (c .before .before .before .before .before .start-placed .ensures) ∙ not-false _ (c .before .before .before .before .if1 .left))
+    (sym (c .before .before .before .file-starts-right .ensures) ∙ not-false _ (c .before .before .if2 .left))
+    (sym (c .before .file-cells-right .ensures) ∙ not-true _ (c .if3 .taken))
 
 returns-4 : tie.Need-returns-4
-unfolding refusalFor refusalBy
 returns-4 c =
-    rw (
-      refusalFor,
-      sym (c .before .before .before .before .before .start-placed .ensures) ∙ not-false _ (c .before .before .before .before .if1 .left),
-      sym (c .before .before .before .file-starts-right .ensures) ∙ not-false _ (c .before .before .if2 .left),
-      sym (c .before .file-cells-right .ensures) ∙ not-false _ (c .if3 .left),
-    )
+    by-none _ _ _ (sym (c .before .before .before .before .before .start-placed .ensures) ∙ not-false _ (c .before .before .before .before .if1 .left))
+    (sym (c .before .before .before .file-starts-right .ensures) ∙ not-false _ (c .before .before .if2 .left))
+    (sym (c .before .file-cells-right .ensures) ∙ not-false _ (c .if3 .left))
 
 pub check-start-spec : {M : Type 1} → statement M
 check-start-spec =

@@ -40,6 +40,26 @@ cells-last A b n i p e = sym (p ∙ rw (e, from-last))
 
 -- ---- the refusal
 
+-- test by test, as the code comes to it
+module _ (P A : ℕ) (start : List ℕ) where
+  pub by-place : placed startBodies start ≡ false → 5 ≡ refusalFor P A start
+  unfolding refusalFor refusalBy
+  by-place p = rw (refusalFor, p)
+
+  module _ (in-place : placed startBodies start ≡ true) where
+    pub by-starts : every (startRight P (cellRecords start)) (startsOf start) ≡ false → 6 ≡ refusalFor P A start
+    unfolding refusalFor refusalBy
+    by-starts s = rw (refusalFor, in-place, s)
+
+    module _ (starts : every (startRight P (cellRecords start)) (startsOf start) ≡ true) where
+      pub by-cells : cellsRight A (cellRecords start) 0 (cellRecords start) ≡ false → 6 ≡ refusalFor P A start
+      unfolding refusalFor refusalBy
+      by-cells c = rw (refusalFor, in-place, starts, c)
+
+      pub by-none : cellsRight A (cellRecords start) 0 (cellRecords start) ≡ true → 0 ≡ refusalFor P A start
+      unfolding refusalFor refusalBy
+      by-none c = rw (refusalFor, in-place, starts, c)
+
 -- for a case whose head is h
 pub refusal-is : (case start : List ℕ) {h : Head} → h ≡ head case → refusalFor (h .P) (h .A) start ≡ startRefusal (filesOf case start)
 unfolding startRefusal startTests firstHit startFileRight refusalFor refusalBy
