@@ -6,6 +6,7 @@ ghost use Rattle.files.specs.Bytes.{field, countOf, offsetOf, lineRight, bodies
 ghost use Rattle.files.specs.Bytes;
 ghost use Rattle.bytes_in.specs.Contents.{theBody, nextBody, bodyIn, bodiesFrom, bodiesIn};
 ghost use Rattle.bytes_in.specs.Records.{bodyOf};
+use limits::Limits;
 
 // The byte as a number.
 fn wide(x: u8) -> u64
@@ -78,7 +79,7 @@ pub fn count_of(file: &[u8], n: usize) -> usize
     ensures { λ r. ⌜ r ≡ countOf (now (file .entry)) n ⌝ }
     ensures small { λ r. ⌜ r < 2 ^ 16 ⌝ }
 {
-    number2(file, 3 + 8 * n) as usize
+    number2(file, 3 + Limits::LINE_BYTES * n) as usize
 }
 
 // The offset that line n gives.
@@ -87,7 +88,7 @@ pub fn offset_of(file: &[u8], n: usize) -> usize
     ensures { λ r. ⌜ r ≡ offsetOf (now (file .entry)) n ⌝ }
     ensures small { λ r. ⌜ r < 2 ^ 32 ⌝ }
 {
-    number4(file, 5 + 8 * n) as usize
+    number4(file, 5 + Limits::LINE_BYTES * n) as usize
 }
 
 // Line n has the body's kind, a count in its range, and the offset.
@@ -95,10 +96,10 @@ fn line_right(file: &[u8], n: usize, offset: usize, b: Body) -> bool
     requires { ⌜ 9 + 8 * n ≤ length (now file) ⌝ }
     ensures { λ r. ⌜ r ≡ lineRight (now (file .entry)) n offset (theBody b) ⌝ }
 {
-    if number2(file, 1 + 8 * n) != b.kind {
+    if number2(file, 1 + Limits::LINE_BYTES * n) != b.kind {
         return false;
     }
-    let count = number2(file, 3 + 8 * n);
+    let count = number2(file, 3 + Limits::LINE_BYTES * n);
     if count < b.least {
         return false;
     }
@@ -167,7 +168,7 @@ pub fn placed(file: &[u8], table: &[u16]) -> bool
     ensures { λ r. ⌜ r ≡ Bytes.placed (bodiesIn (now (table .entry))) (now (file .entry)) ⌝ }
 {
     let n = table.len() / 4;
-    let contents = 1 + 8 * n;
+    let contents = 1 + Limits::LINE_BYTES * n;
     if file.len() < contents {
         return false;
     }

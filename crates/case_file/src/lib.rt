@@ -13,9 +13,27 @@ ghost use Rattle.bytes_in.specs.Records.{bodyOf};
 ghost use Rattle.case_records.specs.Values.{theHead, theEdge};
 use case_records::Edge;
 use case_records::Head;
+use limits::Limits;
 
 // Kind, least and most number of records and bytes of a record of each body.
-const BODIES: [u16; 16] = [1, 1, 1, 14, 2, 0, 256, 5, 3, 0, 64, 4, 4, 0, 1024, 19];
+const BODIES: [u16; 16] = [
+    1,
+    1,
+    1,
+    Limits::HEAD_BYTES as u16,
+    2,
+    0,
+    Limits::RULES as u16,
+    Limits::RULE_BYTES as u16,
+    3,
+    0,
+    Limits::EDGES as u16,
+    Limits::EDGE_BYTES as u16,
+    4,
+    0,
+    Limits::MOVES as u16,
+    Limits::MOVE_BYTES as u16,
+];
 
 // The first byte, the contents, the counts and the length are right.
 pub fn case_placed(file: &[u8]) -> bool
@@ -31,8 +49,8 @@ fn rules_right(h: Head, body: &[u8], n: usize) -> bool
 {
     let mut i: usize = 0;
     while i < n {
-        let a = i * 5;
-        let e = a + 5;
+        let a = i * Limits::RULE_BYTES;
+        let e = a + Limits::RULE_BYTES;
         if !case_records::rule_right(h, &body[a..e]) {
             return false;
         }
@@ -138,7 +156,7 @@ pub fn head_of(file: &[u8]) -> Head
     requires { ⌜ placed caseBodies (now file) ≡ true ⌝ }
     ensures { λ r. ⌜ theHead r ≡ Case.head (now (file .entry)) ⌝ }
 {
-    case_records::read_head(bytes_in::body_part(file, 0, 14))
+    case_records::read_head(bytes_in::body_part(file, Limits::HEAD_BODY, Limits::HEAD_BYTES))
 }
 
 // The body of rules of a file whose bodies are in place.
@@ -146,7 +164,7 @@ pub fn rule_body(file: &[u8]) -> &[u8]
     requires { ⌜ placed caseBodies (now file) ≡ true ⌝ }
     ensures { λ r. ⌜ now r ≡ bodyOf (now (file .entry)) 1 5 ⌝ }
 {
-    bytes_in::body_part(file, 1, 5)
+    bytes_in::body_part(file, Limits::RULE_BODY, Limits::RULE_BYTES)
 }
 
 // The body of edges of a file whose bodies are in place.
@@ -154,7 +172,7 @@ pub fn edge_body(file: &[u8]) -> &[u8]
     requires { ⌜ placed caseBodies (now file) ≡ true ⌝ }
     ensures { λ r. ⌜ now r ≡ bodyOf (now (file .entry)) 2 4 ⌝ }
 {
-    bytes_in::body_part(file, 2, 4)
+    bytes_in::body_part(file, Limits::EDGE_BODY, Limits::EDGE_BYTES)
 }
 
 // The body of moves of a file whose bodies are in place.
@@ -162,7 +180,7 @@ pub fn move_body(file: &[u8]) -> &[u8]
     requires { ⌜ placed caseBodies (now file) ≡ true ⌝ }
     ensures { λ r. ⌜ now r ≡ bodyOf (now (file .entry)) 3 19 ⌝ }
 {
-    bytes_in::body_part(file, 3, 19)
+    bytes_in::body_part(file, Limits::MOVE_BODY, Limits::MOVE_BYTES)
 }
 
 // Every rule of the file keeps its bounds.
@@ -170,7 +188,11 @@ fn file_rules_right(h: Head, file: &[u8]) -> bool
     requires { ⌜ placed caseBodies (now file) ≡ true ⌝ }
     ensures { λ r. ⌜ r ≡ every (ruleRight (theHead h)) (ruleRecords (now (file .entry))) ⌝ }
 {
-    rules_right(h, rule_body(file), bytes_in::count_of(file, 1))
+    rules_right(
+        h,
+        rule_body(file),
+        bytes_in::count_of(file, Limits::RULE_BODY),
+    )
 }
 
 // Every edge of the file keeps its bounds.
@@ -178,7 +200,11 @@ fn file_edges_right(h: Head, file: &[u8]) -> bool
     requires { ⌜ (placed caseBodies (now file) ≡ true) × (headRight (theHead h) ≡ true) ⌝ }
     ensures { λ r. ⌜ r ≡ every (edgeRight (theHead h)) (edgeRecords (now (file .entry))) ⌝ }
 {
-    edges_right(h, edge_body(file), bytes_in::count_of(file, 2))
+    edges_right(
+        h,
+        edge_body(file),
+        bytes_in::count_of(file, Limits::EDGE_BODY),
+    )
 }
 
 // The number of the file's entries.
@@ -187,7 +213,11 @@ pub fn entry_total(h: Head, file: &[u8]) -> u64
     ensures { λ r. ⌜ r ≡ length (entriesOf (theHead h) (edgeRecords (now (file .entry)))) ⌝ }
     ensures { λ r. ⌜ r ≤ 64 ⌝ }
 {
-    entries_in(h, edge_body(file), bytes_in::count_of(file, 2))
+    entries_in(
+        h,
+        edge_body(file),
+        bytes_in::count_of(file, Limits::EDGE_BODY),
+    )
 }
 
 // The number of order-1 states: J and the file's entries.
@@ -203,7 +233,12 @@ fn file_moves_right(h: Head, states: u64, file: &[u8]) -> bool
     requires { ⌜ (placed caseBodies (now file) ≡ true) × (headRight (theHead h) ≡ true) ⌝ }
     ensures { λ r. ⌜ r ≡ every (moveRight (theHead h) states) (moveRecords (now (file .entry))) ⌝ }
 {
-    moves_right(h, states, move_body(file), bytes_in::count_of(file, 3))
+    moves_right(
+        h,
+        states,
+        move_body(file),
+        bytes_in::count_of(file, Limits::MOVE_BODY),
+    )
 }
 
 // Rules, edges and moves keep their bounds, and there are not too many order-1 states.
@@ -218,7 +253,7 @@ fn records_right(h: Head, file: &[u8]) -> bool
         return false;
     }
     let states = states_of(h, file);
-    if 64 < states {
+    if (Limits::STATES1 as u64) < states {
         return false;
     }
     file_moves_right(h, states, file)
@@ -229,8 +264,8 @@ fn records_rising(file: &[u8]) -> bool
     requires { ⌜ placed caseBodies (now file) ≡ true ⌝ }
     ensures { λ r. ⌜ r ≡ rising edgeKey (edgeRecords (now (file .entry))) && rising moveKey (moveRecords (now (file .entry))) ⌝ }
 {
-    if edges_rising(edge_body(file), bytes_in::count_of(file, 2)) {
-        return moves_rising(move_body(file), bytes_in::count_of(file, 3));
+    if edges_rising(edge_body(file), bytes_in::count_of(file, Limits::EDGE_BODY)) {
+        return moves_rising(move_body(file), bytes_in::count_of(file, Limits::MOVE_BODY));
     }
     false
 }

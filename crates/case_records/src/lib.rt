@@ -11,6 +11,7 @@ ghost use Rattle.case_records.specs.Values.{theHead, theOperation, theRu
 ghost use Rattle.tables.specs.Records.{asMove};
 ghost use Rattle.case_records.specs.Bounds.{operandRight, firstRight};
 ghost use Rattle.case_records.specs.Keys.{lessThen};
+use limits::Limits;
 use tables::Move;
 
 // ---- values
@@ -132,8 +133,8 @@ pub fn rule_at(body: &[u8], i: usize) -> Rule
     requires { ⌜ i * 5 + 5 ≤ length (now body) ⌝ }
     ensures { λ r. ⌜ theRule r ≡ ruleOf (ruleBytes (recordAt 5 i (now (body .entry)))) ⌝ }
 {
-    let a = i * 5;
-    let e = a + 5;
+    let a = i * Limits::RULE_BYTES;
+    let e = a + Limits::RULE_BYTES;
     read_rule(&body[a..e])
 }
 
@@ -142,8 +143,8 @@ pub fn edge_at(body: &[u8], i: usize) -> Edge
     requires { ⌜ i * 4 + 4 ≤ length (now body) ⌝ }
     ensures { λ r. ⌜ theEdge r ≡ edgeBytes (recordAt 4 i (now (body .entry))) ⌝ }
 {
-    let a = i * 4;
-    let e = a + 4;
+    let a = i * Limits::EDGE_BYTES;
+    let e = a + Limits::EDGE_BYTES;
     read_edge(&body[a..e])
 }
 
@@ -152,8 +153,8 @@ pub fn move_at(body: &[u8], i: usize) -> Move
     requires { ⌜ i * 19 + 19 ≤ length (now body) ⌝ }
     ensures { λ r. ⌜ asMove r ≡ moveOf (recordAt 19 i (now (body .entry))) ⌝ }
 {
-    let a = i * 19;
-    let e = a + 19;
+    let a = i * Limits::MOVE_BYTES;
+    let e = a + Limits::MOVE_BYTES;
     read_move(&body[a..e])
 }
 
@@ -185,19 +186,19 @@ pub fn head_right(h: Head) -> bool
     if h.controls < 1 {
         return false;
     }
-    if 8 < h.controls {
+    if Limits::CONTROLS < h.controls {
         return false;
     }
-    if 8 < h.inner2 {
+    if Limits::INNER2 < h.inner2 {
         return false;
     }
-    if 16 < h.inner1 {
+    if Limits::INNER1 < h.inner1 {
         return false;
     }
     if h.symbols < 1 {
         return false;
     }
-    if 32 < h.symbols {
+    if Limits::SYMBOLS < h.symbols {
         return false;
     }
     if inner2(h, h.final2) {
@@ -245,7 +246,7 @@ fn first_right(h: Head, e: Edge) -> bool
     ensures { λ r. ⌜ r ≡ firstRight (theHead h) (theEdge e) ⌝ }
 {
     if e.state < h.controls {
-        return e.first == 255;
+        return e.first == Limits::ENTRY_MARK;
     }
     e.first < h.inner1
 }

@@ -13,6 +13,7 @@ ghost use Rattle.case_tables.specs.WrittenRows.{written};
 ghost use Rattle.case_tables.specs.Decoded.{MoreInner};
 ghost use Rattle.case_tables.specs.Own.{RoomForOwn};
 use case_records::Head;
+use limits::Limits;
 use tables::Table;
 
 // ---- inner edges
@@ -109,8 +110,8 @@ pub fn load_case(file: &[u8], inner: &mut [u64], entries: &mut [u64], moves: &mu
     ensures { λ z. ⌜ now (moves .exit) ≡ written moveRow (now (moves .entry)) 0 (ownOf (now (file .entry)) .moves) ⌝ }
 {
     let h = case_file::head_of(file);
-    let n = bytes_in::count_of(file, 2);
-    let m = bytes_in::count_of(file, 3);
+    let n = bytes_in::count_of(file, Limits::EDGE_BODY);
+    let m = bytes_in::count_of(file, Limits::MOVE_BODY);
     let inner_count = load_inner(h, case_file::edge_body(file), n, inner);
     let entry_count = load_entries(h, case_file::edge_body(file), n, entries);
     load_moves(case_file::move_body(file), m, moves);

@@ -5,6 +5,7 @@ ghost use mathlib.Core.List.{[], _∷_};
 ghost use lib.ListN.{length};
 ghost use lib.Seq.{sets};
 ghost use Rattle.cell_memory.specs.Memory.{cellIn, choiceIn, withCell, withChoice, withChoices};
+use limits::Limits;
 
 // A cell by value.
 pub enum Cell {
@@ -19,7 +20,7 @@ pub fn cell_at(cells: &[u16], i: usize) -> Cell
     requires { ⌜ i * 68 + 68 ≤ length (now cells) ⌝ }
     ensures { λ r. ⌜ r ≡ cellIn (now (cells .entry)) i ⌝ }
 {
-    let at = i * 68;
+    let at = i * Limits::CELL_WORDS;
     let kind = cells[at];
     match kind {
         2 => Cell::Symbol(cells[at + 1], cells[at + 2], cells[at + 3]),
@@ -34,8 +35,8 @@ pub fn choice_at(cells: &[u16], i: usize, q: u64) -> u16
     requires { ⌜ i * 68 + 68 ≤ length (now cells) ⌝ }
     ensures { λ r. ⌜ r ≡ choiceIn (now (cells .entry)) i q ⌝ }
 {
-    if q < 64 {
-        let at = i * 68 + 4 + q as usize;
+    if q < Limits::STATES1 as u64 {
+        let at = i * Limits::CELL_WORDS + Limits::FIELD_WORDS + q as usize;
         cells[at]
     } else {
         0
@@ -58,8 +59,8 @@ pub fn put_cell(cells: &mut [u16], i: usize, cell: Cell)
     requires { ⌜ i * 68 + 68 ≤ length (now cells) ⌝ }
     ensures { λ r. ⌜ now (cells .exit) ≡ withCell (now (cells .entry)) i cell ⌝ }
 {
-    let at = i * 68;
-    let end = at + 68;
+    let at = i * Limits::CELL_WORDS;
+    let end = at + Limits::CELL_WORDS;
     zeroing::zero_u16(&mut cells[at..end]);
     match cell {
         Cell::Empty1 => put_fields(cells, at, 1, 0, 0, 0),
@@ -74,7 +75,7 @@ pub fn put_choice(cells: &mut [u16], i: usize, q: u64, n: u16)
     requires { ⌜ (i * 68 + 68 ≤ length (now cells)) × (q < 64) ⌝ }
     ensures { λ r. ⌜ now (cells .exit) ≡ withChoice (now (cells .entry)) i q n ⌝ }
 {
-    let at = i * 68 + 4 + q as usize;
+    let at = i * Limits::CELL_WORDS + Limits::FIELD_WORDS + q as usize;
     cells[at] = n;
 }
 
@@ -83,9 +84,9 @@ pub fn put_choices(cells: &mut [u16], i: usize, choices: &[u16])
     requires { ⌜ (i * 68 + 68 ≤ length (now cells)) × (length (now choices) ≡ 64) ⌝ }
     ensures { λ r. ⌜ now (cells .exit) ≡ withChoices (now (cells .entry)) i (now (choices .entry)) ⌝ }
 {
-    let from = i * 68 + 4;
+    let from = i * Limits::CELL_WORDS + Limits::FIELD_WORDS;
     let mut q: usize = 0;
-    while q < 64 {
+    while q < Limits::STATES1 {
         cells[from + q] = choices[q];
         q += 1;
     }

@@ -13,6 +13,7 @@ ghost use Rattle.services.specs.Memory.{padded};
 ghost use Rattle.services.specs.Listing.{listingText};
 ghost use Rattle.start_file.specs.Checks.{filesOf};
 ghost use Rattle.exports.specs.Answers.{theReply, theCounts, theAnswer, answerOf};
+use limits::Limits;
 use replies::Counts;
 use replies::Halt;
 use replies::Reply;
@@ -102,7 +103,11 @@ pub extern "C" fn analyser_guide(
 
 // The text that the printing program prints for two files, zeros behind it. Answers its length.
 #[no_mangle]
-pub extern "C" fn analyser_listing(case: &[u8], start: &[u8], text: &mut [u8; 4096]) -> usize
+pub extern "C" fn analyser_listing(
+    case: &[u8],
+    start: &[u8],
+    text: &mut [u8; Limits::LISTING_TEXT],
+) -> usize
     ensures { λ _. ⌜ now (text .exit) ≡ padded 4096 (listingText (filesOf (now (case .entry)) (now (start .entry)))) ⌝ }
     ensures long { λ r. ⌜ r ≡ length (listingText (filesOf (now (case .entry)) (now (start .entry)))) ⌝ }
 {

@@ -23,6 +23,7 @@ ghost use Rattle.first_derivation.specs.Derived.{FindsFirst, StatesSmall
 use case_records::Operation;
 use case_records::Rule;
 use joins::Joins;
+use limits::Limits;
 use tables::Move;
 use tables::Result;
 use tables::Table;
@@ -181,7 +182,7 @@ fn first_move(
 fn is_single(n: u64, s: u64) -> bool
     ensures { λ t. ⌜ t ≡ eqb (single n) s ⌝ }
 {
-    if 63 < n {
+    if (Limits::STATES1 as u64) <= n {
         return false;
     }
     sets::one_bit(n) == s

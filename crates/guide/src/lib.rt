@@ -9,6 +9,7 @@ ghost use Rattle.demands.specs.Demand1.{GuideStates};
 ghost use Rattle.sound_files.specs.Refusal.{FilesSound};
 ghost use Rattle.guided_start.specs.Run.{guideInput};
 ghost use Rattle.guide.specs.Service.{guideDone, Guides};
+use limits::Limits;
 use replies::Reply;
 
 // Guides from a start of sound files. All lent memory is zero before.
@@ -24,9 +25,9 @@ fn guide_sound(
     requires { ⌜ FilesSound (now case) (now start) × (number < length (startsOf (now start))) × (now moves ≡ zeros (length (now moves))) × (now entries ≡ zeros (length (now entries))) × (now cells ≡ zeros (length (now cells))) × (now trace ≡ zeros (length (now trace))) ⌝ }
     ensures { λ r. ⌜ guideDone r (now (moves .exit)) (now (entries .exit)) (now (cells .exit)) (now (trace .exit)) ≡ guideService (guideInput (now (case .entry)) (now (start .entry)) number (length (now (moves .entry))) (length (now (entries .entry))) (length (now (cells .entry))) (length (now (trace .entry)))) ⌝ }
 {
-    let mut inner = [0u64; 192];
-    let mut pending = [0u64; 6144];
-    let mut sizes = [0u64; 2050];
+    let mut inner = [0u64; Limits::INNER_TABLE];
+    let mut pending = [0u64; Limits::PENDING_TABLE];
+    let mut sizes = [0u64; Limits::SIZE_TABLE];
     let r = saturate::saturate_case(case, &mut inner, entries, moves, &mut pending, &mut sizes);
     let table = r.table;
     if !r.fits {

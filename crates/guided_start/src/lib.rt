@@ -16,6 +16,7 @@ ghost use Rattle.guided_start.specs.Tables.{TablesStand};
 ghost use Rattle.guided_start.specs.Run.{guideInput, lentCells, shortAtStart};
 ghost use Rattle.guided_start.specs.Walk.{Ready};
 use guided_step::Walk;
+use limits::Limits;
 use replies::Counts;
 use replies::Halt;
 use replies::Reply;
@@ -26,8 +27,7 @@ use tables::Table;
 fn cells_lent(words: usize) -> usize
     ensures { λ r. ⌜ r ≡ lentCells words ⌝ }
 {
-    let n = words / 68;
-    if n < 4096 { n } else { 4096 }
+    numbers::smaller((words / Limits::CELL_WORDS) as u64, Limits::CELLS as u64) as usize
 }
 
 // Short before any step, with 0 steps and 0 cells.
@@ -58,10 +58,10 @@ fn walk_from(
     ensures { λ r. ⌜ Leaves (guided (rulesOf (now (case .entry))) (saturatedIn z (now (inner .entry)) (now (entries .entry)) (now (moves .entry)) k (now (sizes .entry))) most (length (now (trace .entry))) [] (startWalk (automatonOf z (now (inner .entry)) (now (entries .entry)) (now (moves .entry))) (cellsOf (now (start .entry))) (x .control) (x .root))) (length (now (trace .entry))) r (now (trace .exit)) ⌝ }
 {
     let body = start_file::cell_body(start);
-    let n = bytes_in::count_of(start, 1);
+    let n = bytes_in::count_of(start, Limits::CELL_BODY);
     least_choices::put_start_cells(z, inner, entries, moves, body, n, words, cells);
     let rules = case_file::rule_body(case);
-    let count = bytes_in::count_of(case, 1);
+    let count = bytes_in::count_of(case, Limits::RULE_BODY);
     let w = Walk::start(x.control, x.root as u16, n);
     guided_walk::walk(
         z,
@@ -97,14 +97,14 @@ pub fn guide_start(
     requires { ⌜ (caseRefusal (now case) ≡ 0) × StartSound (now start) × TablesStand z (now inner) (now entries) (now moves) k (now sizes) × (number < length (startsOf (now start))) × (now trace ≡ zeros (length (now trace))) ⌝ }
     ensures { λ r. ⌜ Leaves (guideRun (guideInput (now (case .entry)) (now (start .entry)) number (length (now (moves .entry))) (length (now (entries .entry))) (length (now (cells .entry))) (length (now (trace .entry)))) (saturatedIn z (now (inner .entry)) (now (entries .entry)) (now (moves .entry)) k (now (sizes .entry)))) (length (now (trace .entry))) r (now (trace .exit)) ⌝ }
 {
-    let mut words = [0u64; 256];
+    let mut words = [0u64; Limits::START_CELLS];
     sound_files::start_words(z, inner, entries, moves, start, &mut words);
     let x = start_records::start_at(start_file::start_body(start), number);
     if !acceptance::accepted(&words, x.root as usize, x.control) {
         return Reply::NoRun;
     }
     let most = cells_lent(cells.len());
-    if most < bytes_in::count_of(start, 1) {
+    if most < bytes_in::count_of(start, Limits::CELL_BODY) {
         return short_at_start();
     }
     walk_from(

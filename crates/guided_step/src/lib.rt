@@ -21,6 +21,7 @@ ghost use Rattle.guided_step.specs.Step.{saturatedIn, AtTop, NextIs};
 use cell_memory::Cell;
 use cell_steps::Top;
 use first_derivation::First;
+use limits::Limits;
 use tables::Move;
 use tables::Result;
 use tables::Table;
@@ -149,7 +150,7 @@ fn size_at(sizes: &[u64], i: usize) -> Size
     requires { ⌜ i * 2 + 2 ≤ length (now sizes) ⌝ }
     ensures { λ r. ⌜ asSize r ≡ rowAt sizeRow (now (sizes .entry)) i ⌝ }
 {
-    let at = i * 2;
+    let at = i * Limits::SIZE_WORDS;
     Size {
         moves: sizes[at],
         entries: sizes[at + 1],

@@ -21,6 +21,7 @@ use cell_steps::Choice;
 use cell_steps::Top;
 use guided_step::Next;
 use guided_step::Walk;
+use limits::Limits;
 use replies::Counts;
 use replies::Halt;
 use replies::Reply;
@@ -199,8 +200,8 @@ fn advance(
     requires { ⌜ RunStands z (now inner) (now entries) (now moves) (now body) count (now sizes) k (now cells) most × Walking most w (now trace) ⌝ }
     ensures { λ r. ⌜ TurnAnswers (rulesIn count (now (body .entry))) (saturatedIn z (now (inner .entry)) (now (entries .entry)) (now (moves .entry)) k (now (sizes .entry))) most w (now (cells .entry)) (now (trace .entry)) r (now (cells .exit)) (now (trace .exit)) ⌝ }
 {
-    let mut edges = [0u16; 64];
-    let mut chosen = [0u16; 64];
+    let mut edges = [0u16; Limits::STATES1];
+    let mut chosen = [0u16; Limits::STATES1];
     let next = guided_step::next_step(
         z,
         inner,

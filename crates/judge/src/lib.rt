@@ -17,6 +17,7 @@ ghost use Rattle.judge.specs.Marks.{markBy};
 ghost use Rattle.demands.specs.Demand1.{JudgeStates};
 ghost use Rattle.demands.specs.Demand2.{Marks};
 ghost use Rattle.judge.specs.Service.{judgeInput, judgeDone, SizeRefused};
+use limits::Limits;
 use start_records::Start;
 use tables::Table;
 
@@ -60,10 +61,10 @@ fn mark_starts(
     requires { ⌜ TablesNamed z (now inner) (now entries) (now moves) × StartSound (now start) × (length (startsOf (now start)) ≤ length (now answers)) ⌝ }
     ensures { λ _. ⌜ now (answers .exit) ≡ map (Judge.mark (automatonOf z (now (inner .entry)) (now (entries .entry)) (now (moves .entry))) (now (start .entry))) (startsOf (now (start .entry))) ++ drop (length (startsOf (now (start .entry)))) (now (answers .entry)) ⌝ }
 {
-    let mut words = [0u64; 256];
+    let mut words = [0u64; Limits::START_CELLS];
     sound_files::start_words(z, inner, entries, moves, start, &mut words);
     let body = start_file::start_body(start);
-    let n = bytes_in::count_of(start, 0);
+    let n = bytes_in::count_of(start, Limits::START_BODY);
     put_marks(body, n, &words, answers);
 }
 
@@ -78,9 +79,9 @@ fn judge_sound(
     requires { ⌜ FilesSound (now case) (now start) × (length (startsOf (now start)) ≤ length (now answers)) × (now moves ≡ zeros (length (now moves))) × (now entries ≡ zeros (length (now entries))) × (now answers ≡ zeros (length (now answers))) ⌝ }
     ensures { λ r. ⌜ judgeDone r (now (moves .exit)) (now (entries .exit)) (now (answers .exit)) ≡ judgeService (judgeInput (now (case .entry)) (now (start .entry)) (length (now (moves .entry))) (length (now (entries .entry))) (length (now (answers .entry)))) ⌝ }
 {
-    let mut inner = [0u64; 192];
-    let mut pending = [0u64; 6144];
-    let mut sizes = [0u64; 2050];
+    let mut inner = [0u64; Limits::INNER_TABLE];
+    let mut pending = [0u64; Limits::PENDING_TABLE];
+    let mut sizes = [0u64; Limits::SIZE_TABLE];
     let r = saturate::saturate_case(case, &mut inner, entries, moves, &mut pending, &mut sizes);
     let table = r.table;
     if !r.fits {

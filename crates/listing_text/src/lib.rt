@@ -9,21 +9,9 @@ ghost use Rattle.start_file.specs.Checks.{filesOf};
 ghost use Rattle.text.specs.Written.{Written};
 ghost use Rattle.sound_files.specs.Refusal.{FilesSound};
 ghost use Rattle.listing_text.specs.Prepared.{TableReady};
+use limits::Limits;
 use replies::Saturation;
 use tables::Table;
-
-// What the program lends.
-pub struct Limits {}
-
-impl Limits {
-    pub const MOVES: usize = 1024;
-
-    pub const ENTRIES: usize = 64;
-
-    pub const CELLS: usize = 512;
-
-    pub const TRACE: usize = 1024;
-}
 
 // Writes the line of start n from `at` on and answers the place after it.
 fn start_line(
@@ -43,8 +31,8 @@ fn start_line(
     ensures { λ r. ⌜ Written (now (text .entry)) at (startLine (filesOf (now (case .entry)) (now (start .entry))) n) (now (text .exit)) r ⌝ }
     ensures within { λ r. ⌜ r ≤ at + 61 ⌝ }
 {
-    let mut cells = [0u16; Limits::CELLS * 68];
-    let mut trace = [0u16; Limits::TRACE];
+    let mut cells = [0u16; Limits::LISTING_CELLS * Limits::CELL_WORDS];
+    let mut trace = [0u16; Limits::LISTING_TRACE];
     let reply = guided_start::guide_start(
         case,
         start,
@@ -78,7 +66,7 @@ fn start_lines(
     ensures { λ r. ⌜ Written (now (text .entry)) at (startLines (filesOf (now (case .entry)) (now (start .entry))) 0 (length (startsOf (now (start .entry))))) (now (text .exit)) r ⌝ }
     ensures within { λ r. ⌜ r ≤ at + 64 * 61 ⌝ }
 {
-    let count = bytes_in::count_of(start, 0);
+    let count = bytes_in::count_of(start, Limits::START_BODY);
     let mut n: usize = 0;
     let mut end = at;
     while n < count {
@@ -131,11 +119,11 @@ fn sound_listing(case: &[u8], start: &[u8], text: &mut [u8]) -> usize
     ensures { λ r. ⌜ Written (now (text .entry)) 0 (listingText (filesOf (now (case .entry)) (now (start .entry)))) (now (text .exit)) r ⌝ }
     ensures within { λ r. ⌜ r ≤ 4096 ⌝ }
 {
-    let mut moves = [0u64; Limits::MOVES * 5];
-    let mut entries = [0u64; Limits::ENTRIES * 2];
-    let mut inner = [0u64; 192];
-    let mut pending = [0u64; 6144];
-    let mut sizes = [0u64; 2050];
+    let mut moves = [0u64; Limits::MOVES * Limits::MOVE_WORDS];
+    let mut entries = [0u64; Limits::LISTING_ENTRIES * Limits::ENTRY_WORDS];
+    let mut inner = [0u64; Limits::INNER_TABLE];
+    let mut pending = [0u64; Limits::PENDING_TABLE];
+    let mut sizes = [0u64; Limits::SIZE_TABLE];
     let r = saturate::saturate_case(
         case,
         &mut inner,
@@ -153,12 +141,12 @@ fn sound_listing(case: &[u8], start: &[u8], text: &mut [u8]) -> usize
 }
 
 // Writes the listing of a case file and a start file, zeros behind it, and answers its length.
-pub fn listing(case: &[u8], start: &[u8], text: &mut [u8; 4096]) -> usize
+pub fn listing(case: &[u8], start: &[u8], text: &mut [u8; Limits::LISTING_TEXT]) -> usize
     ensures { λ _. ⌜ now (text .exit) ≡ padded 4096 (listingText (filesOf (now (case .entry)) (now (start .entry)))) ⌝ }
     ensures long { λ r. ⌜ r ≡ length (listingText (filesOf (now (case .entry)) (now (start .entry)))) ⌝ }
     ensures within { λ r. ⌜ r ≤ 4096 ⌝ }
 {
-    *text = [0u8; 4096];
+    *text = [0u8; Limits::LISTING_TEXT];
     let refusal = sound_files::files_refusal(case, start);
     if refusal != 0 {
         return text::put_refused(text, 0, refusal);

@@ -6,6 +6,7 @@ ghost use lib.ListN.{length};
 ghost use Rattle.words.specs.Order.{same};
 ghost use Rattle.tables.specs.Rows.{rowAt, putRow};
 ghost use Rattle.memo_table.specs.States.{stateWords, stateRow, readState, edgesState};
+use limits::Limits;
 
 // A state of the recursion over readings of a symbol, to entries of a control. Kind 1: the order-1 states `left` are still to be read, for the
 // set s. Kind 2: an edge is still to be chosen for each of the order-2 states `left`; the edges so far name the order-1 states `named` and
@@ -91,7 +92,7 @@ pub fn place(t: &[u64], x: State) -> usize
     requires { ⌜ 9 ≤ length (now t) ⌝ }
     ensures { λ i. ⌜ i * 9 + 9 ≤ length (now (t .entry)) ⌝ }
 {
-    let rows = t.len() / 9;
+    let rows = t.len() / Limits::MEMO_WORDS;
     (digest(x) % rows as u64) as usize
 }
 
@@ -100,7 +101,7 @@ fn state_at(t: &[u64], i: usize) -> State
     requires { ⌜ i * 9 + 9 ≤ length (now t) ⌝ }
     ensures { λ x. ⌜ x ≡ rowAt stateRow (now (t .entry)) i ⌝ }
 {
-    let at = i * 9;
+    let at = i * Limits::MEMO_WORDS;
     State {
         kind: t[at],
         control: t[at + 1],
@@ -158,7 +159,7 @@ pub fn put(t: &mut [u64], i: usize, x: State)
     requires { ⌜ i * 9 + 9 ≤ length (now t) ⌝ }
     ensures { λ _. ⌜ now (t .exit) ≡ putRow stateRow (now (t .entry)) i x ⌝ }
 {
-    let at = i * 9;
+    let at = i * Limits::MEMO_WORDS;
     t[at] = x.kind;
     t[at + 1] = x.control;
     t[at + 2] = x.symbol;

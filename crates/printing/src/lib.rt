@@ -1,6 +1,7 @@
 // Reads a case file and a start file, and writes their listing to standard output.
 ghost use Rattle.io.specs.Counts.{Counts};
 use libc::STDOUT_FILENO;
+use limits::Limits;
 
 // Reads a file into the buffer as far as it holds it, and answers how many bytes it read: none where the file can not be opened.
 fn read_file(path: &[u8], buffer: &mut [u8]) -> usize
@@ -18,9 +19,9 @@ fn read_file(path: &[u8], buffer: &mut [u8]) -> usize
 // Prints the listing of the files with these names. Each buffer holds a byte more than the longest sound file, so a longer file is refused for
 // its length.
 pub fn print_listing(case_path: &[u8], start_path: &[u8]) {
-    let mut case = [0u8; 21040];
-    let mut start = [0u8; 1746];
-    let mut text = [0u8; 4096];
+    let mut case = [0u8; Limits::CASE_FILE + 1];
+    let mut start = [0u8; Limits::START_FILE + 1];
+    let mut text = [0u8; Limits::LISTING_TEXT];
     let c = read_file(case_path, &mut case);
     let s = read_file(start_path, &mut start);
     let n = listing_text::listing(&case[..c], &start[..s], &mut text);

@@ -19,6 +19,7 @@ ghost use Rattle.case_records.specs.Values.{theOperation, theRule};
 ghost use Rattle.results.specs.Collecting.{RulesStand, rulesIn, newResults};
 ghost use Rattle.results.specs.Steps.{moveStep, entryStep};
 ghost use Rattle.results.specs.Uses.{useOf, useResults};
+use limits::Limits;
 
 // How an operation uses a move of an entry.
 pub enum MoveUse {
@@ -373,7 +374,7 @@ pub fn collect(
     ensures { λ n. ⌜ pendingIn room n (now (out .exit)) ≡ limited room (newResults (rulesIn count (now (body .entry))) (automatonOf z (now (inner .entry)) (now (entries .entry)) (now (moves .entry)))) ⌝ }
     ensures { λ n. ⌜ n ≤ room + 1 ⌝ }
 {
-    let mut memo = [0u64; 147456];
+    let mut memo = [0u64; Limits::MEMO_TABLE];
     let mut n: usize = 0;
     let mut i: usize = 0;
     while i < count {

@@ -11,6 +11,7 @@ ghost use Rattle.demands.specs.Demand1.{SaturateStates};
 ghost use Rattle.demands.specs.Demand2.{Exceeds};
 ghost use Rattle.saturate.specs.Case.{Working, CaseSaturated};
 ghost use Rattle.saturate.specs.Service.{theLent, theDone, theRefused};
+use limits::Limits;
 use replies::Saturation;
 use saturation::Saturated;
 
@@ -19,11 +20,11 @@ fn own_fits(case: &[u8], moves: usize, entries: usize) -> bool
     requires { ⌜ caseRefusal (now case) ≡ 0 ⌝ }
     ensures { λ r. ⌜ r ≡ within (lent moves entries) (ownOf (now (case .entry))) ⌝ }
 {
-    if moves / 5 < bytes_in::count_of(case, 3) {
+    if moves / Limits::MOVE_WORDS < bytes_in::count_of(case, Limits::MOVE_BODY) {
         return false;
     }
     let h = case_file::head_of(case);
-    case_file::entry_total(h, case) as usize <= entries / 2
+    case_file::entry_total(h, case) as usize <= entries / Limits::ENTRY_WORDS
 }
 
 // Saturates the table of a sound case in tables that are all zero, with working memory for its inner edges, for the results of a round and for
@@ -44,7 +45,7 @@ pub fn saturate_case(
     }
     let z = case_tables::load_case(case, inner, entries, moves);
     let body = case_file::rule_body(case);
-    let count = bytes_in::count_of(case, 1);
+    let count = bytes_in::count_of(case, Limits::RULE_BODY);
     saturation::saturate_tables(z, inner, entries, moves, body, count, pending, sizes)
 }
 
@@ -90,9 +91,9 @@ pub fn saturate(case: &[u8], moves: &mut [u64], entries: &mut [u64]) -> Saturati
     if code != 0 {
         return refused(code);
     }
-    let mut inner = [0u64; 192];
-    let mut pending = [0u64; 6144];
-    let mut sizes = [0u64; 2050];
+    let mut inner = [0u64; Limits::INNER_TABLE];
+    let mut pending = [0u64; Limits::PENDING_TABLE];
+    let mut sizes = [0u64; Limits::SIZE_TABLE];
     let r = saturate_case(case, &mut inner, entries, moves, &mut pending, &mut sizes);
     let table = r.table;
     if !r.fits {

@@ -10,6 +10,7 @@ ghost use Rattle.results.specs.Collecting.{RulesStand, rulesIn};
 ghost use Rattle.saturation.specs.Adding.{Entered, Growing, Added};
 ghost use Rattle.saturation.specs.Rounding.{Standing, Rounded};
 ghost use Rattle.saturation.specs.Running.{mostMoves, mostEntries, theSize, sizeRow, Given, Ends};
+use limits::Limits;
 
 // A table with results added, or, where `fits` is false, the table before there was no room for an entry.
 pub struct Grown {
@@ -143,8 +144,11 @@ fn limits_of(moves: usize, entries: usize, states: u64) -> Capacity
     ensures { λ r. ⌜ (r .moves ≡ mostMoves moves) × (r .entries ≡ mostEntries entries states) ⌝ }
 {
     Capacity {
-        moves: numbers::smaller(moves as u64 / 5, 1024) as usize,
-        entries: numbers::smaller(entries as u64 / 2, 64 - states) as usize,
+        moves: numbers::smaller((moves / Limits::MOVE_WORDS) as u64, Limits::MOVES as u64) as usize,
+        entries: numbers::smaller(
+            (entries / Limits::ENTRY_WORDS) as u64,
+            Limits::STATES1 as u64 - states,
+        ) as usize,
     }
 }
 
@@ -153,7 +157,7 @@ fn put_sizes(t: &mut [u64], i: usize, moves: usize, entries: usize)
     requires { ⌜ i * 2 + 2 ≤ length (now t) ⌝ }
     ensures { λ _. ⌜ now (t .exit) ≡ putRow sizeRow (now (t .entry)) i (theSize moves entries) ⌝ }
 {
-    let at = i * 2;
+    let at = i * Limits::SIZE_WORDS;
     t[at] = moves as u64;
     t[at + 1] = entries as u64;
 }

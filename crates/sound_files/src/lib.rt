@@ -12,6 +12,7 @@ ghost use Rattle.tables.specs.Held.{automatonOf};
 ghost use Rattle.acceptance.specs.Named.{TablesNamed};
 ghost use Rattle.acceptance.specs.Cells.{cellWords};
 ghost use Rattle.sound_files.specs.Refusal.{filesRefusal, refusedBefore};
+use limits::Limits;
 use tables::Table;
 
 // The refusal by the two files, or 0.
@@ -34,7 +35,7 @@ pub fn refusal_before(case: &[u8], start: &[u8], k: usize, below: u64, past: u64
     if files != 0 {
         return files;
     }
-    if k < bytes_in::count_of(start, 0) {
+    if k < bytes_in::count_of(start, Limits::START_BODY) {
         return below;
     }
     past
@@ -53,7 +54,7 @@ pub fn start_words(
     ensures { λ _. ⌜ now (words .exit) ≡ cellWords (automatonOf z (now (inner .entry)) (now (entries .entry)) (now (moves .entry))) (cellsOf (now (start .entry))) ++ drop (length (cellsOf (now (start .entry)))) (now (words .entry)) ⌝ }
 {
     let cells = start_file::cell_body(start);
-    let n = bytes_in::count_of(start, 1);
+    let n = bytes_in::count_of(start, Limits::CELL_BODY);
     acceptance::fill_words(z, inner, entries, moves, cells, n, words);
 }
 

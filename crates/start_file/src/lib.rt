@@ -9,9 +9,19 @@ ghost use Rattle.files.specs.Bytes.{placed, records};
 ghost use Rattle.files.specs.Start.{startBodies, startOf, cellBytes, startsOf, cellRecords, startRight, cellsRight};
 ghost use Rattle.bytes_in.specs.Records.{bodyOf};
 ghost use Rattle.start_file.specs.Checks.{refusalFor};
+use limits::Limits;
 
 // Kind, least and most number of records and bytes of a record of each body.
-const BODIES: [u16; 8] = [1, 1, 64, 3, 2, 1, 256, 6];
+const BODIES: [u16; 8] = [
+    1,
+    1,
+    Limits::STARTS as u16,
+    Limits::START_BYTES as u16,
+    2,
+    1,
+    Limits::START_CELLS as u16,
+    Limits::CELL_BYTES as u16,
+];
 
 // The first byte, the contents, the counts and the length are right.
 pub fn start_placed(file: &[u8]) -> bool
@@ -57,7 +67,7 @@ pub fn start_body(file: &[u8]) -> &[u8]
     requires { ⌜ placed startBodies (now file) ≡ true ⌝ }
     ensures { λ r. ⌜ now r ≡ bodyOf (now (file .entry)) 0 3 ⌝ }
 {
-    bytes_in::body_part(file, 0, 3)
+    bytes_in::body_part(file, Limits::START_BODY, Limits::START_BYTES)
 }
 
 // The body of cells of a file whose bodies are in place.
@@ -65,7 +75,7 @@ pub fn cell_body(file: &[u8]) -> &[u8]
     requires { ⌜ placed startBodies (now file) ≡ true ⌝ }
     ensures { λ r. ⌜ now r ≡ bodyOf (now (file .entry)) 1 6 ⌝ }
 {
-    bytes_in::body_part(file, 1, 6)
+    bytes_in::body_part(file, Limits::CELL_BODY, Limits::CELL_BYTES)
 }
 
 // Every start of the file keeps its bounds, where there are so many controls.
@@ -73,8 +83,8 @@ fn file_starts_right(controls: u64, file: &[u8]) -> bool
     requires { ⌜ placed startBodies (now file) ≡ true ⌝ }
     ensures { λ r. ⌜ r ≡ every (startRight controls (cellRecords (now (file .entry)))) (startsOf (now (file .entry))) ⌝ }
 {
-    let m = bytes_in::count_of(file, 0);
-    let n = bytes_in::count_of(file, 1);
+    let m = bytes_in::count_of(file, Limits::START_BODY);
+    let n = bytes_in::count_of(file, Limits::CELL_BODY);
     starts_right(controls, start_body(file), m, cell_body(file), n)
 }
 
@@ -83,7 +93,11 @@ fn file_cells_right(symbols: u64, file: &[u8]) -> bool
     requires { ⌜ placed startBodies (now file) ≡ true ⌝ }
     ensures { λ r. ⌜ r ≡ cellsRight symbols (cellRecords (now (file .entry))) 0 (cellRecords (now (file .entry))) ⌝ }
 {
-    cells_right(symbols, cell_body(file), bytes_in::count_of(file, 1))
+    cells_right(
+        symbols,
+        cell_body(file),
+        bytes_in::count_of(file, Limits::CELL_BODY),
+    )
 }
 
 // 0 for a start file that is sound for a case with so many controls and symbols, else its refusal, 5 or 6.

@@ -10,6 +10,7 @@ ghost use Rattle.cell_memory.specs.Memory;
 ghost use Rattle.start_records.specs.Values.{theStart, theFields, FieldsSmall};
 ghost use Rattle.start_records.specs.Cells.{emptyRight, symbolRight, aboveRight};
 use cell_memory::Cell;
+use limits::Limits;
 
 // ---- values and readers
 
@@ -57,8 +58,8 @@ pub fn start_at(body: &[u8], i: usize) -> Start
     requires { ⌜ i * 3 + 3 ≤ length (now body) ⌝ }
     ensures { λ r. ⌜ theStart r ≡ startOf (recordAt 3 i (now (body .entry))) ⌝ }
 {
-    let a = i * 3;
-    let e = a + 3;
+    let a = i * Limits::START_BYTES;
+    let e = a + Limits::START_BYTES;
     read_start(&body[a..e])
 }
 
@@ -68,8 +69,8 @@ pub fn fields_at(body: &[u8], i: usize) -> Fields
     ensures { λ r. ⌜ theFields r ≡ cellBytes (recordAt 6 i (now (body .entry))) ⌝ }
     ensures { λ r. ⌜ FieldsSmall r ⌝ }
 {
-    let a = i * 6;
-    let e = a + 6;
+    let a = i * Limits::CELL_BYTES;
+    let e = a + Limits::CELL_BYTES;
     read_fields(&body[a..e])
 }
 

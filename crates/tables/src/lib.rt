@@ -13,6 +13,7 @@ ghost use Rattle.tables.specs.Held.{tableOf, edgesIn, foundEntry, entryF
 ghost use Rattle.tables.specs.Insertion.{rowWords, wordRows, leading, reached, withRow, insertedIn, Inserted};
 ghost use Rattle.tables.specs.Pending.{pendingIn, insertWithin};
 ghost use Rattle.tables.specs.Records.{moveRow, entryRow, edgeRow, resultRow, asMove, asEntry, asEdge, asResult};
+use limits::Limits;
 
 // A move of an order-1 state.
 pub struct Move {
@@ -62,7 +63,7 @@ pub fn move_at(t: &[u64], i: usize) -> Move
     requires { ⌜ i * 5 + 5 ≤ length (now t) ⌝ }
     ensures { λ m. ⌜ asMove m ≡ rowAt moveRow (now (t .entry)) i ⌝ }
 {
-    let at = i * 5;
+    let at = i * Limits::MOVE_WORDS;
     Move {
         state: t[at],
         symbol: t[at + 1],
@@ -77,7 +78,7 @@ pub fn put_move(t: &mut [u64], i: usize, m: Move)
     requires { ⌜ i * 5 + 5 ≤ length (now t) ⌝ }
     ensures { λ _. ⌜ now (t .exit) ≡ putRow moveRow (now (t .entry)) i (asMove m) ⌝ }
 {
-    let at = i * 5;
+    let at = i * Limits::MOVE_WORDS;
     t[at] = m.state;
     t[at + 1] = m.symbol;
     t[at + 2] = m.order;
@@ -90,7 +91,7 @@ pub fn entry_at(t: &[u64], i: usize) -> Entry
     requires { ⌜ i * 2 + 2 ≤ length (now t) ⌝ }
     ensures { λ e. ⌜ asEntry e ≡ rowAt entryRow (now (t .entry)) i ⌝ }
 {
-    let at = i * 2;
+    let at = i * Limits::ENTRY_WORDS;
     Entry {
         control: t[at],
         s: t[at + 1],
@@ -102,7 +103,7 @@ pub fn put_entry(t: &mut [u64], i: usize, e: Entry)
     requires { ⌜ i * 2 + 2 ≤ length (now t) ⌝ }
     ensures { λ _. ⌜ now (t .exit) ≡ putRow entryRow (now (t .entry)) i (asEntry e) ⌝ }
 {
-    let at = i * 2;
+    let at = i * Limits::ENTRY_WORDS;
     t[at] = e.control;
     t[at + 1] = e.s;
 }
@@ -112,7 +113,7 @@ pub fn edge_at(t: &[u64], i: usize) -> Edge
     requires { ⌜ i * 3 + 3 ≤ length (now t) ⌝ }
     ensures { λ e. ⌜ asEdge e ≡ rowAt edgeRow (now (t .entry)) i ⌝ }
 {
-    let at = i * 3;
+    let at = i * Limits::EDGE_WORDS;
     Edge {
         state: t[at],
         first: t[at + 1],
@@ -125,7 +126,7 @@ pub fn result_at(t: &[u64], i: usize) -> Result
     requires { ⌜ i * 6 + 6 ≤ length (now t) ⌝ }
     ensures { λ x. ⌜ asResult x ≡ rowAt resultRow (now (t .entry)) i ⌝ }
 {
-    let at = i * 6;
+    let at = i * Limits::RESULT_WORDS;
     Result {
         control: t[at],
         s: t[at + 1],

@@ -1,0 +1,119 @@
+// Document 01's limits, the sizes of its records in files and in lent memory, and what follows from these: the lengths of files and of working
+// memory. Constants only; nothing else in the code names these numbers.
+
+pub struct Limits {}
+
+impl Limits {
+    // ---- what a case may have: controls P, inner order-2 states I, inner order-1 states J, symbols A; rules, edges, moves; order-1 states
+
+    pub const CONTROLS: u64 = 8;
+
+    pub const INNER2: u64 = 8;
+
+    pub const INNER1: u64 = 16;
+
+    pub const SYMBOLS: u64 = 32;
+
+    pub const RULES: usize = 256;
+
+    pub const EDGES: usize = 64;
+
+    pub const MOVES: usize = 1024;
+
+    pub const STATES1: usize = 64;
+
+    // ---- what a start file may have, and how many lent cells count
+
+    pub const STARTS: usize = 64;
+
+    pub const START_CELLS: usize = 256;
+
+    pub const CELLS: usize = 4096;
+
+    // ---- bytes of a line of a table of contents, and of a record of each body
+
+    pub const LINE_BYTES: usize = 8;
+
+    pub const HEAD_BYTES: usize = 14;
+
+    pub const RULE_BYTES: usize = 5;
+
+    pub const EDGE_BYTES: usize = 4;
+
+    pub const MOVE_BYTES: usize = 19;
+
+    pub const START_BYTES: usize = 3;
+
+    pub const CELL_BYTES: usize = 6;
+
+    // ---- the numbers of the bodies, from 0: four of a case, two of a start file
+
+    pub const HEAD_BODY: usize = 0;
+
+    pub const RULE_BODY: usize = 1;
+
+    pub const EDGE_BODY: usize = 2;
+
+    pub const MOVE_BODY: usize = 3;
+
+    pub const START_BODY: usize = 0;
+
+    pub const CELL_BODY: usize = 1;
+
+    // ---- the second byte of an edge that is an entry
+
+    pub const ENTRY_MARK: u64 = 255;
+
+    // ---- words of a move, an entry, an edge, a result, the sizes after a round, a state of the memo table; 16-bit words of a cell, of which
+    // the first are its fields
+
+    pub const MOVE_WORDS: usize = 5;
+
+    pub const ENTRY_WORDS: usize = 2;
+
+    pub const EDGE_WORDS: usize = 3;
+
+    pub const RESULT_WORDS: usize = 6;
+
+    pub const SIZE_WORDS: usize = 2;
+
+    pub const MEMO_WORDS: usize = 9;
+
+    pub const FIELD_WORDS: usize = 4;
+
+    pub const CELL_WORDS: usize = Limits::FIELD_WORDS + Limits::STATES1;
+
+    // ---- working memory: inner edges, the results of a round, the sizes after round 0 and each round that adds a move, the memo table
+
+    pub const INNER_TABLE: usize = Limits::EDGES * Limits::EDGE_WORDS;
+
+    pub const PENDING_TABLE: usize = Limits::MOVES * Limits::RESULT_WORDS;
+
+    pub const SIZE_TABLE: usize = (Limits::MOVES + 1) * Limits::SIZE_WORDS;
+
+    pub const MEMO_TABLE: usize = 16384 * Limits::MEMO_WORDS;
+
+    // ---- the longest sound files
+
+    pub const CASE_FILE: usize = 1
+        + 4 * Limits::LINE_BYTES
+        + Limits::HEAD_BYTES
+        + Limits::RULES * Limits::RULE_BYTES
+        + Limits::EDGES * Limits::EDGE_BYTES
+        + Limits::MOVES * Limits::MOVE_BYTES;
+
+    pub const START_FILE: usize = 1
+        + 2 * Limits::LINE_BYTES
+        + Limits::STARTS * Limits::START_BYTES
+        + Limits::START_CELLS * Limits::CELL_BYTES;
+
+    // ---- what the printing program lends, and the bytes of its text: a line of sizes and one for each start
+
+    pub const LISTING_ENTRIES: usize = 64;
+
+    pub const LISTING_CELLS: usize = 512;
+
+    pub const LISTING_TRACE: usize = 1024;
+
+    pub const LISTING_TEXT: usize = 4096;
+}
