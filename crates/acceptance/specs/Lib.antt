@@ -2,5 +2,5 @@ pub mod Words
 pub mod Cells
 pub mod Named
 pub mod WrittenBelow
-pub mod Starts
 pub mod Table
+pub mod Laws

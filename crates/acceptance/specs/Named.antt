@@ -6,7 +6,7 @@ use mathlib.Core.List.{List}
 use lib.ListN.{length}
 use Rattle.tables.specs.declared.Table.{Table}
 use Rattle.tables.specs.Rows.{rowAt}
-use Rattle.tables.specs.Records.{moveRow, entryRow, edgeRow}
+use Rattle.tables.specs.Layouts.{moveRow, entryRow, edgeRow}
 use Rattle.tables.specs.Held.{EdgesStand, EntriesStand}
 
 -- The moves are in the slice, and their states are below 64.

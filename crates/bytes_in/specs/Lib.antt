@@ -1,3 +1,3 @@
-pub mod Fields
 pub mod Contents
 pub mod Records
+pub mod Laws

@@ -1,4 +1,4 @@
 pub mod Values
-pub mod Inner
 pub mod Bounds
 pub mod Keys
+pub mod Laws

@@ -12,7 +12,7 @@ use Rattle.automata.specs.Automaton.{Edge, choiceKey}
 use Rattle.files.specs.Case.{Head, EdgeBytes, edgeBytes, innerEdges}
 use Rattle.bytes_in.specs.Records.{recordsFrom}
 use Rattle.tables.specs.Rows.{rowsIn}
-use Rattle.tables.specs.Records.{edgeRow}
+use Rattle.tables.specs.Layouts.{edgeRow}
 
 -- the inner edge that the bytes of an edge stand for
 abbrev pub innerEdge : EdgeBytes → Edge

@@ -6,7 +6,7 @@ ghost use Prim.Native.Nat.{_<_, _≤_, _+_, _*_};
 ghost use lib.ListN.{length};
 ghost use Rattle.files.specs.Bytes.{placed, records};
 ghost use Rattle.files.specs.Case.{caseBodies, edgeBytes, entriesOf, innerEdges, moveOf, ownOf};
-ghost use Rattle.tables.specs.Records.{edgeRow, entryRow, moveRow};
+ghost use Rattle.tables.specs.Layouts.{edgeRow, entryRow, moveRow};
 ghost use Rattle.tables.specs.Held.{automatonOf};
 ghost use Rattle.case_records.specs.Values.{theHead, theEdge};
 ghost use Rattle.case_tables.specs.WrittenRows.{written};

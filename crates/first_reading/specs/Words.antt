@@ -14,7 +14,7 @@ use Rattle.automata.specs.Derivation.{Joins, joinMove, named}
 use Rattle.tables.specs.declared.Table.{Table}
 use Rattle.tables.specs.Rows.{rowsIn}
 use Rattle.tables.specs.Held.{EdgesStand, EntriesStand, MovesStand}
-use Rattle.tables.specs.Records.{moveRow}
+use Rattle.tables.specs.Layouts.{moveRow}
 use Rattle.first_reading.specs.First.{onlyIf}
 use Rattle.first_reading.specs.Answer.{writtenAll}
 use Rattle.first_reading.specs.Search.{Numbers, withEdge, firstEdges}

@@ -17,7 +17,7 @@ use Rattle.walks.specs.Guide as walks
 use Rattle.tables.specs.declared.Table.{Table}
 use Rattle.tables.specs.Rows.{rowsIn}
 use Rattle.tables.specs.Held.{automatonOf}
-use Rattle.saturation.specs.Running.{sizeRow}
+use Rattle.saturation.specs.Layout.{sizeRow}
 use Rattle.cell_steps.specs.declared.Top.{Top}
 use Rattle.cell_steps.specs.Steps.Choices.{topState, rootEdge, HoldsNumbers}
 use Rattle.guided_step.specs.declared.Next.{Next}

@@ -1,3 +1,3 @@
 pub mod Stepped
-pub mod Rules
 pub mod Turns
+pub mod Laws

@@ -3,7 +3,7 @@ ghost use mathlib.Core.Path.{_≡_};
 ghost use Prim.Native.Nat.{_<_, _≤_, _+_, _*_};
 ghost use lib.ListN.{length, take};
 ghost use Rattle.tables.specs.Rows.{rowsIn};
-ghost use Rattle.tables.specs.Records.{moveRow};
+ghost use Rattle.tables.specs.Layouts.{moveRow};
 ghost use Rattle.tables.specs.Held.{automatonOf, edgesIn, EdgesStand, EntriesStand};
 ghost use Rattle.cell_memory.specs.Memory.{cellOf, guidedIn};
 ghost use Rattle.acceptance.specs.Words.{moveMet, edgeMet};

@@ -1,4 +1,3 @@
 pub mod Prepared
-pub mod Texts
 pub mod Starts
-pub mod Printed
+pub mod Laws

@@ -5,7 +5,8 @@ ghost use Prim.Native.Nat.{_+_, _*_, _≤_};
 ghost use lib.ListN.{length};
 ghost use Rattle.words.specs.Order.{same};
 ghost use Rattle.tables.specs.Rows.{rowAt, putRow};
-ghost use Rattle.memo_table.specs.States.{stateWords, stateRow, readState, edgesState};
+ghost use Rattle.memo_table.specs.States.{stateWords, readState, edgesState};
+ghost use Rattle.memo_table.specs.Layout.{stateRow};
 use limits::Limits;
 
 // A state of the recursion over readings of a symbol, to entries of a control. Kind 1: the order-1 states `left` are still to be read, for the

@@ -14,7 +14,7 @@ use Rattle.automata.specs.Saturation.{held}
 use Rattle.tables.specs.Rows.{rowAt}
 use Rattle.tables.specs.Pending.{pendingIn}
 use Rattle.memo_table.specs.declared.State.{State}
-use Rattle.memo_table.specs.States.{stateRow}
+use Rattle.memo_table.specs.Layout.{stateRow}
 use Rattle.joins.specs.Joining.{theJoins}
 use Rattle.readings.specs.Offers.{offerAll}
 use Rattle.readings.specs.Readings.{readResults, edgeResults}

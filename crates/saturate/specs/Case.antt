@@ -12,10 +12,11 @@ use Rattle.services.specs.Memory.{lent}
 use Rattle.words.specs.Lists.{zeros}
 use Rattle.tables.specs.declared.Table.{Table}
 use Rattle.tables.specs.Rows.{rowsIn}
-use Rattle.tables.specs.Records.{entryRow, moveRow}
+use Rattle.tables.specs.Layouts.{entryRow, moveRow}
 use Rattle.tables.specs.Held.{automatonOf}
 use Rattle.tables.specs.Filled.{Filled}
-use Rattle.saturation.specs.Running.{mostMoves, mostEntries, sizeRow, ended}
+use Rattle.saturation.specs.Running.{mostMoves, mostEntries, ended}
+use Rattle.saturation.specs.Layout.{sizeRow}
 use Rattle.saturation.specs.Rounding.{Standing}
 
 -- What is asked of the memory: the tables are all zero, and there is room for 64 inner edges, 1,024 results and 1,025 sizes.

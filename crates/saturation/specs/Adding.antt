@@ -11,7 +11,7 @@ use Rattle.automata.specs.Derivation.{Result}
 use Rattle.automata.specs.Saturation.{entryNumber, withEntry, addAll}
 use Rattle.tables.specs.declared.Table.{Table}
 use Rattle.tables.specs.Rows.{rowsIn}
-use Rattle.tables.specs.Records.{entryRow, moveRow}
+use Rattle.tables.specs.Layouts.{entryRow, moveRow}
 use Rattle.tables.specs.Held.{automatonOf}
 use Rattle.tables.specs.Filled.{Filled}
 

@@ -1,3 +1,4 @@
 pub mod Adding
 pub mod Rounding
 pub mod Running
+pub mod Layout

@@ -1,20 +1,19 @@
 -- Rounds until one adds no move or passes a limit.
 -- Assumes nothing.
 pub mod Laws
-use Prim.Native.Nat.{ℕ, _-_, _/_, _≤_, _<_, min}
+use Prim.Native.Nat.{ℕ, _-_, _/_, _≤_, min}
 use mathlib.Core.Bool.{Bool, true, false}
-use mathlib.Core.Path.{_≡_, refl}
+use mathlib.Core.Path.{_≡_}
 use mathlib.Core.Option.{Option, none, some}
 use mathlib.Core.List.{List, [], _∷_}
-use native.Mathlib.Omega.{arith}
-use lib.ListN.{length, getD}
+use lib.ListN.{length}
 use Rattle.stacks.specs.System.{Rule}
 use Rattle.automata.specs.Automaton.{Automaton}
 use Rattle.automata.specs.Saturation.{Size, Saturated, saturate, saturateFrom}
 use Rattle.services.specs.Memory.{lent}
 use Rattle.tables.specs.declared.Table.{Table}
-use Rattle.tables.specs.Rows.{firstOf, Layout, rowsIn}
-use Rattle.tables.specs.Records.{entryRow, moveRow}
+use Rattle.tables.specs.Rows.{rowsIn}
+use Rattle.tables.specs.Layouts.{entryRow, moveRow}
 use Rattle.tables.specs.Held.{automatonOf, EdgesStand, EntriesStand, MovesStand}
 use Rattle.tables.specs.Filled.{Filled}
 use Rattle.saturation.specs.Rounding.{Standing}
@@ -37,34 +36,6 @@ sizeWords x = x .moves ∷ x .entries ∷ []
 
 abbrev pub sizeFrom : (ℕ → ℕ) → Size
 sizeFrom f = record { moves = f 0; entries = f 1 }
-
-pub size-length : (x : Size) → length (sizeWords x) ≡ 2
-unfolding sizeWords
-size-length x = refl
-
-pub size-words : (f : ℕ → ℕ) → sizeWords (sizeFrom f) ≡ firstOf 2 f
-unfolding sizeWords firstOf
-size-words f = refl
-
-pub size-back : (x : Size) → sizeFrom (λ j. getD (sizeWords x) j 0) ≡ x
-unfolding sizeWords
-size-back x = refl
-
-pub size-same : (f g : ℕ → ℕ) → ((j : ℕ) → j < 2 → f j ≡ g j) → sizeFrom f ≡ sizeFrom g
-size-same f g h = λ i. record { moves = h 0 (omega arith) i; entries = h 1 (omega arith) i }
-
-abbrev pub sizeRow : Layout Size
-sizeRow =
-    record {
-      width = 2;
-      words = sizeWords;
-      read = sizeFrom;
-      some-words = omega arith;
-      length-words = size-length;
-      words-read = size-words;
-      read-words = size-back;
-      read-same = size-same;
-    }
 
 -- ---- the loop
 

@@ -5,11 +5,13 @@ ghost use mathlib.Core.List.{[], _∷_};
 ghost use Prim.Native.Nat.{_<_, _≤_, _+_, _*_};
 ghost use lib.ListN.{length};
 ghost use Rattle.tables.specs.Rows.{rowsIn, putRow};
-ghost use Rattle.tables.specs.Records.{asEntry, asResult, resultRow};
+ghost use Rattle.tables.specs.Records.{asEntry, asResult};
+ghost use Rattle.tables.specs.Layouts.{resultRow};
 ghost use Rattle.results.specs.Collecting.{RulesStand, rulesIn};
 ghost use Rattle.saturation.specs.Adding.{Entered, Growing, Added};
 ghost use Rattle.saturation.specs.Rounding.{Standing, Rounded};
-ghost use Rattle.saturation.specs.Running.{mostMoves, mostEntries, theSize, sizeRow, Given, Ends};
+ghost use Rattle.saturation.specs.Running.{mostMoves, mostEntries, theSize, Given, Ends};
+ghost use Rattle.saturation.specs.Layout.{sizeRow};
 use limits::Limits;
 
 // A table with results added, or, where `fits` is false, the table before there was no room for an entry.

@@ -10,7 +10,8 @@ use Rattle.tables.specs.declared.Table.{Table}
 use Rattle.tables.specs.declared.Found.{Found}
 use Rattle.tables.specs.declared.Found.the-variants.{Nothing, At}
 use Rattle.tables.specs.Rows.{rowAt, rowsIn}
-use Rattle.tables.specs.Records.{moveRow, entryRow, edgeRow, asEntry}
+use Rattle.tables.specs.Records.{asEntry}
+use Rattle.tables.specs.Layouts.{moveRow, entryRow, edgeRow}
 
 -- the automaton, by the words of its inner edges, entries and moves
 abbrev pub automatonOf : Table → List ℕ → List ℕ → List ℕ → Automaton

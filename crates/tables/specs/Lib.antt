@@ -1,7 +1,8 @@
 pub mod Rows
 pub mod Records
-pub mod Searches
 pub mod Insertion
 pub mod Pending
 pub mod Held
 pub mod Filled
+pub mod Layouts
+pub mod Laws

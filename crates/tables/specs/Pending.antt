@@ -10,7 +10,7 @@ use lib.Dec.{leb}
 use Rattle.words.specs.Order.{insert}
 use Rattle.automata.specs.Derivation.{Result, resultKey}
 use Rattle.tables.specs.Rows.{rowsIn}
-use Rattle.tables.specs.Records.{resultRow}
+use Rattle.tables.specs.Layouts.{resultRow}
 
 -- the results, where there is room for them
 unfoldable pub limited : ℕ → List Result → Option (List Result)

@@ -12,7 +12,8 @@ ghost use Rattle.tables.specs.Rows.{rowAt, rowsIn, putRow};
 ghost use Rattle.tables.specs.Held.{tableOf, edgesIn, foundEntry, entryFor, EdgesStand, EntriesStand, MovesStand};
 ghost use Rattle.tables.specs.Insertion.{rowWords, wordRows, leading, reached, withRow, insertedIn, Inserted};
 ghost use Rattle.tables.specs.Pending.{pendingIn, insertWithin};
-ghost use Rattle.tables.specs.Records.{moveRow, entryRow, edgeRow, resultRow, asMove, asEntry, asEdge, asResult};
+ghost use Rattle.tables.specs.Records.{asMove, asEntry, asEdge, asResult};
+ghost use Rattle.tables.specs.Layouts.{moveRow, entryRow, edgeRow, resultRow};
 use limits::Limits;
 
 // A move of an order-1 state.

@@ -1,3 +1,3 @@
 pub mod Written
-pub mod Decimal
 pub mod Lines
+pub mod Laws

@@ -6,7 +6,7 @@ use lib.ListN.{take}
 use Rattle.automata.specs.Automaton.{noMove}
 use Rattle.tables.specs.Rows.{rowsIn}
 use Rattle.tables.specs.Rows.Laws.{length-rowsIn}
-use Rattle.tables.specs.Records.{moveRow}
+use Rattle.tables.specs.Layouts.{moveRow}
 use Rattle.acceptance.specs.Words.{moveMet, statesMet}
 use Rattle.acceptance.specs.Words.Turns.{states-none, states-more, states-all}
 use Rattle.acceptance.specs.Named.Laws.{move-small, move-row}

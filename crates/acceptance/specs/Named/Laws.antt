@@ -12,7 +12,7 @@ use Rattle.automata.specs.Automaton.{Move, Edge, noEdge, noMove}
 use Rattle.tables.specs.declared.Table.{Table}
 use Rattle.tables.specs.Rows.{rowAt, rowsIn}
 use Rattle.tables.specs.Rows.Laws.{getD-rowsIn}
-use Rattle.tables.specs.Records.{moveRow, entryRow}
+use Rattle.tables.specs.Layouts.{moveRow, entryRow}
 use Rattle.tables.specs.Held.{edgesIn}
 use Rattle.tables.specs.Held.Laws.{edge-inner, edge-entry}
 use Rattle.acceptance.specs.Named.{MovesNamed, EdgesNamed}

@@ -21,7 +21,7 @@ use Rattle.services.specs.Saturate.{Lent, saturated}
 use Rattle.tables.specs.declared.Table.{Table}
 use Rattle.tables.specs.Rows.{Layout, rowAt, rowsIn}
 use Rattle.tables.specs.Rows.Laws.{length-rowsIn, getD-rowsIn}
-use Rattle.tables.specs.Records.{moveRow, entryRow, edgeRow}
+use Rattle.tables.specs.Layouts.{moveRow, entryRow, edgeRow}
 use Rattle.acceptance.specs.Named.{TablesNamed}
 use Rattle.acceptance.specs.Table.{Small, HoldsTable}
 

@@ -1,7 +1,7 @@
 -- `bytes_in::number2` meets its contract.
 -- Assumes nothing.
 use native.Mathlib.Omega.{arith}
-use Rattle.bytes_in.specs.Fields.{field-two}
+use Rattle.bytes_in.specs.Laws.Fields.{field-two}
 use borrow.Author.Needs.{needs}
 use Rattle.bytes_in.proofs.number2.Statement.{statement}
 use Rattle.bytes_in.proofs.number2.Tie as tie

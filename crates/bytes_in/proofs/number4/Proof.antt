@@ -1,7 +1,7 @@
 -- `bytes_in::number4` meets its contract.
 -- Assumes nothing.
 use native.Mathlib.Omega.{arith}
-use Rattle.bytes_in.specs.Fields.{field-four}
+use Rattle.bytes_in.specs.Laws.Fields.{field-four}
 use borrow.Author.Needs.{needs}
 use Rattle.bytes_in.proofs.number4.Statement.{statement}
 use Rattle.bytes_in.proofs.number4.Tie as tie

@@ -1,7 +1,7 @@
 -- `bytes_in::number8` meets its contract.
 -- Assumes nothing.
 use native.Mathlib.Omega.{arith}
-use Rattle.bytes_in.specs.Fields.{field-eight}
+use Rattle.bytes_in.specs.Laws.Fields.{field-eight}
 use borrow.Author.Needs.{needs}
 use Rattle.bytes_in.proofs.number8.Statement.{statement}
 use Rattle.bytes_in.proofs.number8.Tie as tie

@@ -9,7 +9,7 @@ use Rattle.words.specs.Lists.{only}
 use Rattle.files.specs.Bytes.{records}
 use Rattle.files.specs.Case.{edgeBytes, entriesOf}
 use Rattle.case_records.specs.Values.{theHead}
-use Rattle.case_file.specs.Bodies.{entries-more}
+use Rattle.case_file.specs.Laws.Bodies.{entries-more}
 use borrow.Author.Needs.{needs}
 use Rattle.case_file.proofs.entries_in.Statement.{statement}
 use Rattle.case_file.proofs.entries_in.Tie as tie

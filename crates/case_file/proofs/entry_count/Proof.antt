@@ -2,7 +2,7 @@
 -- Assumes nothing.
 use mathlib.Core.Path.{ap, sym}
 use lib.ListN.{length}
-use Rattle.case_file.specs.Bodies.{entry-yes, entry-no}
+use Rattle.case_file.specs.Laws.Bodies.{entry-yes, entry-no}
 use borrow.Author.Needs.{needs}
 use Rattle.case_file.proofs.entry_count.Statement.{statement}
 use Rattle.case_file.proofs.entry_count.Tie as tie

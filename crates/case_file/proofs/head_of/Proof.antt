@@ -3,7 +3,7 @@
 use mathlib.Core.Path.{_∙_}
 use native.Mathlib.Omega.{arith}
 use Rattle.files.specs.Case.Laws.{CasePlaces, case-places}
-use Rattle.case_file.specs.Bodies.{head-length, head-here}
+use Rattle.case_file.specs.Laws.Bodies.{head-length, head-here}
 use Rattle.case_file.proofs.head_of.Statement.{statement}
 use Rattle.case_file.proofs.head_of.Tie as tie
 

@@ -7,7 +7,7 @@ use lib.Dec.{eqb, ltb, leb}
 use borrow.Author.Tests.{eq-eqb, ne-eqb}
 use native.Mathlib.Omega.{arith}
 use Rattle.files.specs.Case.{Head, inner1, inner2, RuleBytes, ruleRight, EdgeBytes, edgeRight, annotationRight}
-use Rattle.case_records.specs.Inner.{every-below, every-between}
+use Rattle.case_records.specs.Laws.Inner.{every-below, every-between}
 use Rattle.case_records.specs.Bounds.{operandRight, firstRight}
 
 -- ---- the tests by their parts

@@ -1,7 +1,7 @@
 -- `case_tables::add_entry` meets its contract.
 -- Assumes nothing.
 use Rattle.case_records.specs.Values.{theHead, theEdge}
-use Rattle.case_file.specs.Bodies.{entry-yes, entry-no}
+use Rattle.case_file.specs.Laws.Bodies.{entry-yes, entry-no}
 use Rattle.case_tables.specs.WrittenRows.{written}
 use borrow.Author.Needs.{needs}
 use Rattle.case_tables.proofs.add_entry.Statement.{statement}

@@ -4,7 +4,7 @@ use mathlib.Core.Path.{refl}
 use native.Mathlib.Omega.{arith}
 use Rattle.files.specs.Case.{ownOf}
 use Rattle.files.specs.Case.Laws.{CasePlaces, case-places}
-use Rattle.tables.specs.Records.{edgeRow, entryRow, moveRow}
+use Rattle.tables.specs.Layouts.{edgeRow, entryRow, moveRow}
 use Rattle.bytes_in.specs.Records.Laws.{body-fits}
 use Rattle.case_tables.specs.Own.{HoldsOwn}
 use Rattle.case_tables.specs.Own.Laws.{own-entries, own-loaded, holds-inner, holds-entries, holds-moves}

@@ -8,10 +8,10 @@ use native.Mathlib.Omega.{arith}
 use Rattle.words.specs.Lists.{only}
 use Rattle.files.specs.Bytes.{records}
 use Rattle.files.specs.Case.{EdgeBytes, edgeBytes, entriesOf}
-use Rattle.tables.specs.Records.{entryRow}
+use Rattle.tables.specs.Layouts.{entryRow}
 use Rattle.bytes_in.specs.Records.{recordAt}
 use Rattle.case_records.specs.Values.{theHead}
-use Rattle.case_file.specs.Bodies.{entries-more}
+use Rattle.case_file.specs.Laws.Bodies.{entries-more}
 use Rattle.case_tables.specs.WrittenRows.{written}
 use Rattle.case_tables.specs.Decoded.Laws.{entries-within, entries-step}
 use borrow.Author.Needs.{needs}

@@ -7,7 +7,7 @@ use lib.ListN.{length}
 use native.Mathlib.Omega.{arith}
 use Rattle.files.specs.Bytes.{records}
 use Rattle.files.specs.Case.{moveOf}
-use Rattle.tables.specs.Records.{moveRow}
+use Rattle.tables.specs.Layouts.{moveRow}
 use Rattle.case_tables.specs.WrittenRows.{written}
 use Rattle.case_tables.specs.Decoded.Laws.{moves-more}
 use borrow.Author.Needs.{needs}

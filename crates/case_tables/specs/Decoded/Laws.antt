@@ -20,10 +20,11 @@ use Rattle.bytes_in.specs.Records.{recordAt}
 use Rattle.bytes_in.specs.Records.Laws.{records-split, from-last, from-first, from-cons, map-more}
 use Rattle.tables.specs.Rows.{firstOf, rowsIn, putRow}
 use Rattle.tables.specs.Rows.Laws.{length-rowsIn}
-use Rattle.tables.specs.Records.{edgeRow, entryRow, moveRow}
+use Rattle.tables.specs.Layouts.{edgeRow, entryRow, moveRow}
 use Rattle.tables.specs.Insertion.{Inserted}
-use Rattle.case_tables.specs.WrittenRows.{written, written-append, written-more, written-whole}
-use Rattle.case_file.specs.Bodies.{entries-append}
+use Rattle.case_tables.specs.WrittenRows.{written}
+use Rattle.case_tables.specs.WrittenRows.Laws.{written-append, written-more, written-whole}
+use Rattle.case_file.specs.Laws.Bodies.{entries-append}
 use Rattle.case_tables.specs.Decoded.{innerEdge, withInner, MoreInner, edgesFrom, InnerFrom}
 
 pub inner-none : (h : Head) → innerEdges h [] ≡ []

@@ -10,11 +10,12 @@ use Rattle.files.specs.Bytes.Laws.{length-recordsOf}
 use Rattle.files.specs.Case.{Head, head, edgeBytes, edgeRecords, entriesOf, innerEdges, moveOf, moveRecords, ownOf}
 use Rattle.tables.specs.declared.Table.{Table}
 use Rattle.tables.specs.Rows.{Layout, rowsIn}
-use Rattle.tables.specs.Records.{edgeRow, entryRow, moveRow}
+use Rattle.tables.specs.Layouts.{edgeRow, entryRow, moveRow}
 use Rattle.tables.specs.Held.{automatonOf}
 use Rattle.bytes_in.specs.Records.{bodyOf}
 use Rattle.bytes_in.specs.Records.Laws.{records-here}
-use Rattle.case_tables.specs.WrittenRows.{written, rows-written}
+use Rattle.case_tables.specs.WrittenRows.{written}
+use Rattle.case_tables.specs.WrittenRows.Laws.{rows-written}
 use Rattle.case_tables.specs.Own.{HoldsOwn}
 
 -- ---- the lists of the automaton, by the bodies that are read

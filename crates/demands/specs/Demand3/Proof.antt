@@ -33,7 +33,7 @@ use Rattle.guidance.specs.Prefix.{haltBy, isArrival, FirstHalt, guided-prefix, 
 use Rattle.guidance.specs.Arrival
 use Rattle.guidance.specs.Decoration.{start-bare}
 use Rattle.guidance.specs.Arrival.{GuidedArrival, start-arrival, start-configuration}
-use Rattle.demands.specs.FromBytes.{case-saturated}
+use Rattle.demands.specs.Laws.FromBytes.{case-saturated}
 use Rattle.demands.specs.FullRun.{used, HaltsAfter, Stops}
 use Rattle.demands.specs.FullRun.Laws.{stop-halts, stop-least, cells-after, length-trace}
 use Rattle.demands.specs.Demand1.Proof.{padded-none}

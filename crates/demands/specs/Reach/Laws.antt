@@ -16,7 +16,7 @@ use Rattle.rounds.specs.Limits.{IsSaturated}
 use Rattle.rounds.specs.Before.{table-extends}
 use Rattle.completeness.specs.Complete.{run-accepted}
 use Rattle.soundness.specs.Theorem.{sound}
-use Rattle.demands.specs.FromBytes.{saturated-facts}
+use Rattle.demands.specs.Laws.FromBytes.{saturated-facts}
 use Rattle.demands.specs.Reach.{Reaches, PublishedReaches}
 
 pub reaches-published : {rules : List Rule} {own : Automaton} {c : Configuration} → Reaches rules own c ↔ PublishedReaches rules own c

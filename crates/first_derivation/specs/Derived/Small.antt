@@ -20,7 +20,7 @@ use Rattle.automata.specs.Derivation.{named}
 use Rattle.tables.specs.declared.Table.{Table}
 use Rattle.tables.specs.Rows.{rowAt, rowsIn}
 use Rattle.tables.specs.Rows.Laws.{length-rowsIn, getD-rowsIn}
-use Rattle.tables.specs.Records.{moveRow, entryRow, edgeRow}
+use Rattle.tables.specs.Layouts.{moveRow, entryRow, edgeRow}
 use Rattle.tables.specs.Held.{automatonOf}
 use Rattle.tables.specs.Held.Laws.{none-set}
 use Rattle.first_reading.specs.Words.{TablesWithin}

@@ -18,7 +18,7 @@ use Rattle.walks.specs.Guide.{firstOrZero}
 use Rattle.tables.specs.declared.Table.{Table}
 use Rattle.tables.specs.Rows.{rowAt, rowsIn}
 use Rattle.tables.specs.Rows.Laws.{length-rowsIn, getD-rowsIn}
-use Rattle.tables.specs.Records.{moveRow, entryRow}
+use Rattle.tables.specs.Layouts.{moveRow, entryRow}
 use Rattle.tables.specs.Held.{automatonOf, tableOf}
 use Rattle.tables.specs.Held.Laws.{row-move}
 use Rattle.first_reading.specs.First.{onlyIf, isSome, firstBelow}

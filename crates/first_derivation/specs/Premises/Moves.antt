@@ -14,7 +14,7 @@ use Rattle.automata.specs.Automaton.{Automaton, Move, moveAt, entryAt, entrySet
 use Rattle.automata.specs.Derivation.{Result, joinsOf, named}
 use Rattle.tables.specs.declared.Table.{Table}
 use Rattle.tables.specs.Rows.{rowAt}
-use Rattle.tables.specs.Records.{moveRow}
+use Rattle.tables.specs.Layouts.{moveRow}
 use Rattle.tables.specs.Held.{automatonOf, tableOf}
 use Rattle.tables.specs.Held.Laws.{row-move}
 use Rattle.first_reading.specs.First.{onlyIf, isSome}

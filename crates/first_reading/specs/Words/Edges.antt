@@ -16,7 +16,7 @@ use Rattle.automata.specs.Derivation.{Result, Joins, named}
 use Rattle.tables.specs.declared.Table.{Table}
 use Rattle.tables.specs.Rows.{rowsIn}
 use Rattle.tables.specs.Rows.Laws.{length-rowsIn}
-use Rattle.tables.specs.Records.{edgeRow, entryRow}
+use Rattle.tables.specs.Layouts.{edgeRow, entryRow}
 use Rattle.tables.specs.Held.{automatonOf, edgesIn}
 use Rattle.first_reading.specs.First.{onlyIf, firstBelow}
 use Rattle.first_reading.specs.First.Laws.{onlyIf-yes, onlyIf-no, atPlace, firstOf-places}

@@ -15,7 +15,7 @@ use Rattle.automata.specs.Automaton.{Automaton, Move, noMove, moveAt, movesOf}
 use Rattle.automata.specs.Derivation.{Result, Joins, joinMove}
 use Rattle.tables.specs.Rows.{rowAt, rowsIn}
 use Rattle.tables.specs.Rows.Laws.{length-rowsIn, getD-rowsIn}
-use Rattle.tables.specs.Records.{moveRow}
+use Rattle.tables.specs.Layouts.{moveRow}
 use Rattle.joins.specs.Joining.{candidateOf}
 use Rattle.joins.specs.Joining.Laws.{candidate-yes, candidate-no}
 use Rattle.first_reading.specs.First.{onlyIf, isSome, firstBelow}

@@ -27,7 +27,7 @@ use Rattle.cell_memory.specs.Memory.{guidedIn}
 use Rattle.acceptance.specs.Cells.{cellWords}
 use Rattle.acceptance.specs.Cells.Laws.{length-cellWords}
 use Rattle.acceptance.specs.Cells.Body.{cellsIn}
-use Rattle.acceptance.specs.Starts.{cells-body}
+use Rattle.acceptance.specs.Laws.Starts.{cells-body}
 use Rattle.least_choices.specs.Starts.{Prepared, startCells}
 use Rattle.guided_step.specs.declared.Walk.{Walk}
 use Rattle.guided_step.specs.Walks.{walkIn}

@@ -14,10 +14,11 @@ use Rattle.automata.specs.Saturation.Laws.{lastUpTo-yes, lastUpTo-no}
 use Rattle.tables.specs.declared.Table.{Table}
 use Rattle.tables.specs.Rows.{firstOf, Layout, rowAt, rowsIn}
 use Rattle.tables.specs.Rows.Laws.{length-rowsIn, getD-rowsIn, rowsIn-list}
-use Rattle.tables.specs.Records.{moveRow, entryRow, edgeRow}
+use Rattle.tables.specs.Layouts.{moveRow, entryRow, edgeRow}
 use Rattle.tables.specs.Held.{automatonOf, tableOf, entryFor}
 use Rattle.first_reading.specs.Words.{TablesWithin}
-use Rattle.saturation.specs.Running.{theSize, sizeRow}
+use Rattle.saturation.specs.Running.{theSize}
+use Rattle.saturation.specs.Layout.{sizeRow}
 use Rattle.guided_step.specs.Earlier.{tableUpTo}
 
 -- ---- the last size that has no more than i moves

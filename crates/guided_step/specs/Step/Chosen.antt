@@ -21,7 +21,7 @@ use Rattle.walks.specs.Guide.{firstOrZero, choosesAll}
 use Rattle.tables.specs.declared.Table.{Table}
 use Rattle.tables.specs.Rows.{rowsIn}
 use Rattle.tables.specs.Rows.Laws.{length-rowsIn}
-use Rattle.tables.specs.Records.{moveRow, entryRow, edgeRow}
+use Rattle.tables.specs.Layouts.{moveRow, entryRow, edgeRow}
 use Rattle.tables.specs.Held.{automatonOf}
 use Rattle.first_reading.specs.Words.{TablesWithin}
 use Rattle.first_derivation.specs.Premises.{edgeStates, readStates}

@@ -20,10 +20,11 @@ use Rattle.walks.specs.Guide.{firstOrZero, choosesAll, byDerivation, atTop}
 use Rattle.tables.specs.declared.Table.{Table}
 use Rattle.tables.specs.Rows.{firstOf, rowsIn}
 use Rattle.tables.specs.Rows.Laws.{length-firstOf, getD-firstOf}
-use Rattle.tables.specs.Records.{moveRow}
+use Rattle.tables.specs.Layouts.{moveRow}
 use Rattle.tables.specs.Held.{automatonOf, tableOf}
 use Rattle.results.specs.Collecting.{ruleIn, rulesIn}
-use Rattle.saturation.specs.Running.{theSize, sizeRow}
+use Rattle.saturation.specs.Running.{theSize}
+use Rattle.saturation.specs.Layout.{sizeRow}
 use Rattle.first_reading.specs.Words.{TablesWithin}
 use Rattle.first_derivation.specs.declared.First.{First}
 use Rattle.first_derivation.specs.declared.First.the-variants.{Missing, Found}

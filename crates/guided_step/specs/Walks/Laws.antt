@@ -13,7 +13,7 @@ use Rattle.walks.specs.Guide.{Guided, noGuided, Walk, Top, guidedAt, topOn, top
 use Rattle.tables.specs.declared.Table.{Table}
 use Rattle.tables.specs.Rows.{rowsIn}
 use Rattle.tables.specs.Rows.Laws.{length-rowsIn}
-use Rattle.tables.specs.Records.{edgeRow, entryRow}
+use Rattle.tables.specs.Layouts.{edgeRow, entryRow}
 use Rattle.tables.specs.Held.{automatonOf, edgesIn}
 use Rattle.cell_memory.specs.declared.Cell.{Cell}
 use Rattle.cell_memory.specs.declared.Cell.the-variants.{Empty1, Symbol, Empty2, Above}

@@ -4,7 +4,7 @@ use mathlib.Core.Path.{refl}
 use native.Mathlib.Omega.{arith}
 use Rattle.guided_step.specs.Step.Laws.{rule-numbered}
 use Rattle.guided_walk.specs.Turns.Laws.{next-arrived, next-stuck, next-taken, turn-arrived, turn-stuck, turn-by}
-use Rattle.guided_walk.specs.Rules.{rule-read, step-stands}
+use Rattle.guided_walk.specs.Laws.Rules.{rule-read, step-stands}
 use borrow.Author.Needs.{needs}
 use Rattle.guided_walk.proofs.advance.Statement.{statement}
 use Rattle.guided_walk.proofs.advance.Tie as tie

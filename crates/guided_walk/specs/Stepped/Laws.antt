@@ -14,7 +14,7 @@ use Rattle.walks.specs.Guide as walks
 use Rattle.tables.specs.declared.Table.{Table}
 use Rattle.tables.specs.Rows.{rowsIn}
 use Rattle.tables.specs.Rows.Laws.{length-rowsIn}
-use Rattle.tables.specs.Records.{moveRow, edgeRow}
+use Rattle.tables.specs.Layouts.{moveRow, edgeRow}
 use Rattle.tables.specs.Held.{automatonOf}
 use Rattle.cell_memory.specs.Memory.{guidedIn}
 use Rattle.cell_memory.specs.Memory.Laws.{length-guidedIn}

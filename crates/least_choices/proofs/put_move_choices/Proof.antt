@@ -4,7 +4,7 @@ use Prim.Native.Nat.{_-_, _≤_}
 use Rattle.automata.specs.Automaton.{noMove}
 use Rattle.tables.specs.Rows.{rowsIn}
 use Rattle.tables.specs.Rows.Laws.{length-rowsIn}
-use Rattle.tables.specs.Records.{moveRow}
+use Rattle.tables.specs.Layouts.{moveRow}
 use Rattle.acceptance.specs.Words.{moveMet}
 use Rattle.acceptance.specs.Named.Laws.{move-small, move-row}
 use Rattle.least_choices.specs.Choices.Laws.{Looked, looked-none, looked-more, looked-all}

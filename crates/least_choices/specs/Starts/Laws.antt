@@ -21,7 +21,7 @@ use Rattle.walks.specs.Guide.{Guided, leastChoice}
 use Rattle.tables.specs.declared.Table.{Table}
 use Rattle.tables.specs.Rows.{rowsIn}
 use Rattle.tables.specs.Rows.Laws.{length-rowsIn, getD-rowsIn}
-use Rattle.tables.specs.Records.{moveRow}
+use Rattle.tables.specs.Layouts.{moveRow}
 use Rattle.tables.specs.Held.{automatonOf, edgesIn}
 use Rattle.cell_memory.specs.Memory.{cellOf, valueOf, guidedCell, withCell}
 use Rattle.cell_memory.specs.Memory.Laws.{cellOf-valueOf, length-withCell, withCell-other, withCell-guided}

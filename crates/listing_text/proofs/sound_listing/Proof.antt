@@ -8,7 +8,7 @@ use Rattle.words.specs.Lists.{zeros}
 use Rattle.text.specs.Written.Laws.{written-same}
 use Rattle.sound_files.specs.Saturated.Laws.{table-none}
 use Rattle.listing_text.specs.Prepared.Laws.{prepared}
-use Rattle.listing_text.specs.Texts.{listing-exceeded}
+use Rattle.listing_text.specs.Laws.Texts.{listing-exceeded}
 use Rattle.listing_text.proofs.sound_listing.Statement.{statement}
 use Rattle.listing_text.proofs.sound_listing.Tie as tie
 

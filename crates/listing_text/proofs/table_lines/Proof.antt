@@ -3,7 +3,7 @@
 use native.Mathlib.Omega.{arith}
 use borrow.Author.Needs.{needs}
 use Rattle.text.specs.Written.Laws.{written-then, written-same}
-use Rattle.listing_text.specs.Texts.{listing-judged}
+use Rattle.listing_text.specs.Laws.Texts.{listing-judged}
 use Rattle.listing_text.proofs.table_lines.Statement.{statement}
 use Rattle.listing_text.proofs.table_lines.Tie as tie
 

@@ -1,6 +1,6 @@
 -- `memo_table::place` meets its contract.
 -- Assumes nothing.
-use Rattle.memo_table.specs.States.{row-lent}
+use Rattle.memo_table.specs.States.Laws.{row-lent}
 use borrow.Author.Needs.{needs}
 use Rattle.memo_table.proofs.place.Statement.{statement}
 use Rattle.memo_table.proofs.place.Tie as tie

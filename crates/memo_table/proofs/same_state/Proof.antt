@@ -1,6 +1,7 @@
 -- `memo_table::same_state` meets its contract.
 -- Assumes nothing.
-use Rattle.memo_table.specs.States.{stateWords, states-differ, states-last}
+use Rattle.memo_table.specs.States.{stateWords}
+use Rattle.memo_table.specs.States.Laws.{states-differ, states-last}
 use Rattle.memo_table.proofs.same_state.Statement.{statement}
 use Rattle.memo_table.proofs.same_state.Tie as tie
 

@@ -9,7 +9,7 @@ use Rattle.words.specs.Sets.{members}
 use Rattle.tables.specs.Held.{automatonOf}
 use Rattle.joins.specs.Joining.{asJoins}
 use Rattle.readings.specs.Offers.Laws.{collects-over}
-use Rattle.readings.specs.Edges.{EdgesUpTo, edges-none, edges-yes, edges-no, edges-all, edges-left, edges-end}
+use Rattle.readings.specs.Edges.Laws.{EdgesUpTo, edges-none, edges-yes, edges-no, edges-all, edges-left, edges-end}
 use Rattle.readings.specs.Memo.{MemoHolds}
 use Rattle.readings.specs.Memo.Laws.{edges-gives, memo-same, memo-found, memo-more}
 use Rattle.words.specs.Lists.Laws.{fewer-left}

@@ -9,7 +9,7 @@ use Rattle.words.specs.Sets.{members}
 use Rattle.tables.specs.Held.{automatonOf}
 use Rattle.joins.specs.Joining.{asJoins, asJoined}
 use Rattle.readings.specs.Offers.Laws.{collects-over}
-use Rattle.readings.specs.Edges.{collects-edges}
+use Rattle.readings.specs.Edges.Laws.{collects-edges}
 use Rattle.readings.specs.Memo.{MemoHolds}
 use Rattle.readings.specs.Memo.Laws.{read-gives, memo-same, memo-later, memo-found, memo-more}
 use Rattle.readings.specs.Turns.{ReadUpTo}

@@ -5,7 +5,7 @@ use mathlib.Core.Path.{_≡_}
 use native.Mathlib.Omega.{arith}
 use mathlib.Core.Bool.{false}
 use Rattle.tables.specs.Records.{asResult}
-use Rattle.readings.specs.Holding.{heldBelow, held-none, held-more, held-found, held-all}
+use Rattle.readings.specs.Laws.Holding.{heldBelow, held-none, held-more, held-found, held-all}
 use borrow.Author.Needs.{needs}
 use Rattle.readings.proofs.is_held.Statement.{statement}
 use Rattle.readings.proofs.is_held.Tie as tie

@@ -3,7 +3,7 @@
 use mathlib.Core.Path.{sym, _∙_, ap}
 use borrow.Author.Tests.{not-true, not-false}
 use Rattle.automata.specs.Derivation.{Result, resultOf}
-use Rattle.readings.specs.Holding.{differs, of-no-entry, by-set}
+use Rattle.readings.specs.Laws.Holding.{differs, of-no-entry, by-set}
 use Prim.Native.Nat.{ℕ}
 use lib.Dec.{eqb}
 use borrow.Author.Needs.{needs}

@@ -20,7 +20,9 @@ use Rattle.tables.specs.Rows.{rowAt, putRow}
 use Rattle.tables.specs.Rows.Laws.{length-putRow, put-same, put-other}
 use Rattle.tables.specs.Pending.{pendingIn}
 use Rattle.memo_table.specs.declared.State.{State}
-use Rattle.memo_table.specs.States.{stateWords, stateRow, readState, edgesState, same-states}
+use Rattle.memo_table.specs.States.{stateWords, readState, edgesState}
+use Rattle.memo_table.specs.States.Laws.{same-states}
+use Rattle.memo_table.specs.Layout.{stateRow}
 use Rattle.joins.specs.Joining.{theJoins}
 use Rattle.readings.specs.Offers.{offerAll, Collects}
 use Rattle.readings.specs.Offers.Again.{offerAll-both, offerAll-twice}

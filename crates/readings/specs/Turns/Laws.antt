@@ -16,12 +16,13 @@ use Rattle.tables.specs.declared.Table.{Table}
 use Rattle.tables.specs.declared.Result.{Result as ResultWords}
 use Rattle.tables.specs.Rows.{rowAt, rowsIn}
 use Rattle.tables.specs.Rows.Laws.{length-rowsIn, getD-rowsIn}
-use Rattle.tables.specs.Records.{moveRow, asResult}
+use Rattle.tables.specs.Records.{asResult}
+use Rattle.tables.specs.Layouts.{moveRow}
 use Rattle.tables.specs.Held.{automatonOf, tableOf}
 use Rattle.joins.specs.Joining.{theJoins, candidateOf}
 use Rattle.readings.specs.Offers.{Collects}
 use Rattle.readings.specs.Offers.Laws.{passed-none, passed-more, passed-all, collects-same, collects-none}
-use Rattle.readings.specs.Edges.{collects-edges}
+use Rattle.readings.specs.Edges.Laws.{collects-edges}
 use Rattle.readings.specs.Readings.{theResult, fromJoins, readResults}
 use Rattle.readings.specs.Turns.{movesTest, moveResults, ReadUpTo}
 

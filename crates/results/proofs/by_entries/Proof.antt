@@ -4,7 +4,7 @@ use Prim.Native.Nat.{_-_, _≤_}
 use mathlib.Core.Path.{_≡_, refl, _∙_}
 use native.Mathlib.Omega.{arith}
 use lib.ListN.{length}
-use Rattle.results.specs.Entries.{EntriesUpTo, entries-none, entries-more, entries-all}
+use Rattle.results.specs.Entries.Laws.{EntriesUpTo, entries-none, entries-more, entries-all}
 use borrow.Author.Needs.{needs}
 use Rattle.results.proofs.by_entries.Statement.{statement}
 use Rattle.results.proofs.by_entries.Tie as tie

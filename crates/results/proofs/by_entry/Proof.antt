@@ -1,7 +1,7 @@
 -- `results::by_entry` meets its contract.
 -- Assumes nothing.
 use native.Mathlib.Omega.{arith}
-use Rattle.results.specs.Entries.{entry-other, entry-premise}
+use Rattle.results.specs.Entries.Laws.{entry-other, entry-premise}
 use borrow.Author.Needs.{needs}
 use Rattle.results.proofs.by_entry.Statement.{statement}
 use Rattle.results.proofs.by_entry.Tie as tie

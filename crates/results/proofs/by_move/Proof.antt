@@ -2,7 +2,7 @@
 -- Assumes nothing.
 use native.Mathlib.Omega.{arith}
 use borrow.Author.Tests.{not-true, not-false}
-use Rattle.results.specs.Steps.{step-other, step-control, step-premise}
+use Rattle.results.specs.Steps.Laws.{step-other, step-control, step-premise}
 use borrow.Author.Needs.{needs}
 use Rattle.results.proofs.by_move.Statement.{statement}
 use Rattle.results.proofs.by_move.Tie as tie

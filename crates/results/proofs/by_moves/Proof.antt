@@ -6,7 +6,7 @@ use native.Mathlib.Omega.{arith}
 use lib.ListN.{length}
 use Rattle.tables.specs.Held.{automatonOf}
 use Rattle.readings.specs.Memo.{MemoHolds}
-use Rattle.results.specs.Steps.{MovesUpTo, moves-none, moves-more, moves-all}
+use Rattle.results.specs.Steps.Laws.{MovesUpTo, moves-none, moves-more, moves-all}
 use borrow.Author.Needs.{needs}
 use Rattle.results.proofs.by_moves.Statement.{statement}
 use Rattle.results.proofs.by_moves.Tie as tie

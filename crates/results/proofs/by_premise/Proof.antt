@@ -1,8 +1,8 @@
 -- `results::by_premise` meets its contract.
 -- Assumes nothing.
-use Rattle.readings.specs.Edges.{collects-edges}
+use Rattle.readings.specs.Edges.Laws.{collects-edges}
 use Rattle.readings.specs.Memo.Laws.{memo-later}
-use Rattle.results.specs.Steps.{by-rewriting, by-pushing1, by-pushing2, by-copying}
+use Rattle.results.specs.Steps.Laws.{by-rewriting, by-pushing1, by-pushing2, by-copying}
 use borrow.Author.Needs.{needs}
 use Rattle.results.proofs.by_premise.Statement.{statement}
 use Rattle.results.proofs.by_premise.Tie as tie

@@ -1,7 +1,7 @@
 -- `results::by_push` meets its contract.
 -- Assumes nothing.
 use borrow.Author.Tests.{not-true, not-false}
-use Rattle.results.specs.Steps.{push-yes, push-no}
+use Rattle.results.specs.Steps.Laws.{push-yes, push-no}
 use borrow.Author.Needs.{needs}
 use Rattle.results.proofs.by_push.Statement.{statement}
 use Rattle.results.proofs.by_push.Tie as tie

@@ -1,6 +1,6 @@
 -- `results::by_use` meets its contract.
 -- Assumes nothing.
-use Rattle.readings.specs.Edges.{collects-edges}
+use Rattle.readings.specs.Edges.Laws.{collects-edges}
 use Rattle.readings.specs.Memo.Laws.{memo-later}
 use Rattle.results.specs.Uses.Laws.{uses-moves, uses-entries, uses-nothing}
 use borrow.Author.Needs.{needs}

@@ -7,7 +7,7 @@ use lib.ListN.{length, length-replicate}
 use Rattle.tables.specs.Held.{automatonOf}
 use Rattle.readings.specs.Memo.{MemoHolds}
 use Rattle.readings.specs.Memo.Laws.{memo-none}
-use Rattle.results.specs.Collecting.{RulesUpTo, rules-none, rules-more, rules-all, next-small}
+use Rattle.results.specs.Collecting.Laws.{RulesUpTo, rules-none, rules-more, rules-all, next-small}
 use borrow.Author.Needs.{needs}
 use Rattle.results.proofs.collect.Statement.{statement}
 use Rattle.results.proofs.collect.Tie as tie

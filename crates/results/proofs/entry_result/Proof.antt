@@ -2,7 +2,7 @@
 -- Assumes nothing.
 use mathlib.Core.Path.{ap, _∙_}
 use Rattle.tables.specs.Records.{asResult}
-use Rattle.results.specs.Entries.{is-popped, is-collapsed}
+use Rattle.results.specs.Entries.Laws.{is-popped, is-collapsed}
 use borrow.Author.Needs.{needs}
 use Rattle.results.proofs.entry_result.Statement.{statement}
 use Rattle.results.proofs.entry_result.Tie as tie

@@ -17,7 +17,7 @@ use Rattle.tables.specs.Held.{automatonOf, tableOf}
 use Rattle.tables.specs.Records.{asResult}
 use Rattle.readings.specs.Offers.{Collects}
 use Rattle.readings.specs.Offers.Laws.{collects-same}
-use Rattle.readings.specs.Edges.{collects-edges}
+use Rattle.readings.specs.Edges.Laws.{collects-edges}
 use Rattle.readings.specs.Readings.{theResult}
 use Rattle.results.specs.declared.MoveUse.{MoveUse}
 use Rattle.results.specs.declared.EntryUse.{EntryUse}

@@ -4,7 +4,7 @@ use mathlib.Core.Path.{refl, sym, _∙_}
 use native.Mathlib.Omega.{arith}
 use borrow.Author.Tests.{not-true, not-false}
 use Rattle.saturate.specs.Case.Laws.{is-placed, long-enough, own-room, given, rules-stand, case-ends, case-over, filled-own, entries-number, moves-number}
-use Rattle.tables.specs.Records.{entryRow, moveRow}
+use Rattle.tables.specs.Layouts.{entryRow, moveRow}
 use borrow.Author.Needs.{needs}
 use Rattle.saturate.proofs.saturate_case.Statement.{statement}
 use Rattle.saturate.proofs.saturate_case.Tie as tie

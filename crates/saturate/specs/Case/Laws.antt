@@ -30,14 +30,15 @@ use Rattle.words.specs.Lists.{zeros}
 use Rattle.tables.specs.declared.Table.{Table}
 use Rattle.tables.specs.Rows.{Layout, rowAt, rowsIn, putRow}
 use Rattle.tables.specs.Rows.Laws.{firstOf-list, length-rowsIn, getD-rowsIn}
-use Rattle.tables.specs.Records.{edgeRow, entryRow, moveRow}
+use Rattle.tables.specs.Layouts.{edgeRow, entryRow, moveRow}
 use Rattle.tables.specs.Held.{automatonOf}
 use Rattle.tables.specs.Filled.{Filled, filled-zeros, filled-put}
 use Rattle.case_tables.specs.WrittenRows.{written}
 use Rattle.case_tables.specs.Own.{RoomForOwn}
 use Rattle.results.specs.Collecting.{ruleIn, rulesIn, RulesStand}
 use Rattle.saturation.specs.Rounding.{Standing}
-use Rattle.saturation.specs.Running.{mostMoves, mostEntries, sizeRow, Given, ended, Ends}
+use Rattle.saturation.specs.Running.{mostMoves, mostEntries, Given, ended, Ends}
+use Rattle.saturation.specs.Layout.{sizeRow}
 use Rattle.saturate.specs.Case.{CaseSaturated}
 
 -- ---- lengths of sorted lists

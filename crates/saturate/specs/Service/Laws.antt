@@ -19,11 +19,13 @@ use Rattle.services.specs.Saturate.{Lent, saturated, tooLarge, sizeTests, satur
 use Rattle.tables.specs.declared.Table.{Table}
 use Rattle.tables.specs.Rows.{rowsIn}
 use Rattle.tables.specs.Rows.Laws.{length-rowsIn}
-use Rattle.tables.specs.Records.{entryRow, moveRow}
+use Rattle.tables.specs.Layouts.{entryRow, moveRow}
 use Rattle.tables.specs.Held.{automatonOf, EntriesStand, MovesStand}
 use Rattle.tables.specs.Filled.{Filled, filled-whole}
-use Rattle.saturation.specs.Rounding.{Standing, standing-entries, standing-moves}
-use Rattle.saturation.specs.Running.{mostMoves, mostEntries, sizeRow, ended}
+use Rattle.saturation.specs.Rounding.{Standing}
+use Rattle.saturation.specs.Rounding.Laws.{standing-entries, standing-moves}
+use Rattle.saturation.specs.Running.{mostMoves, mostEntries, ended}
+use Rattle.saturation.specs.Layout.{sizeRow}
 use Rattle.saturate.specs.Case.{CaseSaturated}
 use Rattle.saturate.specs.Service.{theLent, theDone, theRefused}
 

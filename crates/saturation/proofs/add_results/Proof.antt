@@ -4,7 +4,7 @@ use Prim.Native.Nat.{_-_}
 use native.Mathlib.Omega.{arith}
 use borrow.Author.Tests.{not-true, not-false}
 use Rattle.tables.specs.Rows.{rowsIn}
-use Rattle.tables.specs.Records.{resultRow}
+use Rattle.tables.specs.Layouts.{resultRow}
 use Rattle.saturation.specs.Adding.Laws.{AddedUpTo, up-to-none, still-growing, still-room, rows-more, rows-over, rows-all}
 use borrow.Author.Needs.{needs}
 use Rattle.saturation.proofs.add_results.Statement.{statement}

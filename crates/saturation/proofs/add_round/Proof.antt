@@ -1,7 +1,7 @@
 -- `saturation::add_round` meets its contract.
 -- Assumes nothing.
 use native.Mathlib.Omega.{arith}
-use Rattle.saturation.specs.Rounding.{standing-entries, standing-moves, rounded-over, rounded-added}
+use Rattle.saturation.specs.Rounding.Laws.{standing-entries, standing-moves, rounded-over, rounded-added}
 use borrow.Author.Needs.{needs}
 use Rattle.saturation.proofs.add_round.Statement.{statement}
 use Rattle.saturation.proofs.add_round.Tie as tie

@@ -10,8 +10,9 @@ use Rattle.services.specs.Saturate.{saturated}
 use Rattle.tables.specs.declared.Table.{Table}
 use Rattle.tables.specs.Rows.{rowsIn}
 use Rattle.tables.specs.Held.{automatonOf}
-use Rattle.saturation.specs.Running.{sizeRow, ended}
-use Rattle.saturation.specs.Rounding.{standing-entries, standing-moves}
+use Rattle.saturation.specs.Running.{ended}
+use Rattle.saturation.specs.Layout.{sizeRow}
+use Rattle.saturation.specs.Rounding.Laws.{standing-entries, standing-moves}
 use Rattle.saturate.specs.Case.{CaseSaturated}
 use Rattle.acceptance.specs.Named.{TablesNamed}
 use Rattle.acceptance.specs.Table.Laws.{stands, table-small}

@@ -15,7 +15,7 @@ use Rattle.bytes_in.specs.Records.Laws.{body-records}
 use Rattle.acceptance.specs.Cells.{cellWords}
 use Rattle.acceptance.specs.Cells.Laws.{length-cellWords}
 use Rattle.acceptance.specs.Cells.Body.{cellsIn}
-use Rattle.acceptance.specs.Starts.{cells-body, start-accepted}
+use Rattle.acceptance.specs.Laws.Starts.{cells-body, start-accepted}
 use Rattle.sound_files.specs.Starts.{startsIn}
 use Rattle.sound_files.specs.Sound.{StartSound}
 use Rattle.sound_files.specs.Sound.Laws.{cells-count}

@@ -6,8 +6,8 @@ use mathlib.Core.Bool.{false}
 use borrow.Author.Count.{below-none, below-more}
 use Rattle.automata.specs.Saturation.{isEntry}
 use Rattle.tables.specs.Rows.{rowAt}
-use Rattle.tables.specs.Records.{entryRow}
-use Rattle.tables.specs.Searches.{number-found, number-none}
+use Rattle.tables.specs.Layouts.{entryRow}
+use Rattle.tables.specs.Laws.Searches.{number-found, number-none}
 use borrow.Author.Needs.{needs}
 use Rattle.tables.proofs.entry_number.Statement.{statement}
 use Rattle.tables.proofs.entry_number.Tie as tie

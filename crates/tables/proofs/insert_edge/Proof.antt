@@ -1,7 +1,7 @@
 -- `tables::insert_edge` meets its contract.
 -- Assumes nothing.
 use Rattle.automata.specs.Automaton.{choiceKey}
-use Rattle.tables.specs.Records.{edgeRow}
+use Rattle.tables.specs.Layouts.{edgeRow}
 use Rattle.tables.specs.Insertion.Laws.{layout-length, layout-inserted}
 use borrow.Author.Needs.{needs}
 use Rattle.tables.proofs.insert_edge.Statement.{statement}

@@ -15,7 +15,7 @@ use Rattle.automata.specs.Automaton.Laws.{entryAt-control, entryAt-set, entryEd
 use Rattle.tables.specs.declared.Table.{Table}
 use Rattle.tables.specs.Rows.{rowAt, rowsIn}
 use Rattle.tables.specs.Rows.Laws.{length-rowsIn, getD-rowsIn}
-use Rattle.tables.specs.Records.{moveRow, entryRow, edgeRow}
+use Rattle.tables.specs.Layouts.{moveRow, entryRow, edgeRow}
 use Rattle.tables.specs.Held.{automatonOf, tableOf, edgesIn, entryFor, EdgesStand}
 
 -- ---- edges by number

@@ -12,7 +12,7 @@ use Rattle.words.specs.Order.{insert}
 use Rattle.words.specs.Tests.{by-test}
 use Rattle.automata.specs.Derivation.{Result, resultKey}
 use Rattle.tables.specs.Rows.{rowsIn}
-use Rattle.tables.specs.Records.{resultRow}
+use Rattle.tables.specs.Layouts.{resultRow}
 use Rattle.tables.specs.Insertion.{withRow, insertedIn}
 use Rattle.tables.specs.Insertion.Laws.{layout-length, layout-inserted}
 use Rattle.tables.specs.Pending.{limited, insertWithin, pendingIn}

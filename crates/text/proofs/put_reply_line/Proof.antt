@@ -3,7 +3,7 @@
 use native.Mathlib.Omega.{arith}
 use Rattle.services.specs.Listing.{ascii}
 use Rattle.text.specs.Written.Laws.{written-then}
-use Rattle.text.specs.Decimal.{decimal-length}
+use Rattle.text.specs.Laws.Decimal.{decimal-length}
 use Rattle.text.specs.Lines.{replyLine}
 use borrow.Author.Needs.{needs}
 use Rattle.text.proofs.put_reply_line.Statement.{statement}

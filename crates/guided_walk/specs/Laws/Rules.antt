@@ -12,7 +12,8 @@ use Rattle.walks.specs.Guide as walks
 use Rattle.files.specs.Case.{operationOf, ruleBytes, ruleOf}
 use Rattle.bytes_in.specs.Records.{recordAt}
 use Rattle.tables.specs.declared.Table.{Table}
-use Rattle.results.specs.Collecting.{ruleIn, rulesIn, RulesStand, next-small}
+use Rattle.results.specs.Collecting.{ruleIn, rulesIn, RulesStand}
+use Rattle.results.specs.Collecting.Laws.{next-small}
 use Rattle.first_reading.specs.Words.{TablesWithin}
 use Rattle.cell_steps.specs.declared.Top.{Top}
 use Rattle.cell_steps.specs.Steps.{symbolOf}

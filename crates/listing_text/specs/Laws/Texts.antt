@@ -20,7 +20,7 @@ use Rattle.services.specs.Guide.{guideLent, guideRun, guideLeft, cellWords}
 use Rattle.services.specs.Listing.{listingJudge, listingGuide, sizeLine, startLine, startLines, refusedText, judgedText, listingText}
 use Rattle.tables.specs.declared.Table.{Table}
 use Rattle.tables.specs.Rows.Laws.{length-rowsIn}
-use Rattle.tables.specs.Records.{entryRow, moveRow}
+use Rattle.tables.specs.Layouts.{entryRow, moveRow}
 use Rattle.start_file.specs.Checks.{filesOf}
 use Rattle.saturate.specs.Service.Laws.{done-filled}
 use Rattle.text.specs.Lines.{replyLine}

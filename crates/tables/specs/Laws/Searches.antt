@@ -10,7 +10,7 @@ use Rattle.automata.specs.Automaton.{Entry}
 use Rattle.automata.specs.Saturation.{isEntry, entryNumber}
 use Rattle.tables.specs.Rows.{rowAt, rowsIn}
 use Rattle.tables.specs.Rows.Laws.{length-rowsIn, getD-rowsIn}
-use Rattle.tables.specs.Records.{entryRow}
+use Rattle.tables.specs.Layouts.{entryRow}
 
 module _ (p S : ℕ) where
   entryNumber-found : (l : List Entry) (i : ℕ) (d : Entry) → i < length l → ((j : ℕ) → j < i → isEntry p S (getD l j d) ≡ false)

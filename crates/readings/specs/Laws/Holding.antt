@@ -23,7 +23,7 @@ use Rattle.automata.specs.Saturation.{isResult, held}
 use Rattle.tables.specs.declared.Table.{Table}
 use Rattle.tables.specs.Rows.{rowAt, rowsIn}
 use Rattle.tables.specs.Rows.Laws.{length-rowsIn, getD-rowsIn}
-use Rattle.tables.specs.Records.{moveRow}
+use Rattle.tables.specs.Layouts.{moveRow}
 use Rattle.tables.specs.Held.{tableOf}
 
 -- ---- one move

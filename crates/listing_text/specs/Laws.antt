@@ -1,0 +1,4 @@
+-- Laws about definitions of the crates below.
+-- Assumes nothing.
+pub mod Printed
+pub mod Texts

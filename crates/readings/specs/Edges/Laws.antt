@@ -1,0 +1,99 @@
+-- Laws of the definitions in Edges.antt.
+-- Assumes nothing.
+use Prim.Native.Nat.{ℕ, _+_, _≤_, _<_}
+use mathlib.Core.Bool.{Bool}
+use mathlib.Core.Path.{_≡_, refl, ap, ap₂, sym, _∙_}
+use mathlib.Core.List.{List, _∷_}
+use native.Mathlib.Omega.{arith}
+use lib.ListN.{length, getD}
+use borrow.Author.Tests.{eq-eqb, ne-eqb}
+use Rattle.words.specs.Sets.{join, single, members}
+use Rattle.words.specs.Sets.Laws.{members-empty}
+use Rattle.words.specs.Lists.{when}
+use Rattle.automata.specs.Automaton.{Automaton, Edge, noEdge, edges, edgeAt, edgesOf, entryAt, entryOf, entryControl, entrySet}
+use Rattle.automata.specs.Derivation.{Result, Joins, resultOf}
+use Rattle.automata.specs.Saturation.{isResult, held}
+use Rattle.tables.specs.declared.Table.{Table}
+use Rattle.tables.specs.Held.{automatonOf, tableOf, edgesIn}
+use Rattle.tables.specs.Pending.{pendingIn}
+use Rattle.readings.specs.Offers.{Collects, offerAll}
+use Rattle.readings.specs.Offers.Laws.{OfferedBelow, passed-none, passed-more, passed-all, collects-same, collects-none}
+use Rattle.readings.specs.Readings.{readResults, edgeResults}
+use Rattle.tables.specs.Held.Laws.{length-edgesIn}
+use Rattle.readings.specs.Edges.{edgesTest}
+
+-- ---- what does not depend on the inner edges
+
+module _ (z : Table) (inner entries moves : List ℕ) where
+  held-edges : held (tableOf z entries moves) ≡ held (automatonOf z inner entries moves)
+  unfolding held isResult entryOf entryAt resultOf entryControl entrySet
+  held-edges = refl
+
+  pub collects-edges : {room n r : ℕ} {t t′ : List ℕ} {xs : List Result} → Collects (tableOf z entries moves) room n t xs r t′ → Collects (automatonOf z inner entries moves) room n t xs r t′
+  collects-edges {room} {n} {t = t} {xs = xs} c =
+      record { collected = c .collected ∙ ap (λ (h : Result → Bool). offerAll h room (pendingIn room n t) xs) held-edges; number = c .number }
+
+module _ (z : Table) (inner entries moves : List ℕ) (p a : ℕ) (j : Joins) (q : ℕ) (qs : List ℕ) (N S : ℕ) where
+  -- what edge e gives
+  abbrev pub resultsBy : Edge → List Result
+  resultsBy e = edgeResults (automatonOf z inner entries moves) p a j qs (join N (single (e .first))) (join S (e .S))
+
+  -- what edge number i gives
+  unfoldable pub edgeStep : ℕ → List Result
+  edgeStep i = resultsBy (edgeAt (automatonOf z inner entries moves) i)
+
+  -- The results by the first i edges, of those of state q, were offered.
+  abbrev pub EdgesUpTo : ℕ → ℕ → List ℕ → ℕ → ℕ → List ℕ → Type 0
+  EdgesUpTo room n t i k t′ = OfferedBelow (automatonOf z inner entries moves) room (edgesTest q) (edgesIn z inner entries) noEdge edgeStep n t i k t′
+
+  module _ (room n : ℕ) (t : List ℕ) where
+    pub edges-none : n ≤ room + 1 → EdgesUpTo room n t 0 n t
+    edges-none h = passed-none (automatonOf z inner entries moves) room (edgesTest q) (edgesIn z inner entries) noEdge edgeStep n t h
+
+    module _ (i k : ℕ) (t′ : List ℕ) (e : Edge) (h : EdgesUpTo room n t i k t′) (b : i < z .edges + z .entries)
+        (f : e ≡ getD (edgesIn z inner entries) i noEdge) where
+      edges-list : when (edgesTest q e) (resultsBy e) ≡ when (edgesTest q (getD (edgesIn z inner entries) i noEdge)) (edgeStep i)
+      unfolding edgeStep edgeAt edges
+      edges-list = ap (λ (x : Edge). when (edgesTest q x) (resultsBy x)) f
+
+      edges-more : (k′ : ℕ) (t″ : List ℕ) → Collects (automatonOf z inner entries moves) room k t′ (when (edgesTest q e) (resultsBy e)) k′ t″
+          → length t″ ≡ length t′ → EdgesUpTo room n t (i + 1) k′ t″
+      edges-more k′ t″ c l =
+          let len : length (edgesIn z inner entries) ≡ z .edges + z .entries = length-edgesIn z inner entries in
+          passed-more (automatonOf z inner entries moves) room (edgesTest q) (edgesIn z inner entries) noEdge edgeStep h (omega arith) (collects-same edges-list c) l
+
+      pub edges-yes : (bit N′ S′ k′ k″ : ℕ) (t″ t‴ : List ℕ) → e .state ≡ q → bit ≡ single (e .first) → N′ ≡ join N bit → S′ ≡ join S (e .S)
+          → Collects (automatonOf z inner entries moves) room k t′ (edgeResults (automatonOf z inner entries moves) p a j qs N′ S′) k′ t″
+          → length t″ ≡ length t′ → t‴ ≡ t″ → k″ ≡ k′ → EdgesUpTo room n t (i + 1) k″ t‴
+      unfolding when
+      edges-yes bit N′ S′ k′ k″ t″ t‴ y eb en es c l et ek =
+          rw (et, ek)
+          (edges-more k′ t″
+          (collects-same
+          (ap₂ (λ (x y : ℕ). edgeResults (automatonOf z inner entries moves) p a j qs x y) (en ∙ ap (join N) eb) es
+          ∙ ap (λ (b : Bool). when b (resultsBy e)) (sym (eq-eqb (e .state) q y))) c) l)
+
+      pub edges-no : (k′ : ℕ) (t″ : List ℕ) → (e .state ≡ q → ⊥) → t″ ≡ t′ → k′ ≡ k → EdgesUpTo room n t (i + 1) k′ t″
+      unfolding when
+      edges-no k′ t″ y et ek =
+          rw (et, ek)
+          (edges-more k t′ (collects-same (ap (λ (b : Bool). when b (resultsBy e)) (sym (ne-eqb (e .state) q y))) (collects-none k t′ (h .offered .number))) refl)
+
+    pub edges-all : (i k : ℕ) (t′ : List ℕ) → EdgesUpTo room n t i k t′ → z .edges + z .entries ≤ i
+        → Collects (automatonOf z inner entries moves) room n t (edgeResults (automatonOf z inner entries moves) p a j (q ∷ qs) N S) k t′
+    unfolding edgeResults edgesOf edges edgeStep
+    edges-all i k t′ h b =
+        let len : length (edgesIn z inner entries) ≡ z .edges + z .entries = length-edgesIn z inner entries in
+        passed-all (automatonOf z inner entries moves) room (edgesTest q) (edgesIn z inner entries) noEdge edgeStep h (omega arith)
+
+-- the first of the states left, and the others
+pub edges-left : (A : Automaton) (p a : ℕ) (j : Joins) (N S left q : ℕ) (qs : List ℕ) {room n k : ℕ} {t t′ : List ℕ} → members left ≡ q ∷ qs
+    → Collects A room n t (edgeResults A p a j (q ∷ qs) N S) k t′ → Collects A room n t (edgeResults A p a j (members left) N S) k t′
+edges-left A p a j N S left q qs e c = collects-same (ap (λ (l : List ℕ). edgeResults A p a j l N S) (sym e)) c
+
+-- no state is left
+pub edges-end : (A : Automaton) (p a : ℕ) (j : Joins) (N S left room n k : ℕ) (t t′ : List ℕ) → left ≡ 0
+    → Collects A room n t (readResults A p a S (members N) j) k t′ → Collects A room n t (edgeResults A p a j (members left) N S) k t′
+unfolding edgeResults
+edges-end A p a j N S left room n k t t′ e c =
+    collects-same (ap (λ (l : List ℕ). edgeResults A p a j l N S) (sym (ap members e ∙ members-empty))) c

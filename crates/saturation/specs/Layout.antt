@@ -1,0 +1,20 @@
+-- The layout of the sizes after each round: a size as a row of words.
+-- Assumes nothing.
+use native.Mathlib.Omega.{arith}
+use Rattle.automata.specs.Saturation.{Size}
+use Rattle.tables.specs.Rows.{Layout}
+use Rattle.saturation.specs.Running.{sizeWords, sizeFrom}
+use Rattle.saturation.specs.Running.Laws.{size-length, size-words, size-back, size-same}
+
+abbrev pub sizeRow : Layout Size
+sizeRow =
+    record {
+      width = 2;
+      words = sizeWords;
+      read = sizeFrom;
+      some-words = omega arith;
+      length-words = size-length;
+      words-read = size-words;
+      read-words = size-back;
+      read-same = size-same;
+    }
