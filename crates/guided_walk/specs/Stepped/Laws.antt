@@ -34,12 +34,15 @@ module _ (z : Table) (moves : List ℕ) where
   unfolding entryEdge
   edge-is e = ap (λ (k : ℕ). k + e) (sym (length-rowsIn edgeRow (z .edges) []))
 
-  pub move-choice : {p′ p n e : ℕ} {m : Move} → m ≡ getD (rowsIn moveRow (z .moves) moves) p noMove → n ≡ m .state - z .inner1
-      → e ≡ entryEdge (movesOnly z []) n
-      → record { state = m .state; number = p; control = p′; edge = e } ≡ moveChoice (movesOnly z moves) p′ p
-  unfolding moveAt entryEdge
+  pub move-state : (p : ℕ) {m : Move} → m ≡ getD (rowsIn moveRow (z .moves) moves) p noMove → m .state ≡ moveAt (movesOnly z moves) p .state
+  unfolding moveAt
+  move-state p e = ap (λ (m : Move). m .state) e
+
+  pub move-choice : {p′ p r n e : ℕ} → r ≡ moveAt (movesOnly z moves) p .state → n ≡ r - z .inner1 → e ≡ entryEdge (movesOnly z []) n
+      → record { state = r; number = p; control = p′; edge = e } ≡ moveChoice (movesOnly z moves) p′ p
+  unfolding entryEdge
   move-choice {p′} {p} f g h =
-      λ i. record { state = f i .state; number = p; control = p′; edge = (h ∙ ap (entryEdge (movesOnly z moves)) (g ∙ ap (λ (x : Move). x .state - z .inner1) f)) i }
+      λ i. record { state = f i; number = p; control = p′; edge = (h ∙ ap (entryEdge (movesOnly z moves)) (g ∙ ap (λ (s : ℕ). s - z .inner1) f)) i }
 
 pub entry-choice : (z : Table) {p′ p e : ℕ} → e ≡ entryEdge (movesOnly z []) p
     → record { state = 0; number = p; control = p′; edge = e } ≡ entryChoice (movesOnly z []) p′ p
