@@ -20,7 +20,7 @@ use tables::Move;
 use tables::Table;
 
 // Whether an annotation of order k whose accepting states are `note` is as a move of this order and annotation set b asks.
-pub fn annotation_met(k: u64, annotation: u64, order: u64, b: u64) -> bool
+fn annotation_met(k: u64, annotation: u64, order: u64, b: u64) -> bool
     ensures { λ r. ⌜ r ≡ annotationMet k annotation order b ⌝ }
 {
     if order == 0 {
@@ -75,7 +75,7 @@ fn with_state(met: bool, state: u64, word: u64) -> u64
 
 // The order-1 states that accept symbol a annotated by a stack of order k that the states `note` accept, on a rest that the states `rest`
 // accept.
-pub fn symbol_word(z: Table, moves: &[u64], a: u64, k: u64, annotation: u64, rest: u64) -> u64
+fn symbol_word(z: Table, moves: &[u64], a: u64, k: u64, annotation: u64, rest: u64) -> u64
     requires { ⌜ MovesNamed z (now moves) ⌝ }
     ensures { λ r. ⌜ r ≡ statesMet (λ m. m .state) (moveMet a k annotation rest) (rowsIn moveRow (z .moves) (now (moves .entry))) ⌝ }
 {
@@ -91,7 +91,7 @@ pub fn symbol_word(z: Table, moves: &[u64], a: u64, k: u64, annotation: u64, res
 }
 
 // The order-2 states that accept an order-1 stack that the states `top` accept on an order-2 stack that the states `rest` accept.
-pub fn above_word(z: Table, inner: &[u64], entries: &[u64], top: u64, rest: u64) -> u64
+fn above_word(z: Table, inner: &[u64], entries: &[u64], top: u64, rest: u64) -> u64
     requires { ⌜ EdgesStand z (now inner) × EntriesStand z (now entries) × EdgesNamed z (now inner) (now entries) ⌝ }
     ensures { λ r. ⌜ r ≡ statesMet (λ e. e .state) (edgeMet top rest) (edgesIn z (now (inner .entry)) (now (entries .entry))) ⌝ }
 {
@@ -117,7 +117,7 @@ pub fn accepted(words: &[u64], cell: usize, state: u64) -> bool
 }
 
 // Whether every state of the set accepts the cell.
-pub fn all_accepted(words: &[u64], cell: usize, states: u64) -> bool
+fn all_accepted(words: &[u64], cell: usize, states: u64) -> bool
     requires { ⌜ cell < length (now words) ⌝ }
     ensures { λ r. ⌜ r ≡ partOf states (getD (now (words .entry)) cell 0) ⌝ }
 {
@@ -133,7 +133,7 @@ pub fn word_before(words: &[u64], n: usize, i: usize) -> u64
 }
 
 // The states that accept a cell, the words of the n cells before it being known, where a symbol's annotation is of order k.
-pub fn cell_word(
+fn cell_word(
     z: Table,
     inner: &[u64],
     entries: &[u64],
@@ -165,7 +165,7 @@ pub fn cell_word(
 // ---- the cells of a start file
 
 // The order of the stack that a cell stands for.
-pub fn cell_order(cell: Cell) -> u64
+fn cell_order(cell: Cell) -> u64
     ensures { λ r. ⌜ r ≡ cellOrder (cellOf cell) ⌝ }
 {
     match cell {

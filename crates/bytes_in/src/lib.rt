@@ -37,7 +37,7 @@ pub fn number2(b: &[u8], at: usize) -> u64
 }
 
 // Four bytes from a place on.
-pub fn number4(b: &[u8], at: usize) -> u64
+fn number4(b: &[u8], at: usize) -> u64
     requires { ⌜ at + 4 ≤ length (now b) ⌝ }
     ensures { λ r. ⌜ r ≡ field at 4 (now (b .entry)) ⌝ }
     ensures small { λ r. ⌜ r < 2 ^ 32 ⌝ }
@@ -83,7 +83,7 @@ pub fn count_of(file: &[u8], n: usize) -> usize
 }
 
 // The offset that line n gives.
-pub fn offset_of(file: &[u8], n: usize) -> usize
+fn offset_of(file: &[u8], n: usize) -> usize
     requires { ⌜ 9 + 8 * n ≤ length (now file) ⌝ }
     ensures { λ r. ⌜ r ≡ offsetOf (now (file .entry)) n ⌝ }
     ensures small { λ r. ⌜ r < 2 ^ 32 ⌝ }

@@ -36,7 +36,7 @@ const BODIES: [u16; 16] = [
 ];
 
 // The first byte, the contents, the counts and the length are right.
-pub fn case_placed(file: &[u8]) -> bool
+fn case_placed(file: &[u8]) -> bool
     ensures { λ r. ⌜ r ≡ placed caseBodies (now (file .entry)) ⌝ }
 {
     bytes_in::placed(file, &BODIES)

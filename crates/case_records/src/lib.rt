@@ -87,7 +87,7 @@ fn operation_of(code: u64, b: u64) -> Operation
 }
 
 // A record of body 2.
-pub fn read_rule(b: &[u8]) -> Rule
+fn read_rule(b: &[u8]) -> Rule
     requires { ⌜ length (now b) ≡ 5 ⌝ }
     ensures { λ r. ⌜ theRule r ≡ ruleOf (ruleBytes (now (b .entry))) ⌝ }
 {
@@ -103,7 +103,7 @@ pub fn read_rule(b: &[u8]) -> Rule
 }
 
 // A record of body 3.
-pub fn read_edge(b: &[u8]) -> Edge
+fn read_edge(b: &[u8]) -> Edge
     requires { ⌜ length (now b) ≡ 4 ⌝ }
     ensures { λ r. ⌜ theEdge r ≡ edgeBytes (now (b .entry)) ⌝ }
 {
@@ -115,7 +115,7 @@ pub fn read_edge(b: &[u8]) -> Edge
 }
 
 // A record of body 4.
-pub fn read_move(b: &[u8]) -> Move
+fn read_move(b: &[u8]) -> Move
     requires { ⌜ length (now b) ≡ 19 ⌝ }
     ensures { λ r. ⌜ asMove r ≡ moveOf (now (b .entry)) ⌝ }
 {
@@ -161,7 +161,7 @@ pub fn move_at(body: &[u8], i: usize) -> Move
 // ---- bounds
 
 // The set names inner order-1 states only.
-pub fn inner1(h: Head, s: u64) -> bool
+fn inner1(h: Head, s: u64) -> bool
     requires { ⌜ h .inner1 ≤ 16 ⌝ }
     ensures { λ r. ⌜ r ≡ Case.inner1 (theHead h) s ⌝ }
 {
@@ -169,7 +169,7 @@ pub fn inner1(h: Head, s: u64) -> bool
 }
 
 // The set names inner order-2 states only.
-pub fn inner2(h: Head, s: u64) -> bool
+fn inner2(h: Head, s: u64) -> bool
     requires { ⌜ (h .controls ≤ 8) × (h .inner2 ≤ 8) ⌝ }
     ensures { λ r. ⌜ r ≡ Case.inner2 (theHead h) s ⌝ }
 {
@@ -303,7 +303,7 @@ pub fn move_right(h: Head, n: u64, m: Move) -> bool
 // ---- order
 
 // The order of two keys that begin with x and y, the order of their rests being known.
-pub fn key_before(x: u64, y: u64, rest: bool) -> bool
+fn key_before(x: u64, y: u64, rest: bool) -> bool
     ensures { λ r. ⌜ r ≡ lessThen x y rest ⌝ }
 {
     if x < y {

@@ -35,7 +35,7 @@ fn add_inner(h: Head, e: case_records::Edge, t: &mut [u64], n: usize) -> usize
 }
 
 // Writes the inner edges among the n edges of the body, by (state, order-1 state, S). Answers their number.
-pub fn load_inner(h: Head, body: &[u8], n: usize, t: &mut [u64]) -> usize
+fn load_inner(h: Head, body: &[u8], n: usize, t: &mut [u64]) -> usize
     requires { ⌜ (n * 4 ≤ length (now body)) × (n ≤ 64) × (n * 3 ≤ length (now t)) ⌝ }
     ensures { λ r. ⌜ now (t .exit) ≡ written edgeRow (now (t .entry)) 0 (innerEdges (theHead h) (map edgeBytes (records n 4 (now (body .entry))))) ⌝ }
     ensures { λ r. ⌜ r ≡ length (innerEdges (theHead h) (map edgeBytes (records n 4 (now (body .entry))))) ⌝ }
@@ -71,7 +71,7 @@ fn add_entry(h: Head, e: case_records::Edge, t: &mut [u64], k: usize) -> usize
 }
 
 // Writes the entries among the n edges of the body. Answers their number.
-pub fn load_entries(h: Head, body: &[u8], n: usize, t: &mut [u64]) -> usize
+fn load_entries(h: Head, body: &[u8], n: usize, t: &mut [u64]) -> usize
     requires { ⌜ (n * 4 ≤ length (now body)) × (n ≤ 64) × (length (entriesOf (theHead h) (map edgeBytes (records n 4 (now body)))) * 2 ≤ length (now t)) ⌝ }
     ensures { λ r. ⌜ now (t .exit) ≡ written entryRow (now (t .entry)) 0 (entriesOf (theHead h) (map edgeBytes (records n 4 (now (body .entry))))) ⌝ }
     ensures { λ r. ⌜ r ≡ length (entriesOf (theHead h) (map edgeBytes (records n 4 (now (body .entry))))) ⌝ }
@@ -88,7 +88,7 @@ pub fn load_entries(h: Head, body: &[u8], n: usize, t: &mut [u64]) -> usize
 // ---- moves
 
 // Writes the n moves of the body.
-pub fn load_moves(body: &[u8], n: usize, t: &mut [u64])
+fn load_moves(body: &[u8], n: usize, t: &mut [u64])
     requires { ⌜ (n * 19 ≤ length (now body)) × (n ≤ 1024) × (n * 5 ≤ length (now t)) ⌝ }
     ensures { λ _. ⌜ now (t .exit) ≡ written moveRow (now (t .entry)) 0 (map moveOf (records n 19 (now (body .entry)))) ⌝ }
 {

@@ -108,7 +108,7 @@ fn put_copied(cells: &mut [u16], n: usize, x: Top)
 }
 
 // The new cells of the operation, from cell n on, without choices.
-pub fn put_cells(cells: &mut [u16], n: usize, op: Operation, x: Top)
+fn put_cells(cells: &mut [u16], n: usize, op: Operation, x: Top)
     requires { ⌜ ((n + newCells (theOperation op)) * 68 ≤ length (now cells)) × (n ≤ 4096) × (symbolOf (theOperation op) < 2 ^ 16) ⌝ }
     ensures { λ r. ⌜ now (cells .exit) ≡ withCells (now (cells .entry)) n (cellsAfter (theOperation op) n (x .symbol) (x .annotation) (x .rest) (x .below)) ⌝ }
 {

@@ -119,7 +119,7 @@ fn top_on(cells: &[u16], w: Walk, c: u16, r: u64, t: u16) -> Tip
 }
 
 // The top of a walk.
-pub fn top_of(z: Table, inner: &[u64], entries: &[u64], cells: &[u16], w: Walk) -> Tip
+fn top_of(z: Table, inner: &[u64], entries: &[u64], cells: &[u16], w: Walk) -> Tip
     requires { ⌜ EdgesStand z (now inner) × EntriesStand z (now entries) × (w .cells * 68 ≤ length (now cells)) ⌝ }
     ensures { λ x. ⌜ tipOf x ≡ topOf (automatonOf z (now (inner .entry)) (now (entries .entry)) []) (walkIn w (now (cells .entry))) (guidedAt (walkIn w (now (cells .entry))) (w .root) .cell) ⌝ }
 {

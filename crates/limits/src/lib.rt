@@ -109,11 +109,16 @@ impl Limits {
 
     // ---- what the printing program lends, and the bytes of its text: a line of sizes and one for each start
 
-    pub const LISTING_ENTRIES: usize = 64;
-
     pub const LISTING_CELLS: usize = 512;
 
     pub const LISTING_TRACE: usize = 1024;
 
     pub const LISTING_TEXT: usize = 4096;
+
+    // ---- what the program `run` lends beside the moves, entries and cells that count, and the bytes of its text: six for each trace word, a
+    // start's line, and what a number may take
+
+    pub const RUN_TRACE: usize = 65536;
+
+    pub const RUN_TEXT: usize = Limits::RUN_TRACE * 6 + 80;
 }

@@ -120,7 +120,7 @@ fn sound_listing(case: &[u8], start: &[u8], text: &mut [u8]) -> usize
     ensures within { λ r. ⌜ r ≤ 4096 ⌝ }
 {
     let mut moves = [0u64; Limits::MOVES * Limits::MOVE_WORDS];
-    let mut entries = [0u64; Limits::LISTING_ENTRIES * Limits::ENTRY_WORDS];
+    let mut entries = [0u64; Limits::STATES1 * Limits::ENTRY_WORDS];
     let mut inner = [0u64; Limits::INNER_TABLE];
     let mut pending = [0u64; Limits::PENDING_TABLE];
     let mut sizes = [0u64; Limits::SIZE_TABLE];

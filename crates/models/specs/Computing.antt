@@ -5,10 +5,12 @@ use Prim.Native.Nat.{ℕ}
 use Rattle.files.specs.Bytes
 use Rattle.files.specs.Case
 use Rattle.files.specs.Start
+use Rattle.replies.specs.Numbers
 use Rattle.services.specs.Guide
 use Rattle.services.specs.Judge
 use Rattle.services.specs.Listing
 use Rattle.services.specs.Memory
+use Rattle.services.specs.Run
 use Rattle.services.specs.Saturate
 use Rattle.models.specs.Files
 use Rattle.walks.specs.Computing
@@ -34,12 +36,16 @@ unfolding Judge.judgeLent Judge.judgeFiles Judge.answerTests Judge.judgeRefusal 
 open-judge = 0
 
 unfoldable pub open-listing : ℕ
-unfolding Listing.ascii Listing.digitsBefore Listing.decimal Listing.listingJudge Listing.listingGuide Listing.sizeLine Listing.countsText Listing.haltText Listing.replyText Listing.startLine Listing.startLines Listing.refusedText Listing.judgedText Listing.listingText
+unfolding Listing.ascii Listing.digitsBefore Listing.decimal Listing.listingJudge Listing.listingGuide Listing.sizeLine Listing.countsText Listing.haltText Listing.replyText Listing.replyLine Listing.startLine Listing.startLines Listing.refusedText Listing.judgedText Listing.listingText
 open-listing = 0
 
 unfoldable pub open-memory : ℕ
 unfolding Memory.zeros Memory.padded Memory.moveWords Memory.entryWords Memory.moveTable Memory.entryTable Memory.lent
 open-memory = 0
+
+unfoldable pub open-run : ℕ
+unfolding Numbers.countsOf Run.runGuide Run.spacedNumbers Run.numbersText Run.traceLine Run.answerText Run.runText Run.noStart Run.withDigit Run.numberNamed
+open-run = 0
 
 unfoldable pub open-saturate : ℕ
 unfolding Saturate.saturated Saturate.tooLarge Saturate.sizeTests Saturate.saturateRefusal Saturate.saturateRefused Saturate.saturateFilled Saturate.saturateAnswer Saturate.saturateService
@@ -50,5 +56,5 @@ unfolding Files.two Files.line Files.head Files.rule Files.entry Files.plain Fil
 open-files = 0
 
 unfoldable pub computed : ℕ
-unfolding open-bytes open-case open-start open-guide open-judge open-listing open-memory open-saturate open-files Computing.computed
+unfolding open-bytes open-case open-start open-guide open-judge open-listing open-memory open-run open-saturate open-files Computing.computed
 computed = 0

@@ -17,6 +17,7 @@ use Rattle.services.specs.Saturate.{saturateService}
 use Rattle.services.specs.Judge.{judgeService}
 use Rattle.services.specs.Guide.{guideService}
 use Rattle.services.specs.Listing.{listingText, ascii}
+use Rattle.services.specs.Run.{runText, numberNamed}
 use Rattle.models.specs.Computing.{computed}
 use Rattle.models.specs.Files.{caseA, startA, caseB, startB, caseC, startC, startCC, startsA, rulesA, itselfA}
 
@@ -34,6 +35,8 @@ pub data Example : Type 0 where
   guides : List ℕ → List ℕ → ℕ → Reply → List ℕ → Example
   -- the text that the printing program prints
   lists : List ℕ → List ℕ → List ℕ → Example
+  -- the text that the program `run` prints for the number that these bytes name
+  runs : List ℕ → List ℕ → List ℕ → List ℕ → Example
 
 -- The example is what the definitions give. All other lent memory is zero.
 abbrev pub Holds : Example → Type 0
@@ -48,6 +51,7 @@ Holds (guides case start number reply trace) =
     guideService (record { case = case; start = start; number = number; moves = 17; entries = 7; cells = 10 * 68; trace = 3 })
     ≡ record { reply = reply; moves = zeros 17; entries = zeros 7; cells = zeros (10 * 68); trace = trace }
 Holds (lists case start text) = listingText (record { case = case; start = start }) ≡ text
+Holds (runs case start argument text) = runText (record { case = case; start = start }) (numberNamed argument) ≡ text
 
 abbrev pub AllHold : List Example → Type 0
 AllHold [] = Unit {0}
@@ -84,6 +88,11 @@ examples =
     ∷ saturates caseA 14 9 0 0 (zeros 14) (zeros 7)
     -- what the printing program prints for A
     ∷ lists caseA startA (ascii "moves 3 entries 3\nstart 0 yes 2 9\nstart 1 yes 0 6\nstart 2 no\n")
+    -- and `run` for each of its starts, and for one that is not in the file
+    ∷ runs caseA startA (ascii "0") (ascii "start 0 yes 2 9\n0 1\n")
+    ∷ runs caseA startA (ascii "1") (ascii "start 1 yes 0 6\n\n")
+    ∷ runs caseA startA (ascii "2") (ascii "start 2 no\n")
+    ∷ runs caseA startA (ascii "18446744073709551616") (ascii "refused 7\n")
     -- "Symbol 0 above 1: yes. Symbol 0 alone: no, its top is empty after the pop."
     ∷ judges caseB startB 2 0 (1 ∷ 0 ∷ [])
     ∷ guides caseB startB 0 (arrived 1 8) (0 ∷ 0 ∷ 0 ∷ [])
@@ -106,4 +115,4 @@ examples =
 pub all-hold : AllHold examples
 unfolding computed Models.ownA Models.firstA Models.tableA
 all-hold =
-    (refl, (refl, (refl, (refl, (refl, (refl, (refl, (refl, (refl, (refl, (refl, (refl, (refl, (refl, (refl, (refl, (refl, (refl, (refl, (refl, (refl, (refl, (refl, tt)))))))))))))))))))))))
+    (refl, (refl, (refl, (refl, (refl, (refl, (refl, (refl, (refl, (refl, (refl, (refl, (refl, (refl, (refl, (refl, (refl, (refl, (refl, (refl, (refl, (refl, (refl, (refl, (refl, (refl, (refl, tt)))))))))))))))))))))))))))

@@ -43,7 +43,7 @@ fn is_result(z: tables::Table, entries: &[u64], m: tables::Move, x: tables::Resu
 }
 
 // Whether the automaton holds this result.
-pub fn is_held(z: tables::Table, entries: &[u64], moves: &[u64], x: tables::Result) -> bool
+fn is_held(z: tables::Table, entries: &[u64], moves: &[u64], x: tables::Result) -> bool
     requires { ⌜ EntriesStand z (now entries) × MovesStand z (now moves) ⌝ }
     ensures { λ r. ⌜ r ≡ held (tableOf z (now (entries .entry)) (now (moves .entry))) (asResult x) ⌝ }
 {

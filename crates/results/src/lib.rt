@@ -335,7 +335,7 @@ fn by_use(
 }
 
 // Collects the results of a rule.
-pub fn by_rule(
+fn by_rule(
     z: tables::Table,
     inner: &[u64],
     entries: &[u64],

@@ -81,7 +81,7 @@ fn add_result(
 }
 
 // Adds the results in the first n rows of `pending`, one after another. There may be `most` entries.
-pub fn add_results(
+fn add_results(
     z: tables::Table,
     entries: &mut [u64],
     moves: &mut [u64],
@@ -115,7 +115,7 @@ pub struct Capacity {
 }
 
 // One round: the results of the first `count` rules of a body that are not yet held are added. `fits` is false where that passes a limit.
-pub fn add_round(
+fn add_round(
     z: tables::Table,
     inner: &[u64],
     entries: &mut [u64],

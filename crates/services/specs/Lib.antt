@@ -3,3 +3,4 @@ pub mod Saturate
 pub mod Judge
 pub mod Guide
 pub mod Listing
+pub mod Run

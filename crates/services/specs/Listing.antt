@@ -69,9 +69,12 @@ replyText (Refused n) = ascii " refused " ++ decimal n
 replyText NoRun = ascii " no"
 replyText (Walked h) = ascii " yes" ++ haltText h
 
--- `start 0 yes 2 9`
+-- `start 0 yes 2 9`: the line of start n where guide answers so
+unfoldable pub replyLine : ℕ → Reply → List ℕ
+replyLine n reply = ascii "start " ++ decimal n ++ replyText reply ++ ascii "\n"
+
 unfoldable pub startLine : Files → ℕ → List ℕ
-startLine f n = ascii "start " ++ decimal n ++ replyText (guideService (listingGuide f n) .reply) ++ ascii "\n"
+startLine f n = replyLine n (guideService (listingGuide f n) .reply)
 
 -- the lines of k starts from number n on
 unfoldable pub startLines : Files → ℕ → ℕ → List ℕ

@@ -24,7 +24,7 @@ const BODIES: [u16; 8] = [
 ];
 
 // The first byte, the contents, the counts and the length are right.
-pub fn start_placed(file: &[u8]) -> bool
+fn start_placed(file: &[u8]) -> bool
     ensures { λ r. ⌜ r ≡ placed startBodies (now (file .entry)) ⌝ }
 {
     bytes_in::placed(file, &BODIES)

@@ -29,7 +29,7 @@ pub struct Fields {
 }
 
 // A record of body 1.
-pub fn read_start(b: &[u8]) -> Start
+fn read_start(b: &[u8]) -> Start
     requires { ⌜ length (now b) ≡ 3 ⌝ }
     ensures { λ r. ⌜ theStart r ≡ startOf (now (b .entry)) ⌝ }
 {
@@ -40,7 +40,7 @@ pub fn read_start(b: &[u8]) -> Start
 }
 
 // A record of body 2.
-pub fn read_fields(b: &[u8]) -> Fields
+fn read_fields(b: &[u8]) -> Fields
     requires { ⌜ length (now b) ≡ 6 ⌝ }
     ensures { λ r. ⌜ theFields r ≡ cellBytes (now (b .entry)) ⌝ }
     ensures { λ r. ⌜ FieldsSmall r ⌝ }
@@ -109,7 +109,7 @@ fn order_of(kind: u64) -> u64
 }
 
 // Cell x is one of the first n cells of the body and has this order.
-pub fn refers_to(body: &[u8], n: usize, order: u64, x: u64) -> bool
+fn refers_to(body: &[u8], n: usize, order: u64, x: u64) -> bool
     requires { ⌜ (n * 6 ≤ length (now body)) × (n ≤ 256) ⌝ }
     ensures { λ r. ⌜ r ≡ refersTo (map cellBytes (records n 6 (now (body .entry)))) n order x ⌝ }
 {

@@ -110,7 +110,7 @@ pub fn put_entry(t: &mut [u64], i: usize, e: Entry)
 }
 
 // The edge in row i.
-pub fn edge_at(t: &[u64], i: usize) -> Edge
+fn edge_at(t: &[u64], i: usize) -> Edge
     requires { ⌜ i * 3 + 3 ≤ length (now t) ⌝ }
     ensures { λ e. ⌜ asEdge e ≡ rowAt edgeRow (now (t .entry)) i ⌝ }
 {

@@ -1,16 +1,10 @@
--- The lines of the listing: a start's line for a reply, the lines of the starts one after another, and how long a line is.
+-- The lines of the listing: the lines of the starts one after another, and how long a line is.
 -- Assumes nothing.
 pub mod Laws
 use Prim.Native.Nat.{ℕ, _^_, _<_}
-use mathlib.Core.List.{List, _++_}
 use Rattle.replies.specs.Numbers.{countsOf}
 use Rattle.replies.specs.declared.Reply.{Reply}
 use Rattle.replies.specs.declared.Reply.the-variants.{Refused, NoRun, Walked}
-use Rattle.services.specs.Listing.{ascii, decimal, replyText}
-
--- the line of start n where guide answers so
-unfoldable pub replyLine : ℕ → Reply → List ℕ
-replyLine n reply = ascii "start " ++ decimal n ++ replyText reply ++ ascii "\n"
 
 -- ---- how long a line is, for numbers of at most k digits
 

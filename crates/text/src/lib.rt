@@ -7,9 +7,8 @@ use replies::Saturation;
 ghost use mathlib.Core.List.{[], _∷_};
 ghost use Prim.Native.Nat.{_+_, _%_, _<_, _≤_};
 ghost use lib.ListN.{length};
-ghost use Rattle.services.specs.Listing.{decimal, sizeLine, countsText, haltText, replyText, refusedText};
+ghost use Rattle.services.specs.Listing.{decimal, sizeLine, countsText, haltText, replyText, replyLine, refusedText};
 ghost use Rattle.text.specs.Written.{Written};
-ghost use Rattle.text.specs.Lines.{replyLine};
 
 // These bytes.
 pub fn put_text(out: &mut [u8], at: usize, s: &[u8]) -> usize
@@ -55,7 +54,7 @@ pub fn put_decimal(out: &mut [u8], at: usize, n: u64) -> usize
 }
 
 // The steps and cells of a walk, a space before each: at most 42 bytes.
-pub fn put_counts(out: &mut [u8], at: usize, c: Counts) -> usize
+fn put_counts(out: &mut [u8], at: usize, c: Counts) -> usize
     requires { ⌜ at + 42 ≤ length (now out) ⌝ }
     ensures { λ r. ⌜ Written (now (out .entry)) at (countsText c) (now (out .exit)) r ⌝ }
     ensures within { λ r. ⌜ r ≤ at + 42 ⌝ }
@@ -67,7 +66,7 @@ pub fn put_counts(out: &mut [u8], at: usize, c: Counts) -> usize
 }
 
 // The counts of a halt, after `trace` or `cells` where the walk halted so: at most 48 bytes.
-pub fn put_halt(out: &mut [u8], at: usize, h: Halt) -> usize
+fn put_halt(out: &mut [u8], at: usize, h: Halt) -> usize
     requires { ⌜ at + 48 ≤ length (now out) ⌝ }
     ensures { λ r. ⌜ Written (now (out .entry)) at (haltText h) (now (out .exit)) r ⌝ }
     ensures within { λ r. ⌜ r ≤ at + 48 ⌝ }
@@ -86,7 +85,7 @@ pub fn put_halt(out: &mut [u8], at: usize, h: Halt) -> usize
 }
 
 // What guide answers for a start: at most 52 bytes.
-pub fn put_reply(out: &mut [u8], at: usize, reply: Reply) -> usize
+fn put_reply(out: &mut [u8], at: usize, reply: Reply) -> usize
     requires { ⌜ at + 52 ≤ length (now out) ⌝ }
     ensures { λ r. ⌜ Written (now (out .entry)) at (replyText reply) (now (out .exit)) r ⌝ }
     ensures within { λ r. ⌜ r ≤ at + 52 ⌝ }

@@ -5,7 +5,7 @@ use native.Mathlib.Omega.{arith}
 use borrow.Author.Needs.{needs}
 use Rattle.sound_files.specs.Refusal.Laws.{files-sound}
 use Rattle.listing_text.specs.Laws.Texts.{listing-refused}
-use Rattle.listing_text.specs.Laws.Printed.{printed}
+use Rattle.text.specs.Laws.Printed.{printed}
 use Rattle.listing_text.proofs.listing.Statement.{statement}
 use Rattle.listing_text.proofs.listing.Tie as tie
 

@@ -5,8 +5,8 @@ use native.Mathlib.Omega.{arith}
 use borrow.Author.Needs.{needs}
 use Rattle.words.specs.Lists.{zeros}
 use Rattle.text.specs.Written.Laws.{written-same}
-use Rattle.sound_files.specs.Sound.Laws.{start-sound}
-use Rattle.listing_text.specs.Laws.Texts.{starts-few, line-guided}
+use Rattle.sound_files.specs.Sound.Laws.{start-sound, starts-few}
+use Rattle.listing_text.specs.Laws.Texts.{line-guided}
 use Rattle.listing_text.proofs.start_line.Statement.{statement}
 use Rattle.listing_text.proofs.start_line.Tie as tie
 

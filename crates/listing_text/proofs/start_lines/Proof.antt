@@ -4,8 +4,7 @@ use Prim.Native.Nat.{_-_, _≤_}
 use native.Mathlib.Omega.{arith}
 use borrow.Author.Needs.{needs}
 use Rattle.start_file.specs.Checks.{filesOf}
-use Rattle.sound_files.specs.Sound.Laws.{start-sound, start-long, starts-count}
-use Rattle.listing_text.specs.Laws.Texts.{starts-few}
+use Rattle.sound_files.specs.Sound.Laws.{start-sound, start-long, starts-count, starts-few}
 use Rattle.listing_text.specs.Starts.{Lined}
 use Rattle.listing_text.specs.Starts.Laws.{lined-none, lined-next, lined-all}
 use Rattle.listing_text.proofs.start_lines.Statement.{statement}

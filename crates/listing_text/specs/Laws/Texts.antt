@@ -1,6 +1,6 @@
 -- The text of the listing, as the code comes to it: refused by the files, refused for size, or the size line and the lines of the starts.
 -- Assumes nothing.
-use Prim.Native.Nat.{ℕ, _*_, _≤_, _<_}
+use Prim.Native.Nat.{ℕ, _*_, _<_}
 use mathlib.Core.Bool.{true, false}
 use mathlib.Core.Path.{_≡_, ap, sym, _∙_}
 use mathlib.Core.Option.{none}
@@ -13,19 +13,17 @@ use Rattle.automata.specs.Saturation.{Saturated}
 use Rattle.replies.specs.declared.Saturation.{Saturation}
 use Rattle.replies.specs.declared.Reply.{Reply}
 use Rattle.files.specs.Start.{Files, startsOf}
-use Rattle.files.specs.Start.Laws.{start-places}
 use Rattle.services.specs.Saturate.{saturated, saturateFilled, saturateService}
 use Rattle.services.specs.Judge.{judgeLent, judgeLeft, judgeService}
 use Rattle.services.specs.Guide.{guideLent, guideRun, guideLeft, cellWords}
-use Rattle.services.specs.Listing.{listingJudge, listingGuide, sizeLine, startLine, startLines, refusedText, judgedText, listingText}
+use Rattle.services.specs.Listing.{listingJudge, listingGuide, sizeLine, replyLine, startLine, startLines, refusedText, judgedText, listingText}
 use Rattle.tables.specs.declared.Table.{Table}
 use Rattle.tables.specs.Rows.Laws.{length-rowsIn}
 use Rattle.tables.specs.Layouts.{entryRow, moveRow}
 use Rattle.start_file.specs.Checks.{filesOf}
 use Rattle.saturate.specs.Service.Laws.{done-filled}
-use Rattle.text.specs.Lines.{replyLine}
 use Rattle.text.specs.Lines.Laws.{startLine-is}
-use Rattle.sound_files.specs.Sound.Laws.{start-sound, starts-count}
+use Rattle.sound_files.specs.Sound.Laws.{starts-few}
 use Rattle.sound_files.specs.Refusal.{FilesSound, filesRefusal, refusedBefore}
 use Rattle.sound_files.specs.Refusal.Laws.{by-files}
 use Rattle.sound_files.specs.Saturated.{lentOf}
@@ -46,13 +44,6 @@ text-refused f n e h =
 text-judged : (f : Files) → judgeService (listingJudge f) .code ≡ 0 → listingText f ≡ judgedText f
 unfolding listingText
 text-judged f e = rw (listingText, eq-eqb (judgeService (listingJudge f) .code) 0 e)
-
--- a sound start file has at most 64 starts
-pub starts-few : {case start : List ℕ} → FilesSound case start → length (startsOf start) ≤ 64
-starts-few {start = start} s =
-    let k = start-places start (start-sound s .in-place) .starts-few in
-    let c = starts-count start in
-    omega arith
 
 module _ (case start : List ℕ) where
   abbrev files : Files

@@ -1,7 +1,7 @@
 -- `printing::print_listing` is safe and ends.
 -- Assumes nothing.
 use borrow.Author.Needs.{needs}
-use Rattle.listing_text.specs.Laws.Printed.{printed-counts}
+use Rattle.text.specs.Laws.Printed.{printed-counts}
 use Rattle.printing.proofs.print_listing.Statement.{statement}
 use Rattle.printing.proofs.print_listing.Tie as tie
 

@@ -44,6 +44,13 @@ pub starts-count : (file : List ℕ) → length (startsOf file) ≡ countOf file
 unfolding startsOf
 starts-count file = length-map (recordsOf file 0 3) startOf ∙ length-recordsOf file 0 3
 
+-- a sound start file has at most 64 starts
+pub starts-few : {case start : List ℕ} → FilesSound case start → length (startsOf start) ≤ 64
+starts-few {start = start} s =
+    let k = start-places start (start-sound s .in-place) .starts-few in
+    let c = starts-count start in
+    omega arith
+
 pub cells-count : (file : List ℕ) → length (cellsOf file) ≡ countOf file 1
 unfolding cellsOf cellRecords
 cells-count file = length-map (cellRecords file) cellOf ∙ length-map (recordsOf file 1 6) cellBytes ∙ length-recordsOf file 1 6

@@ -1,10 +1,9 @@
 -- `text::put_reply_line` meets its contract.
 -- Assumes nothing.
 use native.Mathlib.Omega.{arith}
-use Rattle.services.specs.Listing.{ascii}
+use Rattle.services.specs.Listing.{ascii, replyLine}
 use Rattle.text.specs.Written.Laws.{written-then}
 use Rattle.text.specs.Laws.Decimal.{decimal-length}
-use Rattle.text.specs.Lines.{replyLine}
 use borrow.Author.Needs.{needs}
 use Rattle.text.proofs.put_reply_line.Statement.{statement}
 use Rattle.text.proofs.put_reply_line.Tie as tie

@@ -8,11 +8,10 @@ use native.Mathlib.Numerals.{add-one}
 use native.Mathlib.Omega.{arith}
 use Rattle.files.specs.Start.{Files}
 use Rattle.services.specs.Guide.{guideService}
-use Rattle.services.specs.Listing.{listingGuide, startLine, startLines}
-use Rattle.text.specs.Lines.{replyLine}
+use Rattle.services.specs.Listing.{listingGuide, replyLine, startLine, startLines}
 
 pub startLine-is : (f : Files) (n : ℕ) → startLine f n ≡ replyLine n (guideService (listingGuide f n) .reply)
-unfolding startLine replyLine
+unfolding startLine
 startLine-is f n = refl
 
 -- the last of several lines

@@ -48,6 +48,11 @@ module _ {A B : Type 0} where
   unfolding each
   each-one x f = append-nil (f x)
 
+  -- one more turn of a loop over l
+  pub each-take : (l : List A) (i : ℕ) (d : A) (f : A → List B) → i < length l → each (take (suc i) l) f ≡ each (take i l) f ++ f (getD l i d)
+  each-take l i d f h =
+      ap (λ (k : List A). each k f) (take-suc l i d h) ∙ each-append (take i l) (getD l i d ∷ []) f ∙ ap (λ (k : List B). each (take i l) f ++ k) (each-one (getD l i d) f)
+
   pub each-same : (l : List A) (f g : A → List B) → ((x : A) → List·Memᴰ x l → f x ≡ g x) → each l f ≡ each l g
   unfolding each
   each-same [] f g h = refl

@@ -1,0 +1,54 @@
+-- `run_text::number_named` meets its contract.
+-- Assumes nothing.
+use Prim.Native.Nat.{_-_}
+use lib.ListN.{length}
+use borrow.Author.Needs.{needs}
+use Rattle.run_text.specs.Named.{ReadTo}
+use Rattle.run_text.specs.Named.Laws.{read-none, read-next, read-all, named-none}
+use Rattle.run_text.proofs.number_named.Statement.{statement}
+use Rattle.run_text.proofs.number_named.Tie as tie
+
+abbrev Inv-loop : tie.InvT-loop
+Inv-loop argument n₀ read₀ n read = ReadTo argument read n
+
+abbrev μ-loop : tie.MeasureT-loop
+μ-loop argument n₀ read₀ n read = length argument - read
+
+returns : tie.Need-returns Inv-loop μ-loop
+returns c = named-none _ (search needs)
+
+loop-holds : tie.Need-loop-holds Inv-loop μ-loop
+loop-holds c = read-none _
+
+shared-slice-read-with-digit : tie.Need-shared-slice-read-with-digit Inv-loop μ-loop
+shared-slice-read-with-digit c = search needs
+
+with-digit-requires : tie.Need-with-digit-requires Inv-loop μ-loop
+with-digit-requires c κs = search needs
+
+add-read : tie.Need-add-read Inv-loop μ-loop
+add-read c = search needs
+
+loop-less : tie.Need-loop-less Inv-loop μ-loop
+loop-less c = search needs
+
+loop-again : tie.Need-loop-again Inv-loop μ-loop
+loop-again c = let w = c .with-digit in read-next (c .before .before .before .loop .inv) (search needs) (w .ensures .0) (w .ensures .1)
+
+returns-2 : tie.Need-returns-2 Inv-loop μ-loop
+returns-2 c = read-all (c .before .loop .inv) (search needs) (search needs)
+
+pub number-named-spec : {M : Type 1} → statement M
+number-named-spec =
+    tie.close
+    (tie.spec
+    Inv-loop
+    μ-loop
+    returns
+    loop-holds
+    shared-slice-read-with-digit
+    with-digit-requires
+    add-read
+    loop-less
+    loop-again
+    returns-2)

@@ -1,0 +1,59 @@
+-- `run_text::put_run` meets its contract.
+-- Assumes nothing.
+use Prim.Native.Nat.{ℕ}
+use mathlib.Core.Path.{sym, subst}
+use borrow.Author.Needs.{needs}
+use Rattle.text.specs.Written.Laws.{written-same}
+use Rattle.run_text.specs.Bounds.{Bounded}
+use Rattle.run_text.specs.Answers.{answer-bounded, answer-is, text-room, text-within}
+use Rattle.run_text.proofs.put_run.Statement.{statement}
+use Rattle.run_text.proofs.put_run.Tie as tie
+
+slice-aggregate-guide : tie.Need-slice-aggregate-guide
+slice-aggregate-guide c = search needs
+
+slice-aggregate-guide-2 : tie.Need-slice-aggregate-guide-2
+slice-aggregate-guide-2 c = search needs
+
+slice-aggregate-guide-3 : tie.Need-slice-aggregate-guide-3
+slice-aggregate-guide-3 c = search needs
+
+slice-aggregate-guide-4 : tie.Need-slice-aggregate-guide-4
+slice-aggregate-guide-4 c = search needs
+
+guide-requires : tie.Need-guide-requires
+guide-requires c κs = search needs
+
+slice-aggregate-put-answer : tie.Need-slice-aggregate-put-answer
+slice-aggregate-put-answer c = search needs
+
+put-answer-requires : tie.Need-put-answer-requires
+put-answer-requires c κs =
+    let g = c .before .before .before .before .before .before .guide in
+    let start = c .before .before .before .before .before .before .before .before .before .before .before .before .before .before in
+    let long = g .kept .1 .1 .1 .1 .1 .1 .0 in
+    (subst (λ (k : ℕ). Bounded (start .args .number) k (g .result)) (sym long) (answer-bounded _ _ _ (g .ensures .0)), text-room long (start .pre))
+
+same-length : tie.Need-same-length
+same-length c = search needs
+
+returns : tie.Need-returns
+returns c =
+    let g = c .before .before .before .before .before .before .before .before .before .guide in
+    let w = c .before .before .put-answer .ensures in
+    let long = g .kept .1 .1 .1 .1 .1 .1 .0 in
+    (written-same (answer-is _ _ _ (g .ensures .0)) (w .0), text-within long (w .1))
+
+pub put-run-spec : {M : Type 1} → statement M
+put-run-spec =
+    tie.close
+    (tie.spec
+    slice-aggregate-guide
+    slice-aggregate-guide-2
+    slice-aggregate-guide-3
+    slice-aggregate-guide-4
+    guide-requires
+    slice-aggregate-put-answer
+    put-answer-requires
+    same-length
+    returns)

@@ -1,0 +1,33 @@
+-- `run_text::with_digit` meets its contract.
+-- Assumes nothing.
+use mathlib.Core.Path.{sym}
+use native.Mathlib.Omega.{arith}
+use borrow.Author.Needs.{needs}
+use Rattle.run_text.specs.Named.Laws.{below-digits, above-digits, digit-small, digit-large}
+use Rattle.run_text.proofs.with_digit.Statement.{statement}
+use Rattle.run_text.proofs.with_digit.Tie as tie
+
+returns : tie.Need-returns
+returns c = (sym (below-digits _ _ (search needs)), omega arith)
+
+returns-2 : tie.Need-returns-2
+returns-2 c = (sym (above-digits _ _ (search needs)), omega arith)
+
+mul-longer : tie.Need-mul-longer
+mul-longer c = search needs
+
+cast-longer : tie.Need-cast-longer
+cast-longer c = search needs
+
+add-longer : tie.Need-add-longer
+add-longer c = search needs
+
+returns-3 : tie.Need-returns-3
+returns-3 c = (digit-small _ _ (search needs) (search needs) (search needs), omega arith)
+
+returns-4 : tie.Need-returns-4
+returns-4 c = (sym (digit-large _ _ (search needs) (search needs) (search needs)), omega arith)
+
+pub with-digit-spec : {M : Type 1} → statement M
+with-digit-spec =
+    tie.close (tie.spec returns returns-2 mul-longer cast-longer add-longer returns-3 returns-4)

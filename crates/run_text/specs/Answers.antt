@@ -1,0 +1,47 @@
+-- The text by the answer of guide.
+-- Assumes nothing.
+use Prim.Native.Nat.{ℕ, _+_, _*_, _≤_}
+use mathlib.Core.Path.{_≡_, ap, sym, subst}
+use mathlib.Core.List.{List, _++_}
+use native.Mathlib.Omega.{arith}
+use lib.ListN.{take}
+use Rattle.replies.specs.Numbers.{countsOf}
+use Rattle.replies.specs.declared.Halt.{Halt}
+use Rattle.replies.specs.declared.Reply.{Reply}
+use Rattle.replies.specs.declared.Reply.the-variants.{Walked}
+use Rattle.services.specs.Guide.{GuideDone, guideService, cellWords}
+use Rattle.services.specs.Listing.{ascii, replyLine}
+use Rattle.text.specs.Written.{Written}
+use Rattle.text.specs.Written.Laws.{written-same}
+use Rattle.start_file.specs.Checks.{filesOf}
+use Rattle.guided_start.specs.Run.{guideInput}
+use Rattle.guide.specs.Service.{guideDone}
+use Rattle.services.specs.Run.{runGuide, numbersText, traceLine, answerText, runText}
+use Rattle.run_text.specs.Bounds.{Bounded}
+use Rattle.run_text.specs.Bounds.Laws.{guide-bounded}
+
+-- the line of a walk, and the numbers of its steps
+pub walk-text : {before after : List ℕ} {end steps : ℕ} (number : ℕ) (h : Halt) (trace : List ℕ) → steps ≡ countsOf h .steps
+    → Written before 0 (replyLine number (Walked h) ++ (numbersText (take steps trace) ++ ascii "\n")) after end
+    → Written before 0 (answerText number (Walked h) trace) after end
+unfolding answerText traceLine
+walk-text number h trace e w =
+    written-same (ap (λ (k : ℕ). replyLine number (Walked h) ++ (numbersText (take k trace) ++ ascii "\n")) e) w
+
+module _ (case start : List ℕ) (number : ℕ) {reply : Reply} {moves entries cells trace : List ℕ}
+    (is : guideDone reply moves entries cells trace ≡ guideService (guideInput case start number (1024 * 5) (64 * 2) (4096 * 68) 65536)) where
+  pub answer-bounded : Bounded number 65536 reply
+  answer-bounded =
+      subst (Bounded number 65536) (sym (ap (λ (d : GuideDone). d .reply) is)) (guide-bounded (guideInput case start number (1024 * 5) (64 * 2) (4096 * 68) 65536))
+
+  pub answer-is : answerText number reply trace ≡ runText (filesOf case start) number
+  unfolding runText runGuide cellWords
+  answer-is = ap (λ (d : GuideDone). answerText number (d .reply) (d .trace)) is
+
+-- the bytes of the text for a trace of so many words
+module _ {words : ℕ} (long : words ≡ 65536) where
+  pub text-room : {room : ℕ} → 65536 * 6 + 80 ≤ room → 6 * words + 80 ≤ room
+  text-room h = omega arith
+
+  pub text-within : {end : ℕ} → end ≤ 6 * words + 80 → end ≤ 65536 * 6 + 80
+  text-within h = omega arith

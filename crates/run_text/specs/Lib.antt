@@ -1,0 +1,4 @@
+pub mod Numbers
+pub mod Bounds
+pub mod Named
+pub mod Answers

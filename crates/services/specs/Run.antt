@@ -1,0 +1,66 @@
+-- The text that the program `run` prints for a case file, a start file and the number of a start, and the number that its argument names.
+-- Assumes nothing.
+use Prim.Native.Nat.{ℕ, _+_, _*_, _-_, min}
+use mathlib.Core.Bool.{true, false, _&&_}
+use mathlib.Core.List.{List, [], _∷_, _++_, foldl}
+use lib.ListN.{take}
+use lib.Dec.{leb}
+use Rattle.words.specs.Lists.{each}
+use Rattle.replies.specs.Numbers.{countsOf}
+use Rattle.replies.specs.declared.Counts.{Counts}
+use Rattle.replies.specs.declared.Reply.{Reply}
+use Rattle.replies.specs.declared.Reply.the-variants.{Refused, NoRun, Walked}
+use Rattle.files.specs.Start.{Files}
+use Rattle.services.specs.Guide.{GuideInput, guideService, cellWords}
+use Rattle.services.specs.Listing.{ascii, decimal, replyLine, refusedText}
+
+-- what `run` lends: 1,024 moves, 64 entries, 4,096 cells and 65,536 trace words
+unfoldable pub runGuide : Files → ℕ → GuideInput
+runGuide f n =
+    record {
+      case = f .case;
+      start = f .start;
+      number = n;
+      moves = 1024 * 5;
+      entries = 64 * 2;
+      cells = 4096 * cellWords;
+      trace = 65536;
+    }
+
+-- numbers in decimal, a space before each
+unfoldable pub spacedNumbers : List ℕ → List ℕ
+spacedNumbers ns = each ns (λ n. ascii " " ++ decimal n)
+
+-- numbers in decimal, separated by single spaces
+unfoldable pub numbersText : List ℕ → List ℕ
+numbersText [] = []
+numbersText (n ∷ ns) = decimal n ++ spacedNumbers ns
+
+-- the rule numbers of a walk, one for each step, on a line of their own: an empty one where there is no step
+unfoldable pub traceLine : Counts → List ℕ → List ℕ
+traceLine c trace = numbersText (take (c .steps) trace) ++ ascii "\n"
+
+-- The start's line in the listing's form, and where the start is marked yes the rule numbers of its run. A refusal prints only `refused` and
+-- its number.
+unfoldable pub answerText : ℕ → Reply → List ℕ → List ℕ
+answerText n (Refused k) trace = refusedText k
+answerText n NoRun trace = replyLine n NoRun
+answerText n (Walked h) trace = replyLine n (Walked h) ++ traceLine (countsOf h) trace
+
+unfoldable pub runText : Files → ℕ → List ℕ
+runText f n = answerText n (guideService (runGuide f n) .reply) (guideService (runGuide f n) .trace)
+
+-- ---- the number that an argument names
+
+-- A start file has at most 64 starts, so none has this number.
+unfoldable pub noStart : ℕ
+noStart = 64
+
+-- n with one more digit behind it, or `noStart` where that is too large or the byte is no digit
+unfoldable pub withDigit : ℕ → ℕ → ℕ
+withDigit n b = elim (leb 48 b && leb b 57) [ true ↦ min (n * 10 + (b - 48)) noStart | false ↦ noStart ]
+
+-- the number of a start, in decimal
+unfoldable pub numberNamed : List ℕ → ℕ
+numberNamed [] = noStart
+numberNamed (b ∷ bs) = foldl withDigit 0 (b ∷ bs)
