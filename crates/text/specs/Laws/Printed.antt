@@ -7,17 +7,10 @@ use native.Mathlib.Nat.{zero-add}
 use native.Mathlib.Omega.{arith}
 use lib.ListN.{length, take, drop, replicate, length-append, length-replicate}
 use lib.Seq.{take-at}
-<<<<<<<< HEAD:crates/listing_text/specs/Laws/Printed.antt
-use Rattle.services.specs.Memory.{padded}
-use Rattle.words.specs.Lists.{zeros}
-use Rattle.text.specs.Written.{Written}
-use Rattle.text.specs.Written.Laws.{written-parts, written-same}
-========
 use Rattle.services.specs.Memory.{padded}
 use Rattle.words.specs.Lists.{zeros}
 use Rattle.text.specs.Written.{Written}
 use Rattle.text.specs.Written.Laws.{written-parts, written-same}
->>>>>>>> e2d1e29 (The program behind ./guide: the run from one start as text):crates/text/specs/Printed.antt
 use Rattle.tables.specs.Filled.{drop-zeros}
 
 -- n being the number of the bytes
