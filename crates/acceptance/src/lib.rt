@@ -3,7 +3,7 @@ ghost use mathlib.Core.Path.{_≡_};
 ghost use mathlib.Core.List.{_++_};
 ghost use Prim.Native.Nat.{_<_, _≤_, _*_};
 ghost use lib.ListN.{length, getD, take, drop, set};
-ghost use Rattle.words.specs.Sets.{member, partOf};
+ghost use Rattle.words.specs.Sets.{member};
 ghost use Rattle.tables.specs.Rows.{rowsIn};
 ghost use Rattle.tables.specs.Records.{asMove, asEdge};
 ghost use Rattle.tables.specs.Layouts.{moveRow};
@@ -114,14 +114,6 @@ pub fn accepted(words: &[u64], cell: usize, state: u64) -> bool
     ensures { λ r. ⌜ r ≡ member (getD (now (words .entry)) cell 0) state ⌝ }
 {
     sets::has(words[cell], state)
-}
-
-// Whether every state of the set accepts the cell.
-fn all_accepted(words: &[u64], cell: usize, states: u64) -> bool
-    requires { ⌜ cell < length (now words) ⌝ }
-    ensures { λ r. ⌜ r ≡ partOf states (getD (now (words .entry)) cell 0) ⌝ }
-{
-    sets::part_of(states, words[cell])
 }
 
 // The word of cell i where it is one of the first n, and no state otherwise.

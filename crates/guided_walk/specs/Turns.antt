@@ -36,7 +36,7 @@ pub record RunStands (z : Table) (inner entries moves body : List ℕ) (count : 
   pub cells-lent : most * 68 ≤ length cells
   pub cells-few : most ≤ 4096
 
--- What an walkedBy leaves: its reply, and its trace in a slice of so many words.
+-- What a report leaves: its reply, and its trace in a slice of so many words.
 pub record Leaves (o : Report) (words : ℕ) (reply : Reply) (trace : List ℕ) : Type 0 where
   pub reply-is : reply ≡ o .reply
   pub trace-is : trace ≡ padded words (o .trace)
@@ -78,7 +78,7 @@ module _ (rules : List Rule) (T : Saturated) (most : ℕ) where
   abbrev pub outcomeFrom : Walk → List ℕ → List ℕ → Report
   outcomeFrom w cells trace = guided rules T most (length trace - w .steps) (take (w .steps) trace) (walkIn w cells)
 
-  -- The walk goes on to v, with the same walkedBy.
+  -- The walk goes on to v, with the same report.
   pub record TurnFollows (w : Walk) (cells trace : List ℕ) (v : Walk) (cells′ trace′ : List ℕ) : Type 0 where
     pub same-outcome : outcomeFrom w cells trace ≡ outcomeFrom v cells′ trace′
     pub walking : Walking most v trace′

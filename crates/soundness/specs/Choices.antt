@@ -1,4 +1,4 @@
--- What the cells of a stack choose: the firstOrZero choices of a start, and those of the new cells of a step.
+-- What the cells of a stack choose: the least choices of a start, and those of the new cells of a step.
 -- Assumes nothing.
 use Prim.Native.Nat.{ℕ, _+_, _-_}
 use mathlib.Core.Path.{_≡_, refl, ap, sym, subst}
@@ -19,23 +19,23 @@ use Rattle.automata.specs.Derivation.{Derivation}
 use Rattle.automata.specs.Derivation.Numbers.{Paired, empty, also}
 use Rattle.walks.specs.Guide.{firstOrZero, leastChoice, chooses, choosesAll, premise, topChoice, rootChoice}
 
--- ---- the firstOrZero choices of a start
+-- ---- the least choices of a start
 
--- the firstOrZero of a list that is not empty
-pub least-in : {n : ℕ} {l : List ℕ} → List·Memᴰ n l → List·Memᴰ (firstOrZero l) l
+-- the first number of a list that is not empty is one of it
+pub first-in : {n : ℕ} {l : List ℕ} → List·Memᴰ n l → List·Memᴰ (firstOrZero l) l
 unfolding firstOrZero
-least-in (List·Memᴰ·head e) = List·Memᴰ·head refl
-least-in (List·Memᴰ·tail i) = List·Memᴰ·head refl
+first-in (List·Memᴰ·head e) = List·Memᴰ·head refl
+first-in (List·Memᴰ·tail i) = List·Memᴰ·head refl
 
 module _ (A : Automaton) where
-  -- the firstOrZero choice of an accepting state is a move of its that the annotation and the rest fit
+  -- the least choice of an accepting state is a move of its that the annotation and the rest fit
   pub least-move : (a : ℕ) (u : Annotation) (s : Stack1) (r : ℕ) → Accepts1 A (cons1 a u s) r
       → (n : ℕ) × (leastChoice A (of1 (cons1 a u s)) r ≡ n) × MoveOf A a r n × AcceptsAnnotation A u (moveAt A n .order) (moveAt A n .B)
       × All (moveAt A n .R) (Accepts1 A s)
   unfolding Accepts1 leastChoice
   least-move a u s r h =
       let k = only-in (λ i. moveFits A u s (moveAt A i)) (movesOf-in A (h .move)) (moveFits-in A u s (moveAt A (h .number)) (h .annotation) (h .rest)) in
-      let o = only-out (λ i. moveFits A u s (moveAt A i)) (movesOf A r a) (least-in k) in
+      let o = only-out (λ i. moveFits A u s (moveAt A i)) (movesOf A r a) (first-in k) in
       let f = moveFits-out A u s (moveAt A (leastChoice A (of1 (cons1 a u s)) r)) (o .1) in
       (leastChoice A (of1 (cons1 a u s)) r, refl, movesOf-out A r a (o .0), f .0, f .1)
 
@@ -45,7 +45,7 @@ module _ (A : Automaton) where
   unfolding Accepts1 leastChoice
   least-edge w t q h =
       let k = only-in (λ i. edgeFits A w t (edgeAt A i)) (edgesOf-in A (h .edge)) (edgeFits-in A w t (edgeAt A (h .number)) (h .first) (h .rest)) in
-      let o = only-out (λ i. edgeFits A w t (edgeAt A i)) (edgesOf A q) (least-in k) in
+      let o = only-out (λ i. edgeFits A w t (edgeAt A i)) (edgesOf A q) (first-in k) in
       let f = edgeFits-out A w t (edgeAt A (leastChoice A (of2 (cons2 w t)) q)) (o .1) in
       (leastChoice A (of2 (cons2 w t)) q, refl, edgesOf-out A q (o .0), f .0, f .1)
 

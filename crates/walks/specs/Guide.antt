@@ -42,7 +42,7 @@ unfoldable pub firstOrZero : List ℕ → ℕ
 firstOrZero [] = 0
 firstOrZero (n ∷ ns) = n
 
--- "Each cell and each state accepting it gets the choice of firstOrZero number: the edge with firstOrZero order-1 state, then firstOrZero S; the firstOrZero
+-- "Each cell and each state accepting it gets the choice of least number: the edge with least order-1 state, then least S; the least
 -- move." (0 where no state asks.)
 unfoldable pub leastChoice : Automaton → Annotation → ℕ → ℕ
 leastChoice A (of1 nil1) r = 0

@@ -109,7 +109,7 @@ written-more trace i n h = ap (λ (j : ℕ). take j (set trace i n)) (add-one i)
 -- ---- a turn
 
 module _ (rules : List Rule) (T : Saturated) (most : ℕ) (w : Walk) (cells trace : List ℕ) (in-room : Walking most w trace) where
-  -- the walkedBy of a halt
+  -- the report of a halt
   halt-is : (h : Counts → Halt) {k : Counts} → k ≡ countsIn w → walkedBy (h (counts (take (w .steps) trace) (walkIn w cells))) (take (w .steps) trace)
       ≡ walkedBy (h k) (take (w .steps) trace)
   halt-is h e = ap (λ (k : Counts). walkedBy (h k) (take (w .steps) trace)) (counts-in w cells trace (in-room .steps-lent) ∙ sym e)

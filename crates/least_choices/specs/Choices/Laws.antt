@@ -17,7 +17,7 @@ use Rattle.cell_memory.specs.Memory.{guidedCell}
 use Rattle.cell_memory.specs.Memory.Laws.{choosing, length-withChoice, withChoice-other, withChoice-guided}
 use Rattle.least_choices.specs.Choices.{choiceIf, leastMet}
 
--- ---- the firstOrZero number
+-- ---- the least number
 
 module _ {X : Type 0} (mine : X → Bool) (test : ℕ → Bool) (n : ℕ) (x : X) (xs : List X) where
   -- the first element is one of mine and passes
@@ -113,7 +113,7 @@ module _ {X : Type 0} (state : X → ℕ) (met : X → Bool) (i : ℕ) (d : X) w
       (λ e. rw e (sym (least-here mine test n x xs (sym here ∙ e))))
       (λ e. rw e (leastMet-choice mine test q (suc n) xs cells small′ l none agree′ ∙ sym (least-later mine test n x xs (sym here ∙ e))))
 
-  -- where cell i had no choice, it has the firstOrZero one for each state
+  -- where cell i had no choice, it has the least one for each state
   pub leastMet-guided : (mine : ℕ → X → Bool) (test : ℕ → Bool) (xs : List X) (cells : List ℕ) → Small state d xs → i * 68 + 68 ≤ length cells
       → guidedCell cells i .choice ≡ (λ q. 0) → ((q : ℕ) → Agree (mine q) test q 0 xs)
       → guidedCell (leastMet state met i 0 xs cells) i
