@@ -8,9 +8,8 @@ use mathlib.Core.Bool.{Bool, true, false, _&&_}
 use mathlib.Core.List.{List, [], _∷_}
 use lib.Dec.{eqb}
 use Rattle.words.specs.Sets.{member, join, single, partOf}
-use Rattle.stacks.specs.Stack.{Stack1, nil1, cons1, Stack2, nil2, cons2, Annotation, of1, of2}
+use Rattle.stacks.specs.Stack.{Stack1, nil1, cons1, Stack2, nil2, cons2, Annotation, of1, of2, annotationOrder}
 use Rattle.automata.specs.Automaton.{Automaton, Move, Edge, edges}
-use Rattle.stacks.specs.Stack.{annotationOrder}
 
 -- an annotation of order k whose accepting states are `note` is as a move of this order and annotation set asks
 unfoldable pub annotationMet : ℕ → ℕ → ℕ → ℕ → Bool

@@ -20,8 +20,8 @@ use Rattle.walks.specs.Guide.{firstOrZero}
 use Rattle.first_reading.specs.First.{onlyIf, isSome}
 use Rattle.first_reading.specs.Answer.{writtenAll, Answers}
 use Rattle.first_reading.specs.Search.{joinsKey, wanted, Numbers, onlyMoves, firstReading}
-use Rattle.first_derivation.specs.declared.PremiseFound.{PremiseFound}
-use Rattle.first_derivation.specs.declared.PremiseFound.the-variants.{Nothing, By}
+use Rattle.first_derivation.specs.declared.Premise.{Premise}
+use Rattle.first_derivation.specs.declared.Premise.the-variants.{Nothing, By}
 use Rattle.first_derivation.specs.Search.{Step, withPremise, byMove, byEntry}
 
 -- a move of an entry with set S gives x by a rewrite
@@ -87,11 +87,11 @@ moveGives A a x op p′ b i = onlyIf (eqb (moveAt A i .symbol) b && entryOf A p�
 unfoldable pub entryGives : Automaton → Result → (ℕ → Joins) → ℕ → ℕ → Option Step
 entryGives A x joins p′ e = onlyIf (eqb (getD (A .entries) e noEntry .control) p′) (Option·map (withPremise e) (byEntry A x joins e))
 
-abbrev pub premiseIn : PremiseFound → Option ℕ
+abbrev pub premiseIn : Premise → Option ℕ
 premiseIn Nothing = none
 premiseIn (By i) = some i
 
 -- A search for a step by the operation answers r: the number of the step's premise, or nothing; and it writes what it chose.
-pub record Finds (A : Automaton) (op : Operation) (o : Option Step) (r : PremiseFound) (es₀ es ms₀ ms : List ℕ) : Type 0 where
+pub record Finds (A : Automaton) (op : Operation) (o : Option Step) (r : Premise) (es₀ es ms₀ ms : List ℕ) : Type 0 where
   pub number : premiseIn r ≡ Option·map (λ s. firstOrZero (s .premise)) o
   pub written : Answers o (stepEdges A op) (stepMoves A op) (isSome (premiseIn r)) es₀ es ms₀ ms

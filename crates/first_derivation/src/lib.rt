@@ -115,7 +115,7 @@ fn by_move(
 }
 
 // The number of a premise (0 where the rule has none), or that there is no derivation.
-pub enum PremiseFound {
+pub enum Premise {
     Nothing,
     By(u64),
 }
@@ -161,7 +161,7 @@ fn first_move(
     x: Result,
     edges: &mut [u16],
     chosen: &mut [u16],
-) -> PremiseFound
+) -> Premise
     requires { ⌜ TablesWithin z (now inner) (now entries) (now moves) × (length (now edges) ≡ 64) × (length (now chosen) ≡ 64) ⌝ }
     ensures { λ r. ⌜ Finds (automatonOf z (now (inner .entry)) (now (entries .entry)) (now (moves .entry))) (theOperation op) (firstMove (automatonOf z (now (inner .entry)) (now (entries .entry)) (now (moves .entry))) a (asResult x) (theOperation op) p b) r (now (edges .entry)) (now (edges .exit)) (now (chosen .entry)) (now (chosen .exit)) ⌝ }
 {
@@ -169,11 +169,11 @@ fn first_move(
     let mut i: usize = 0;
     while i < n {
         if try_move(z, inner, entries, moves, a, op, p, b, i, x, edges, chosen) {
-            return PremiseFound::By(i as u64);
+            return Premise::By(i as u64);
         }
         i += 1;
     }
-    PremiseFound::Nothing
+    Premise::Nothing
 }
 
 // ---- an entry as the premise, and no premise
@@ -240,7 +240,7 @@ fn try_entry(z: Table, entries: &[u64], collapse: bool, p: u64, e: usize, x: Res
 }
 
 // The first entry that is a premise of a rule to control p by pop 1 or by collapse 1, and gives x.
-fn first_entry(z: Table, entries: &[u64], collapse: bool, p: u64, x: Result) -> PremiseFound
+fn first_entry(z: Table, entries: &[u64], collapse: bool, p: u64, x: Result) -> Premise
     requires { ⌜ EntriesStand z (now entries) ⌝ }
     ensures { λ r. ⌜ premiseIn r ≡ Option·map (λ s. firstOrZero (s .premise)) (firstEntry (tableOf z (now (entries .entry)) []) (asResult x) (entryJoins collapse) p) ⌝ }
 {
@@ -248,37 +248,37 @@ fn first_entry(z: Table, entries: &[u64], collapse: bool, p: u64, x: Result) -> 
     let mut e: usize = 0;
     while e < n {
         if try_entry(z, entries, collapse, p, e, x) {
-            return PremiseFound::By(e as u64);
+            return Premise::By(e as u64);
         }
         e += 1;
     }
-    PremiseFound::Nothing
+    Premise::Nothing
 }
 
 // Pop 2, to control p.
-fn by_pop2(p: u64, x: Result) -> PremiseFound
+fn by_pop2(p: u64, x: Result) -> Premise
     ensures { λ r. ⌜ premiseIn r ≡ Option·map (λ s. firstOrZero (s .premise)) (byNone (asResult x) (single p) noJoins) ⌝ }
 {
     if !is_single(p, x.s) {
-        return PremiseFound::Nothing;
+        return Premise::Nothing;
     }
     if !first_reading::is_wanted(0, 0, 0, x) {
-        return PremiseFound::Nothing;
+        return Premise::Nothing;
     }
-    PremiseFound::By(0)
+    Premise::By(0)
 }
 
 // Collapse 2, to control p.
-fn by_collapse2(p: u64, x: Result) -> PremiseFound
+fn by_collapse2(p: u64, x: Result) -> Premise
     ensures { λ r. ⌜ premiseIn r ≡ Option·map (λ s. firstOrZero (s .premise)) (byNone (asResult x) 0 (record { order = 2; B = single p; R = 0 })) ⌝ }
 {
     if 0 != x.s {
-        return PremiseFound::Nothing;
+        return Premise::Nothing;
     }
     if !annotation_is(2, p, x) {
-        return PremiseFound::Nothing;
+        return Premise::Nothing;
     }
-    PremiseFound::By(0)
+    Premise::By(0)
 }
 
 // ---- a rule
@@ -295,7 +295,7 @@ fn first_step(
     x: Result,
     edges: &mut [u16],
     chosen: &mut [u16],
-) -> PremiseFound
+) -> Premise
     requires { ⌜ TablesWithin z (now inner) (now entries) (now moves) × (length (now edges) ≡ 64) × (length (now chosen) ≡ 64) ⌝ }
     ensures { λ r. ⌜ Finds (automatonOf z (now (inner .entry)) (now (entries .entry)) (now (moves .entry))) (theOperation op) (firstStep (automatonOf z (now (inner .entry)) (now (entries .entry)) (now (moves .entry))) a (asResult x) (theOperation op) p) r (now (edges .entry)) (now (edges .exit)) (now (chosen .entry)) (now (chosen .exit)) ⌝ }
 {
@@ -333,15 +333,15 @@ fn by_rule(
     x: Result,
     edges: &mut [u16],
     chosen: &mut [u16],
-) -> PremiseFound
+) -> Premise
     requires { ⌜ TablesWithin z (now inner) (now entries) (now moves) × (length (now edges) ≡ 64) × (length (now chosen) ≡ 64) ⌝ }
     ensures { λ r. ⌜ Finds (automatonOf z (now (inner .entry)) (now (entries .entry)) (now (moves .entry))) (theOperation (rule .operation)) (byRule (automatonOf z (now (inner .entry)) (now (entries .entry)) (now (moves .entry))) (asResult x) (theRule rule)) r (now (edges .entry)) (now (edges .exit)) (now (chosen .entry)) (now (chosen .exit)) ⌝ }
 {
     if rule.control != x.control {
-        return PremiseFound::Nothing;
+        return Premise::Nothing;
     }
     if rule.symbol != x.symbol {
-        return PremiseFound::Nothing;
+        return Premise::Nothing;
     }
     let op = rule.operation;
     first_step(
@@ -384,16 +384,7 @@ pub fn first_derivation(
     let mut i: usize = 0;
     while i < count {
         let rule = case_records::rule_at(body, i);
-        if let PremiseFound::By(premise) = by_rule(
-            z,
-            inner,
-            entries,
-            moves,
-            rule,
-            x,
-            edges,
-            chosen,
-        ) {
+        if let Premise::By(premise) = by_rule(z, inner, entries, moves, rule, x, edges, chosen) {
             return First::Found(i as u64, premise);
         }
         i += 1;

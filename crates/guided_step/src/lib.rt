@@ -14,7 +14,7 @@ ghost use Rattle.cell_memory.specs.Memory.{cellOf, guidedIn};
 ghost use Rattle.results.specs.Collecting.{rulesIn};
 ghost use Rattle.first_reading.specs.Words.{TablesWithin};
 ghost use Rattle.first_derivation.specs.Derived.{FindsFirst, StatesSmall};
-ghost use Rattle.saturation.specs.Running.{theSize};
+ghost use Rattle.saturation.specs.Sizes.{theSize};
 ghost use Rattle.saturation.specs.Layout.{sizeRow};
 ghost use Rattle.guided_step.specs.Walks.{walkIn, tipOf};
 ghost use Rattle.guided_step.specs.Earlier.{asSize, tableUpTo};

@@ -32,7 +32,7 @@ pub record Growing (z : Table) (most : ℕ) (entries : List ℕ) : Type 0 where
 
 -- The tables of z′ are those of z with the results xs added.
 pub record Grows (z : Table) (entries moves : List ℕ) (xs : List Result) (z′ : Table) (entries′ moves′ : List ℕ) : Type 0 where
-  pub same-states : z′ .states ≡ z .inner1
+  pub same-states : z′ .inner1 ≡ z .inner1
   pub same-edges : z′ .edges ≡ z .edges
   pub table-is : (inner : List ℕ) → automatonOf z′ inner entries′ moves′ ≡ addAll (automatonOf z inner entries moves) xs
   pub moves-more : z′ .moves ≡ z .moves + length xs

@@ -3,8 +3,8 @@
 use native.Mathlib.Omega.{arith}
 use Rattle.automata.specs.Saturation.{Size}
 use Rattle.tables.specs.Rows.{Layout}
-use Rattle.saturation.specs.Running.{sizeWords, sizeFrom}
-use Rattle.saturation.specs.Running.Laws.{size-length, size-words, size-back, size-same}
+use Rattle.saturation.specs.Sizes.{sizeWords, sizeFrom}
+use Rattle.saturation.specs.Sizes.Laws.{size-length, size-words, size-back, size-same}
 
 abbrev pub sizeRow : Layout Size
 sizeRow =

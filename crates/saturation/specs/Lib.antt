@@ -2,3 +2,4 @@ pub mod Adding
 pub mod Rounding
 pub mod Running
 pub mod Layout
+pub mod Sizes

@@ -5,7 +5,7 @@ use Prim.Native.Nat.{ℕ, _-_, _/_, _≤_, min}
 use mathlib.Core.Bool.{Bool, true, false}
 use mathlib.Core.Path.{_≡_}
 use mathlib.Core.Option.{Option, none, some}
-use mathlib.Core.List.{List, [], _∷_}
+use mathlib.Core.List.{List}
 use lib.ListN.{length}
 use Rattle.stacks.specs.System.{Rule}
 use Rattle.automata.specs.Automaton.{Automaton}
@@ -17,6 +17,7 @@ use Rattle.tables.specs.Layouts.{entryRow, moveRow}
 use Rattle.tables.specs.Held.{automatonOf, EdgesStand, EntriesStand, MovesStand}
 use Rattle.tables.specs.Filled.{Filled}
 use Rattle.saturation.specs.Rounding.{Standing}
+use Rattle.saturation.specs.Layout.{sizeRow}
 
 -- ---- limits
 
@@ -25,17 +26,6 @@ mostMoves words = min (words / 5) 1024
 
 unfoldable pub mostEntries : ℕ → ℕ → ℕ
 mostEntries words states = min (words / 2) (64 - states)
-
--- ---- sizes in rows of two words
-
-abbrev pub theSize : ℕ → ℕ → Size
-theSize moves entries = record { moves = moves; entries = entries }
-
-unfoldable pub sizeWords : Size → List ℕ
-sizeWords x = x .moves ∷ x .entries ∷ []
-
-abbrev pub sizeFrom : (ℕ → ℕ) → Size
-sizeFrom f = record { moves = f 0; entries = f 1 }
 
 -- ---- the loop
 
@@ -67,7 +57,7 @@ module _ (rules : List Rule) (inner : List ℕ) (z : Table) (entries moves : Lis
     pub left : saturate rules (lent (length moves) (length entries)) (automatonOf z inner entries moves)
         ≡ saturateFrom rules (lent (length moves) (length entries)) (1025 - k) (rowsIn sizeRow k sizes) (automatonOf z′ inner entries′ moves′)
     pub count : k ≤ z′ .moves
-    pub same-states : z′ .states ≡ z .inner1
+    pub same-states : z′ .inner1 ≡ z .inner1
     pub entries-filled : Filled entryRow (z .entries) entries → Filled entryRow (z′ .entries) entries′
     pub moves-filled : Filled moveRow (z .moves) moves → Filled moveRow (z′ .moves) moves′
     pub entries-long : length entries′ ≡ length entries

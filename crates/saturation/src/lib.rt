@@ -10,7 +10,8 @@ ghost use Rattle.tables.specs.Layouts.{resultRow};
 ghost use Rattle.results.specs.Collecting.{RulesStand, rulesIn};
 ghost use Rattle.saturation.specs.Adding.{Entered, Growing, Added};
 ghost use Rattle.saturation.specs.Rounding.{Standing, Rounded};
-ghost use Rattle.saturation.specs.Running.{mostMoves, mostEntries, theSize, Given, Ends};
+ghost use Rattle.saturation.specs.Running.{mostMoves, mostEntries, Given, Ends};
+ghost use Rattle.saturation.specs.Sizes.{theSize};
 ghost use Rattle.saturation.specs.Layout.{sizeRow};
 use limits::Limits;
 

@@ -8,9 +8,8 @@ use native.Mathlib.Numerals.{add-one}
 use native.Mathlib.Omega.{arith}
 use lib.ListN.{length, drop, replicate, length-replicate}
 use lib.Seq.{drop-drop, drop-nil}
-use Rattle.words.specs.Lists.{each}
+use Rattle.words.specs.Lists.{each, zeros}
 use Rattle.services.specs.Memory.{padded}
-use Rattle.words.specs.Lists.{zeros}
 use Rattle.tables.specs.Rows.{Layout, rowsIn, putRow}
 use Rattle.tables.specs.Rows.Laws.{length-rowsIn, length-putRow, drop-putRow, rowsIn-whole, length-each-words}
 

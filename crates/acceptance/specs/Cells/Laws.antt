@@ -8,13 +8,12 @@ use native.Mathlib.Omega.{arith}
 use lib.ListN.{length, getD, take}
 use lib.Seq.{getD-take}
 use Rattle.words.specs.Sets.{member}
-use Rattle.stacks.specs.Stack.{Annotation, of1, of2}
+use Rattle.stacks.specs.Stack.{Annotation, of1, of2, annotationOrder}
 use Rattle.automata.specs.Automaton.{Automaton}
 use Rattle.automata.specs.Acceptance.{accepts1, accepts2}
 use Rattle.walks.specs.Cell.{Cell, empty1, symbol, empty2, above, stacks, stackAt, stackOf, order1, order2}
 use Rattle.walks.specs.Cell.Formed.{Formed, Refers, cellAt, orderAt}
 use Rattle.walks.specs.Cell.Laws.{stack-at, stack-order}
-use Rattle.stacks.specs.Stack.{annotationOrder}
 use Rattle.walks.specs.Cell.Values.{length-pass, pass-at}
 use Rattle.acceptance.specs.Words.{word1, word2, wordAnnotation}
 use Rattle.acceptance.specs.Words.Laws.{word1-member, word2-member}

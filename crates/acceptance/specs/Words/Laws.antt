@@ -10,10 +10,9 @@ use Rattle.words.specs.Sets.Laws.{member-join, member-empty, member-single, has
 use Rattle.words.specs.Lists.{only, every, some-of}
 use Rattle.words.specs.Lists.Laws.{every-in, in-every, only-yes, only-no, some-of-cons}
 use Rattle.words.specs.Tests.{by-test, equal-tests}
-use Rattle.stacks.specs.Stack.{Stack1, nil1, cons1, Stack2, nil2, cons2, Annotation, of1, of2}
+use Rattle.stacks.specs.Stack.{Stack1, nil1, cons1, Stack2, nil2, cons2, Annotation, of1, of2, annotationOrder}
 use Rattle.automata.specs.Automaton.{Automaton, edges}
 use Rattle.automata.specs.Acceptance.{accepts1, accepts2, acceptsAnnotation}
-use Rattle.stacks.specs.Stack.{annotationOrder}
 use Rattle.acceptance.specs.Words.{annotationMet, moveMet, edgeMet, statesMet, word1, word2, wordAnnotation}
 
 -- a set all of whose members pass is a part of the word of those that pass

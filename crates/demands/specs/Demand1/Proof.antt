@@ -8,7 +8,7 @@ use native.Mathlib.Nat.{zero-add, zero-mul, suc-mul, sub-zero}
 use native.Mathlib.Omega.{arith}
 use lib.ListN.{length, length-append, length-map}
 use lib.Dec.{leb}
-use Rattle.words.specs.Lists.{each}
+use Rattle.words.specs.Lists.{each, zeros}
 use Rattle.words.specs.Lists.Laws.{length-zeros}
 use Rattle.words.specs.Tests.{by-test}
 use Rattle.automata.specs.Automaton.{Automaton}
@@ -22,7 +22,6 @@ use Rattle.files.specs.Bytes.{Test, firstHit}
 use Rattle.files.specs.Case.{caseTests, caseRefusal, ownOf, rulesOf}
 use Rattle.files.specs.Start.{Files, startTests, startRefusal, startsOf, cellsOf}
 use Rattle.services.specs.Memory.{padded, moveWords, entryWords, moveTable, entryTable, lent}
-use Rattle.words.specs.Lists.{zeros}
 use Rattle.services.specs.Saturate.{Lent, saturated, SaturateDone, saturateRefused, saturateFilled, saturateService}
 use Rattle.services.specs.Saturate.Laws.{SaturateCase, case-refused, size-exceeded, filled, saturate-cases}
 use Rattle.services.specs.Judge.{JudgeInput, JudgeDone, judgeFiles, mark, judgeLeft, judgeService}

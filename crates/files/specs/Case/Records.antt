@@ -13,8 +13,7 @@ use Rattle.words.specs.Lists.{only}
 use Rattle.words.specs.Lists.Laws.{every-in, only-out}
 use Rattle.words.specs.Tests.{and-left, and-right}
 use Rattle.words.specs.Order.{less, rising}
-use Rattle.words.specs.Order.Laws.{less-cons, less-lt, less-eq, one-less}
-use Rattle.words.specs.Order.Laws.{rising-only, rising-map, sorted-rising, sorted-out}
+use Rattle.words.specs.Order.Laws.{less-cons, less-lt, less-eq, one-less, rising-only, rising-map, sorted-rising, sorted-out}
 use Rattle.automata.specs.Automaton.{Move, Edge, Entry, choiceKey, entryKey}
 use Rattle.files.specs.Case.{Head, inner1, inner2, headRight, RuleBytes, ruleRight, EdgeBytes, edgeRight, edgeKey, entriesOf, innerEdges, annotationRight, moveRight}
 use Rattle.words.specs.Order.Rising.{rising-other}

@@ -22,8 +22,8 @@ use Rattle.first_reading.specs.First.{isSome, orElse, firstBelow}
 use Rattle.first_reading.specs.First.Laws.{orElse-none, orElse-assoc}
 use Rattle.first_reading.specs.Answer.{writtenAll, NotFoundBelow, Unchanged}
 use Rattle.first_reading.specs.Answer.Laws.{answer-map, answers-none, answers-is, answers-eq, answers-from, answers-fails, isSome-map, passed-hit, passed-all}
-use Rattle.first_derivation.specs.declared.PremiseFound.{PremiseFound}
-use Rattle.first_derivation.specs.declared.PremiseFound.the-variants.{Nothing, By}
+use Rattle.first_derivation.specs.declared.Premise.{Premise}
+use Rattle.first_derivation.specs.declared.Premise.the-variants.{Nothing, By}
 use Rattle.first_derivation.specs.declared.First.the-variants.{Missing, Found}
 use Rattle.first_derivation.specs.Search as Search
 use Rattle.first_derivation.specs.Search.{derived, byRule, firstFrom}
@@ -80,11 +80,11 @@ module _ (A : Automaton) (x : Result) (body : List ℕ) (k : ℕ) (ρ : Rule) (i
   gives-is = ap (λ (r : Rule). Option·map (derived k x) (byRule A x r)) (sym is)
 
   -- rule k does not give x
-  pub rule-fails : {r : PremiseFound} {es₀ es ms₀ ms : List ℕ} → r ≡ Nothing → Finds A (ρ .operation) (byRule A x ρ) r es₀ es ms₀ ms
+  pub rule-fails : {r : Premise} {es₀ es ms₀ ms : List ℕ} → r ≡ Nothing → Finds A (ρ .operation) (byRule A x ρ) r es₀ es ms₀ ms
       → (ruleGives A x body k ≡ none) × (es ≡ es₀) × (ms ≡ ms₀)
   unfolding isSome
   rule-fails {r} e h =
-      let f = answers-fails (answers-is (ap (λ (q : PremiseFound). isSome (premiseIn q)) e) (h .written)) in
+      let f = answers-fails (answers-is (ap (λ (q : Premise). isSome (premiseIn q)) e) (h .written)) in
       (gives-is ∙ ap (Option·map (derived k x)) (f .0), f .1, f .2)
 
 -- the numbers of a step by rule k
@@ -115,13 +115,13 @@ module _ (A : Automaton) (x : Result) (n : ℕ) (body : List ℕ) where
       record { numbers = ap (Option·map stepOf) (sym e); written = answers-from s t (answers-none es ms e) }
 
   -- rule k gives x
-  pub rule-found : (k : ℕ) (ρ : Rule) → ρ ≡ ruleOf (ruleBytes (recordAt 5 k body)) → {i : ℕ} {r : PremiseFound} {es₀ es ms₀ ms : List ℕ} → r ≡ By i
+  pub rule-found : (k : ℕ) (ρ : Rule) → ρ ≡ ruleOf (ruleBytes (recordAt 5 k body)) → {i : ℕ} {r : Premise} {es₀ es ms₀ ms : List ℕ} → r ≡ By i
       → NotFoundBelow n (ruleGives A x body) k → k < n → Finds A (ρ .operation) (byRule A x ρ) r es₀ es ms₀ ms
       → FindsFirst A R x (Found k i) es₀ es ms₀ ms
   unfolding isSome ruleIn derivationEdges derivationMoves stepEdges stepMoves writesEdges writesMoves
   rule-found k ρ is {i} {r} {es₀} {es} {ms₀} {ms} is-by h below g =
       let f : Finds A (ρ .operation) (byRule A x ρ) (By i) es₀ es ms₀ ms =
-      subst (λ (q : PremiseFound). Finds A (ρ .operation) (byRule A x ρ) q es₀ es ms₀ ms) is-by g in
+      subst (λ (q : Premise). Finds A (ρ .operation) (byRule A x ρ) q es₀ es ms₀ ms) is-by g in
       let op : operationBy R k ≡ ρ .operation = operation-in n body k below ∙ ap (λ (r : Rule). r .operation) (sym is) in
       let gives : ruleGives A x body k ≡ Option·map (derived k x) (byRule A x ρ) = gives-is A x body k ρ is in
       let s : isSome (ruleGives A x body k) ≡ true = ap isSome gives ∙ isSome-map (derived k x) (byRule A x ρ) ∙ sym (f .written .edges .success) in

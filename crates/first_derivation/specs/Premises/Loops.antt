@@ -26,8 +26,8 @@ use Rattle.first_reading.specs.First.Laws.{onlyIf-yes, onlyIf-no, atPlace, firs
 use Rattle.first_reading.specs.Answer.{Answers, NotFoundBelow, Unchanged}
 use Rattle.first_reading.specs.Answer.Laws.{answer-map, answers-none, answers-eq, answers-from, passed-hit}
 use Rattle.first_reading.specs.Search.{joinsKey, wanted, Numbers, noNumbers}
-use Rattle.first_derivation.specs.declared.PremiseFound.{PremiseFound}
-use Rattle.first_derivation.specs.declared.PremiseFound.the-variants.{Nothing, By}
+use Rattle.first_derivation.specs.declared.Premise.{Premise}
+use Rattle.first_derivation.specs.declared.Premise.the-variants.{Nothing, By}
 use Rattle.first_derivation.specs.Search.{Step, withPremise, byMove, byEntry, firstMove, firstEntry}
 use Rattle.first_derivation.specs.Premises.{writesEdges, writesMoves, FindsDerivation, stepEdges, stepMoves, moveGives, entryGives, Finds}
 
@@ -50,7 +50,7 @@ module _ (A : Automaton) (op : Operation) where
   unfolding isSome
   finds-nothing es ms e = record { number = ap (Option·map (λ s. firstOrZero (s .premise))) (sym e); written = answers-none es ms e }
 
-  pub finds-from : {o : Option Step} {r : PremiseFound} {es₀ es fs ms₀ ms ns : List ℕ} → Unchanged es₀ es → Unchanged ms₀ ms → Finds A op o r es fs ms ns → Finds A op o r es₀ fs ms₀ ns
+  pub finds-from : {o : Option Step} {r : Premise} {es₀ es fs ms₀ ms ns : List ℕ} → Unchanged es₀ es → Unchanged ms₀ ms → Finds A op o r es fs ms ns → Finds A op o r es₀ fs ms₀ ns
   finds-from h k f = record { number = f .number; written = answers-from h k (f .written) }
 
 -- ---- a move

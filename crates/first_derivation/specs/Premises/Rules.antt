@@ -21,7 +21,7 @@ use Rattle.first_reading.specs.First.Laws.{onlyIf-yes, onlyIf-no, onlyIf-none}
 use Rattle.first_reading.specs.Answer.{writtenAll}
 use Rattle.first_reading.specs.Answer.Laws.{answer-still, isSome-map}
 use Rattle.first_reading.specs.Search.{joinsKey, wanted}
-use Rattle.first_derivation.specs.declared.PremiseFound.{PremiseFound}
+use Rattle.first_derivation.specs.declared.Premise.{Premise}
 use Rattle.first_derivation.specs.Search.{Step, byEntry, firstEntry, firstMove, entryJoins, byNone, firstStep, byRule}
 use Rattle.first_derivation.specs.Premises.{writesEdges, writesMoves, edgeStates, readStates, stepEdges, stepMoves, premiseIn, Finds}
 
@@ -43,7 +43,7 @@ module _ (x : Result) (S : ℕ) (j : Joins) where
 -- ---- by the operation
 
 -- the operation chooses no edge and no move
-pub finds-plain : (A : Automaton) {op op′ : Operation} {o : Option Step} {r : PremiseFound} (es ms : List ℕ) → op ≡ op′
+pub finds-plain : (A : Automaton) {op op′ : Operation} {o : Option Step} {r : Premise} (es ms : List ℕ) → op ≡ op′
     → ((s : Step) (ws : List ℕ) → stepEdges A op′ s ws ≡ ws) → ((s : Step) (ws : List ℕ) → stepMoves A op′ s ws ≡ ws)
     → premiseIn r ≡ Option·map (λ s. firstOrZero (s .premise)) o → Finds A op o r es es ms ms
 finds-plain A {op} {op′} {o} {r} es ms e f g h =
@@ -56,13 +56,13 @@ module _ (z : Table) (inner entries moves : List ℕ) (a : ℕ) (x : Result) (p�
   A = automatonOf z inner entries moves
 
   -- the search for a move
-  step-move : {op op′ : Operation} (b : ℕ) {r : PremiseFound} {es₀ es ms₀ ms : List ℕ} → op ≡ op′ → firstStep A a x op′ p′ ≡ firstMove A a x op′ p′ b
+  step-move : {op op′ : Operation} (b : ℕ) {r : Premise} {es₀ es ms₀ ms : List ℕ} → op ≡ op′ → firstStep A a x op′ p′ ≡ firstMove A a x op′ p′ b
       → Finds A op′ (firstMove A a x op′ p′ b) r es₀ es ms₀ ms → Finds A op (firstStep A a x op p′) r es₀ es ms₀ ms
   step-move {op} {op′} b {r} {es₀} {es} {ms₀} {ms} e f h =
       subst (λ (q : Operation). Finds A q (firstStep A a x q p′) r es₀ es ms₀ ms) (sym e)
       (subst (λ (o : Option Step). Finds A op′ o r es₀ es ms₀ ms) (sym f) h)
 
-  module _ {op : Operation} {r : PremiseFound} {es₀ es ms₀ ms : List ℕ} where
+  module _ {op : Operation} {r : Premise} {es₀ es ms₀ ms : List ℕ} where
     pub step-rewrite : {b : ℕ} → op ≡ rewrite b → Finds A (rewrite b) (firstMove A a x (rewrite b) p′ b) r es₀ es ms₀ ms → Finds A op (firstStep A a x op p′) r es₀ es ms₀ ms
     unfolding firstStep
     step-rewrite {b} e h = step-move b e refl h
@@ -84,7 +84,7 @@ module _ (z : Table) (inner entries moves : List ℕ) (a : ℕ) (x : Result) (p�
   unfolding firstEntry controlEntries byEntry entrySet entryAt
   entries-only c = refl
 
-  module _ {op : Operation} {r : PremiseFound} (es ms : List ℕ) where
+  module _ {op : Operation} {r : Premise} (es ms : List ℕ) where
     pub step-pop1 : op ≡ pop1 → premiseIn r ≡ Option·map (λ s. firstOrZero (s .premise)) (firstEntry (tableOf z entries []) x (entryJoins false) p′)
         → Finds A op (firstStep A a x op p′) r es es ms ms
     unfolding firstStep stepEdges stepMoves writesEdges writesMoves edgeStates readStates writtenAll
@@ -120,7 +120,7 @@ module _ (A : Automaton) (x : Result) (ρ : Rule) where
   unfolding byRule
   rule-symbol e h = onlyIf-no _ _ (ap₂ _&&_ (eq-eqb (ρ .control) (x .control) e) (ne-eqb (ρ .symbol) (x .symbol) h))
 
-  pub rule-step : {r : PremiseFound} {es₀ es ms₀ ms : List ℕ} → ρ .control ≡ x .control → ρ .symbol ≡ x .symbol
+  pub rule-step : {r : Premise} {es₀ es ms₀ ms : List ℕ} → ρ .control ≡ x .control → ρ .symbol ≡ x .symbol
       → Finds A (ρ .operation) (firstStep A (ρ .symbol) x (ρ .operation) (ρ .next)) r es₀ es ms₀ ms → Finds A (ρ .operation) (byRule A x ρ) r es₀ es ms₀ ms
   unfolding byRule
   rule-step {r} {es₀} {es} {ms₀} {ms} e f h =

@@ -17,7 +17,7 @@ use Rattle.tables.specs.Rows.Laws.{length-rowsIn, getD-rowsIn, rowsIn-list}
 use Rattle.tables.specs.Layouts.{moveRow, entryRow, edgeRow}
 use Rattle.tables.specs.Held.{automatonOf, tableOf, entryFor}
 use Rattle.first_reading.specs.Words.{TablesWithin}
-use Rattle.saturation.specs.Running.{theSize}
+use Rattle.saturation.specs.Sizes.{theSize}
 use Rattle.saturation.specs.Layout.{sizeRow}
 use Rattle.guided_step.specs.Earlier.{tableUpTo}
 

@@ -23,14 +23,14 @@ use Rattle.tables.specs.Rows.Laws.{length-firstOf, getD-firstOf}
 use Rattle.tables.specs.Layouts.{moveRow}
 use Rattle.tables.specs.Held.{automatonOf, tableOf}
 use Rattle.results.specs.Collecting.{ruleIn, rulesIn}
-use Rattle.saturation.specs.Running.{theSize}
+use Rattle.saturation.specs.Sizes.{theSize}
 use Rattle.saturation.specs.Layout.{sizeRow}
 use Rattle.first_reading.specs.Words.{TablesWithin}
 use Rattle.first_derivation.specs.declared.First.{First}
 use Rattle.first_derivation.specs.declared.First.the-variants.{Missing, Found}
 use Rattle.first_derivation.specs.Premises.{edgeStates, readStates}
 use Rattle.first_derivation.specs.Derived.{operationBy, FindsFirst, StatesSmall}
-use Rattle.first_derivation.specs.Derived.Choices.{byState, Blank, blank-zeros, missing-none, found-some, edges-chosen, moves-chosen}
+use Rattle.first_derivation.specs.Derived.Choices.{byState, Blank, blank-zeros, missing-none, found-some, edges-chosen, moves-chosen, operation-is}
 use Rattle.cell_steps.specs.declared.Top.{Top}
 use Rattle.guided_step.specs.declared.Next.{Next}
 use Rattle.guided_step.specs.declared.Next.the-variants.{Arrived, Stuck, To}
@@ -43,7 +43,6 @@ use Rattle.guided_step.specs.Earlier.{tableUpTo}
 use Rattle.guided_step.specs.Earlier.Laws.{table-upTo, upTo-stands, result-table}
 use Rattle.guided_step.specs.Step.{saturatedIn, Small, Taken, Gives, AtTop, NextIs}
 use Rattle.guided_step.specs.Step.Chosen.{holds-kept, Sized, says-small}
-use Rattle.first_derivation.specs.Derived.Choices.{operation-is}
 
 -- ---- the table before a move's round
 

@@ -10,13 +10,12 @@ use lib.ListN.{length, getD}
 use lib.Dec.{eqb}
 use Rattle.words.specs.Sets.Laws.{ext-all}
 use Rattle.words.specs.Lists.{places}
-use Rattle.stacks.specs.Stack.{Stack1, cons1, Stack2, cons2, Annotation, of1, of2}
+use Rattle.stacks.specs.Stack.{Stack1, cons1, Stack2, cons2, Annotation, of1, of2, annotationOrder}
 use Rattle.automata.specs.Automaton.{Automaton, Move, Edge, noMove, noEdge, edges, moveAt, edgeAt, movesOf, edgesOf}
 use Rattle.automata.specs.Acceptance.{accepts1, accepts2, moveFits, edgeFits}
 use Rattle.walks.specs.Cell.{Cell, empty1, symbol, empty2, above, stacks, stackAt, stackOf, order1, order2}
 use Rattle.walks.specs.Cell.Formed.{Formed, Refers, cellAt, orderAt}
 use Rattle.walks.specs.Cell.Laws.{annotation-of1, annotation-of2, stack-at, stack-order}
-use Rattle.stacks.specs.Stack.{annotationOrder}
 use Rattle.walks.specs.Guide.{Guided, leastChoice}
 use Rattle.tables.specs.declared.Table.{Table}
 use Rattle.tables.specs.Rows.{rowsIn}

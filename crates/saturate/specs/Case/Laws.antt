@@ -10,7 +10,7 @@ use native.Mathlib.Omega.{arith}
 use lib.ListN.{length, getD, length-map, List·getD-map}
 use lib.Dec.{leb, ltb}
 use borrow.Author.Tests.{not-false, leb-true, leb-false}
-use Rattle.words.specs.Lists.{only, every}
+use Rattle.words.specs.Lists.{only, every, zeros}
 use Rattle.words.specs.Lists.Laws.{getD-in, only-yes, only-no}
 use Rattle.words.specs.Tests.{by-test}
 use Rattle.words.specs.Order.{insert, sorted}
@@ -26,7 +26,6 @@ use Rattle.files.specs.Case.Laws.{CasePlaces, case-placed, case-head, case-rule
 use Rattle.bytes_in.specs.Records.{recordAt, bodyOf}
 use Rattle.bytes_in.specs.Records.Laws.{body-fits, records-here}
 use Rattle.services.specs.Memory.{lent}
-use Rattle.words.specs.Lists.{zeros}
 use Rattle.tables.specs.declared.Table.{Table}
 use Rattle.tables.specs.Rows.{Layout, rowAt, rowsIn, putRow}
 use Rattle.tables.specs.Rows.Laws.{firstOf-list, length-rowsIn, getD-rowsIn}

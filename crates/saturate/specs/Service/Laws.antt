@@ -7,14 +7,13 @@ use mathlib.Core.Option.{none, some}
 use mathlib.Core.List.{List}
 use lib.ListN.{length}
 use borrow.Author.Tests.{ne-eqb}
-use Rattle.words.specs.Lists.{every}
+use Rattle.words.specs.Lists.{every, zeros}
 use Rattle.automata.specs.Saturation.{Size, Saturated, saturate}
 use Rattle.files.specs.Bytes.{firstHit, testsOn}
 use Rattle.files.specs.Bytes.Laws.{numbered, firstHit-past, firstHit-stays, firstHit-testsOn, numbered-testsOn}
 use Rattle.files.specs.Case.{caseTests, caseRefusal, rulesOf, ownOf}
 use Rattle.replies.specs.declared.Saturation.{Saturation}
 use Rattle.services.specs.Memory.{padded, moveTable, entryTable, lent}
-use Rattle.words.specs.Lists.{zeros}
 use Rattle.services.specs.Saturate.{Lent, saturated, tooLarge, sizeTests, saturateRefusal, saturateRefused, saturateFilled, saturateAnswer, saturateService}
 use Rattle.tables.specs.declared.Table.{Table}
 use Rattle.tables.specs.Rows.{rowsIn}

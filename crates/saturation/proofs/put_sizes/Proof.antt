@@ -3,7 +3,7 @@
 use native.Mathlib.Omega.{arith}
 use native.Mathlib.Numerals.{towards-suc}
 use lib.ListN.{length-set}
-use Rattle.saturation.specs.Running.{sizeWords}
+use Rattle.saturation.specs.Sizes.{sizeWords}
 use borrow.Author.Needs.{needs}
 use Rattle.saturation.proofs.put_sizes.Statement.{statement}
 use Rattle.saturation.proofs.put_sizes.Tie as tie

@@ -268,7 +268,7 @@ module _ (z : Table) (most : ℕ) (entries moves : List ℕ) (n : ℕ) (pending 
       let a : most * 2 ≤ length entries = g .entries-lent in
       let b : length e₁ ≡ length entries = h .grows .entries-long in
       let c : z .inner1 + most ≤ 64 = g .states-few in
-      let d : z₁ .states ≡ z .inner1 = h .grows .same-states in
+      let d : z₁ .inner1 ≡ z .inner1 = h .grows .same-states in
       record { entries-few = h .few; entries-lent = omega arith; states-few = omega arith }
 
   pub still-room : i < n → (z .moves + n) * 5 ≤ length moves → z₁ .moves * 5 + 5 ≤ length m₁

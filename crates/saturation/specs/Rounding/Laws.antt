@@ -105,7 +105,7 @@ module _ (rules : List Rule) (inner : List ℕ) where
         grown-standing fits z′ entries′ moves′ b e m =
             let g : Grows z entries moves (newResults rules (automatonOf z inner entries moves)) z′ entries′ moves′ = b .grows e in
             let more : z′ .moves ≡ z .moves + length (newResults rules (automatonOf z inner entries moves)) = g .moves-more in
-            let states : z′ .states ≡ z .inner1 = g .same-states in
+            let states : z′ .inner1 ≡ z .inner1 = g .same-states in
             let edges : z′ .edges ≡ z .edges = g .same-edges in
             let el : length entries′ ≡ length entries = g .entries-long in
             let ml : length moves′ ≡ length moves = g .moves-long in

@@ -25,24 +25,9 @@ use Rattle.results.specs.Collecting.{newResults}
 use Rattle.saturation.specs.Adding.{Grows}
 use Rattle.saturation.specs.Rounding.{Standing, Rounded}
 use Rattle.saturation.specs.Rounding.Laws.{round-is}
-use Rattle.saturation.specs.Running.{mostMoves, mostEntries, theSize, Given, ended, Ends, RunsRounds}
+use Rattle.saturation.specs.Running.{mostMoves, mostEntries, Given, ended, Ends, RunsRounds}
+use Rattle.saturation.specs.Sizes.{theSize}
 use Rattle.saturation.specs.Layout.{sizeRow}
-use Prim.Native.Nat.{ℕ, _-_, _/_, _≤_, _<_, min}
-use mathlib.Core.Bool.{Bool, true, false}
-use mathlib.Core.Path.{_≡_, refl}
-use mathlib.Core.Option.{none, some}
-use mathlib.Core.List.{List, [], _∷_}
-use native.Mathlib.Omega.{arith}
-use lib.ListN.{length, getD}
-use Rattle.stacks.specs.System.{Rule}
-use Rattle.automata.specs.Automaton.{Automaton}
-use Rattle.automata.specs.Saturation.{Size, saturate, saturateFrom}
-use Rattle.services.specs.Memory.{lent}
-use Rattle.tables.specs.declared.Table.{Table}
-use Rattle.tables.specs.Rows.{firstOf, rowsIn}
-use Rattle.tables.specs.Layouts.{entryRow, moveRow}
-use Rattle.tables.specs.Held.{automatonOf}
-use Rattle.saturation.specs.Rounding.{Standing}
 
 -- ---- limits
 
@@ -118,8 +103,8 @@ module _ (rules : List Rule) (inner : List ℕ) (z : Table) (entries moves : Lis
 
     states-small : z .inner1 ≤ 64
     states-small =
-        let a : z₁ .states + mostEntries (length entries) (z .inner1) ≤ 64 = h .standing .growing .states-few in
-        let b : z₁ .states ≡ z .inner1 = h .same-states in
+        let a : z₁ .inner1 + mostEntries (length entries) (z .inner1) ≤ 64 = h .standing .growing .states-few in
+        let b : z₁ .inner1 ≡ z .inner1 = h .same-states in
         omega arith
 
     now-within : within limit now ≡ true
@@ -253,18 +238,3 @@ unfolding mostMoves
 pending-room m most pending e h =
     let a : min (m / 5) 1024 ≤ 1024 = min-le-right (m / 5) 1024 in
     omega arith
-
-pub size-length : (x : Size) → length (sizeWords x) ≡ 2
-unfolding sizeWords
-size-length x = refl
-
-pub size-words : (f : ℕ → ℕ) → sizeWords (sizeFrom f) ≡ firstOf 2 f
-unfolding sizeWords firstOf
-size-words f = refl
-
-pub size-back : (x : Size) → sizeFrom (λ j. getD (sizeWords x) j 0) ≡ x
-unfolding sizeWords
-size-back x = refl
-
-pub size-same : (f g : ℕ → ℕ) → ((j : ℕ) → j < 2 → f j ≡ g j) → sizeFrom f ≡ sizeFrom g
-size-same f g h = λ i. record { moves = h 0 (omega arith) i; entries = h 1 (omega arith) i }

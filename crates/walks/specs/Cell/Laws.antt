@@ -11,9 +11,8 @@ use Rattle.stacks.specs.Stack.{Stack1, nil1, cons1, Stack2, nil2, cons2, Annota
 use Rattle.stacks.specs.Stack.{Operation, rewrite, push1, push2, copy, pop1, pop2, collapse1, collapse2}
 use Rattle.walks.specs.Cell.{Cell, empty1, symbol, empty2, above, order1, order2, stackAt, stackOf, stacksFrom, stacks, cellsAfter, rootAfter}
 use Rattle.walks.specs.Cell.Formed.{cellOrder, cellAt, orderAt, Formed}
-use Rattle.walks.specs.Cell.Values.{pass}
+use Rattle.walks.specs.Cell.Values.{pass, HasValue, makeFrom, rootValue, root-stands}
 use Rattle.walks.specs.Cell.Values.{pass-same, Valuation, valueAt, valueBy, valueOf, values, length-values, value-kept, value-before, value-at}
-use Rattle.walks.specs.Cell.Values.{HasValue, makeFrom, rootValue, root-stands}
 
 -- ---- the stacks of cells are values of cells
 
