@@ -28,4 +28,5 @@ pub mod search;
 pub mod services;
 pub mod sets;
 pub mod stack;
+pub mod start_file;
 pub mod table;

@@ -2,10 +2,11 @@
 //! halts").
 
 use crate::automaton::accepting;
-use crate::file::{Case, Refusal, StartFile, decode_case, decode_start};
+use crate::file::{Case, Refusal, StartFile, decode_case};
 use crate::guide::Walk;
 use crate::saturation::saturate as saturated_table;
 use crate::sets::has;
+use crate::start_file::decode_start;
 use crate::table::{Size, Table};
 
 /// Words of a move and of an entry in lent tables.

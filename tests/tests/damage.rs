@@ -5,12 +5,13 @@ use second::damage::{
     bodies_swapped, changed, counts_off_by_one, cuts, lines_swapped, longer, offsets_off_by_one,
 };
 use second::encode::{encode_case, encode_start};
-use second::file::{decode_case, decode_start};
+use second::file::decode_case;
 use second::generate::{Pair, SHAPES, pair};
 use second::lent::Lent;
 use second::random::seeds;
 use second::services::GuideReply::{Arrived, NoRun, Refused};
 use second::services::listing;
+use second::start_file::decode_start;
 
 /// The replies of the three services: saturate, judge, and guide for start 0,
 /// where a reply that is no refusal counts as 0.

@@ -3,7 +3,7 @@
 //! trace words.
 
 use second::automaton::{accepting, accepts};
-use second::file::{decode_case, decode_start};
+use second::file::decode_case;
 use second::generate::Pair;
 use second::lent::Lent;
 use second::pairs::{Searched, pairs};
@@ -11,6 +11,7 @@ use second::search::{Bounds, Outcome, search};
 use second::services::GuideReply::{Arrived, CellsShort, NoRun, Refused};
 use second::services::{LISTING_ENTRIES, LISTING_MOVES, MOST_CELLS};
 use second::sets::has;
+use second::start_file::decode_start;
 use second::table::Table;
 
 /// Memory with all cells that count and a long trace.

@@ -2,12 +2,13 @@
 
 use second::automaton::accepts;
 use second::data::{Vector, bytes, larger_files, vectors};
-use second::file::{decode_case, decode_start};
+use second::file::decode_case;
 use second::lent::Lent;
 use second::saturation::saturate;
 use second::services::GuideReply::{Arrived, CellsShort};
 use second::services::{LISTING_ENTRIES, LISTING_MOVES, MOST_CELLS, listing, listing_answer};
 use second::stack::{configuration, replay};
+use second::start_file::decode_start;
 use second::table::{Size, Table};
 
 #[test]
