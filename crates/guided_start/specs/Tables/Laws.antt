@@ -17,7 +17,7 @@ use Rattle.sound_files.specs.Saturated.Laws.{table-stands}
 use Rattle.guided_start.specs.Tables.{TablesStand}
 
 pub reading-stands : {z : Table} {inner entries moves sizes : List ℕ} {k : ℕ} → TablesStand z inner entries moves k sizes
-    → reading.TablesNamed z inner entries moves
+    → reading.TablesWithin z inner entries moves
 reading-stands t =
     let s = t .stands in
     record {
