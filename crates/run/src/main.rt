@@ -4,7 +4,7 @@
 fn main() {
     let mut argument = [0u8; 4096];
     let n = os::arg(1, &mut argument);
-    let number = run_text::number_named(&argument[..n]);
+    let number = number_text::number_named(&argument[..n]);
     let all = printing::print_run(b"case.bin", b"start.bin", number);
     printing::mark_written(all);
 }

@@ -1,4 +1,2 @@
-pub mod Numbers
 pub mod Bounds
-pub mod Named
 pub mod Answers

@@ -12,7 +12,6 @@ use Rattle.tables.specs.declared.Table.{Table}
 use Rattle.saturation.specs.Running.{mostMoves}
 use Rattle.saturate.specs.Case.{CaseSaturated}
 use Rattle.first_reading.specs.Words as reading
-use Rattle.acceptance.specs.Named.{TablesNamed}
 use Rattle.sound_files.specs.Saturated.Laws.{table-stands}
 use Rattle.guided_start.specs.Tables.{TablesStand}
 

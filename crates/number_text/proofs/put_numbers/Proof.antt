@@ -1,11 +1,11 @@
--- `run_text::put_numbers` meets its contract.
+-- `number_text::put_numbers` meets its contract.
 -- Assumes nothing.
 use native.Mathlib.Omega.{arith}
 use borrow.Author.Needs.{needs}
 use Rattle.text.specs.Written.Laws.{written-then, written-same}
-use Rattle.run_text.specs.Numbers.Laws.{five-digits, others-count, no-numbers, some-numbers}
-use Rattle.run_text.proofs.put_numbers.Statement.{statement}
-use Rattle.run_text.proofs.put_numbers.Tie as tie
+use Rattle.number_text.specs.Numbers.Laws.{five-digits, others-count, no-numbers, some-numbers}
+use Rattle.number_text.proofs.put_numbers.Statement.{statement}
+use Rattle.number_text.proofs.put_numbers.Tie as tie
 
 returns : tie.Need-returns
 returns c = no-numbers _ _ _ (search needs)

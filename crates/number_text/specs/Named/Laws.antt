@@ -15,7 +15,7 @@ use Rattle.words.specs.Lists.Laws.{length-zero}
 use Rattle.services.specs.Listing.{decimal}
 use Rattle.text.specs.Laws.Decimal.{decimal-one, decimal-more, length-more}
 use Rattle.services.specs.Run.{noStart, withDigit, numberNamed}
-use Rattle.run_text.specs.Named.{ReadTo}
+use Rattle.number_text.specs.Named.{ReadTo}
 
 -- ---- one byte more
 

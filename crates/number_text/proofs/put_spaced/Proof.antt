@@ -1,14 +1,14 @@
--- `run_text::put_spaced` meets its contract.
+-- `number_text::put_spaced` meets its contract.
 -- Assumes nothing.
 use Prim.Native.Nat.{_-_}
 use native.Mathlib.Omega.{arith}
 use lib.ListN.{length}
 use borrow.Author.Needs.{needs}
 use Rattle.services.specs.Listing.{ascii}
-use Rattle.run_text.specs.Numbers.{Spaced}
-use Rattle.run_text.specs.Numbers.Laws.{spaced-none, spaced-next, spaced-all}
-use Rattle.run_text.proofs.put_spaced.Statement.{statement}
-use Rattle.run_text.proofs.put_spaced.Tie as tie
+use Rattle.number_text.specs.Numbers.{Spaced}
+use Rattle.number_text.specs.Numbers.Laws.{spaced-none, spaced-next, spaced-all}
+use Rattle.number_text.proofs.put_spaced.Statement.{statement}
+use Rattle.number_text.proofs.put_spaced.Tie as tie
 
 abbrev Inv-loop : tie.InvT-loop
 Inv-loop out₀ at numbers end₀ i₀ t7 out end i = Spaced out₀ at numbers i out end

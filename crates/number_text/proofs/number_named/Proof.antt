@@ -1,12 +1,12 @@
--- `run_text::number_named` meets its contract.
+-- `number_text::number_named` meets its contract.
 -- Assumes nothing.
 use Prim.Native.Nat.{_-_}
 use lib.ListN.{length}
 use borrow.Author.Needs.{needs}
-use Rattle.run_text.specs.Named.{ReadTo}
-use Rattle.run_text.specs.Named.Laws.{read-none, read-next, read-all, named-none}
-use Rattle.run_text.proofs.number_named.Statement.{statement}
-use Rattle.run_text.proofs.number_named.Tie as tie
+use Rattle.number_text.specs.Named.{ReadTo}
+use Rattle.number_text.specs.Named.Laws.{read-none, read-next, read-all, named-none}
+use Rattle.number_text.proofs.number_named.Statement.{statement}
+use Rattle.number_text.proofs.number_named.Tie as tie
 
 abbrev Inv-loop : tie.InvT-loop
 Inv-loop argument n₀ read₀ n read = ReadTo argument read n

@@ -1,11 +1,11 @@
--- `run_text::with_digit` meets its contract.
+-- `number_text::with_digit` meets its contract.
 -- Assumes nothing.
 use mathlib.Core.Path.{sym}
 use native.Mathlib.Omega.{arith}
 use borrow.Author.Needs.{needs}
-use Rattle.run_text.specs.Named.Laws.{below-digits, above-digits, digit-small, digit-large}
-use Rattle.run_text.proofs.with_digit.Statement.{statement}
-use Rattle.run_text.proofs.with_digit.Tie as tie
+use Rattle.number_text.specs.Named.Laws.{below-digits, above-digits, digit-small, digit-large}
+use Rattle.number_text.proofs.with_digit.Statement.{statement}
+use Rattle.number_text.proofs.with_digit.Tie as tie
 
 returns : tie.Need-returns
 returns c = (sym (below-digits _ _ (search needs)), omega arith)

@@ -15,7 +15,7 @@ use Rattle.text.specs.Laws.Decimal.{decimal-length}
 use Rattle.text.specs.Written.{Written}
 use Rattle.text.specs.Written.Laws.{written-then, written-same, written-length}
 use Rattle.services.specs.Run.{spacedNumbers, numbersText}
-use Rattle.run_text.specs.Numbers.{Spaced}
+use Rattle.number_text.specs.Numbers.{Spaced}
 
 -- a word of 16 bits has at most five digits
 pub five-digits : {n : ℕ} {before after : List ℕ} {at end : ℕ} → Written before at (decimal n) after end → n < 65536 → end ≤ at + 5
