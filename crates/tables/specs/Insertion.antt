@@ -38,7 +38,7 @@ unfoldable pub leading : List ℕ → List (List ℕ) → ℕ
 leading x [] = 0
 leading x (y ∷ ys) = elim (less y x) [ true ↦ suc (leading x ys) | false ↦ 0 ]
 
--- the row after those is x: it does not come after x
+-- the row after those is there, and x does not come before it: it is x
 unfoldable pub reached : List ℕ → List (List ℕ) → Bool
 reached x [] = false
 reached x (y ∷ ys) = elim (less y x) [ true ↦ reached x ys | false ↦ not (less x y) ]

@@ -25,13 +25,20 @@ loop-holds : tie.Need-loop-holds Inv-loop μ-loop
 loop-holds c = (search needs, below-none _)
 
 row-words-requires : tie.Need-row-words-requires Inv-loop μ-loop
-row-words-requires c κs = row-fits (c .before .before .before .before .args .x .now) (c .before .before .before .before .args .t .now) _ _ (c .loop-test .taken) (c .before .before .before .before .pre)
+row-words-requires c κs =
+    let entry = c .before .before .before .before in
+    row-fits (entry .args .x .now) (entry .args .t .now) _ _ (c .loop-test .taken) (entry .pre)
 
 words-before-requires : tie.Need-words-before-requires Inv-loop μ-loop
-words-before-requires c κs = ap length (c .row-words .ensures) ∙ length-row (c .before .before .before .before .before .args .x .now) (c .before .before .before .before .before .args .t .now) _ _ (c .before .loop-test .taken) (c .before .before .before .before .before .pre)
+words-before-requires c κs =
+    let entry = c .before .before .before .before .before in
+    ap length (c .row-words .ensures) ∙ length-row (entry .args .x .now) (entry .args .t .now) _ _ (c .before .loop-test .taken) (entry .pre)
 
 returns : tie.Need-returns Inv-loop μ-loop
-returns c = placed-at _ _ _ _ (c .before .before .before .before .loop .inv .0) (c .before .before .before .before .loop .inv .1) (λ h. sym (ap (λ (y : List ℕ). less y (c .before .before .before .before .before .before .before .args .x .now)) (c .before .before .row-words .ensures)) ∙ sym (c .before .words-before .ensures) ∙ not-true _ (c .if1 .taken))
+returns c =
+    let compared = sym (ap (λ (y : List ℕ). less y (c .before .before .before .before .before .before .before .args .x .now)) (c .before .before .row-words .ensures)) ∙ sym (c .before .words-before .ensures) in
+    let inv = c .before .before .before .before .loop .inv in
+    placed-at _ _ _ _ (inv .0) (inv .1) (λ h. compared ∙ not-true _ (c .if1 .taken))
 
 add-i : tie.Need-add-i Inv-loop μ-loop
 add-i c = search needs
@@ -40,7 +47,9 @@ loop-less : tie.Need-loop-less Inv-loop μ-loop
 loop-less c = search needs
 
 loop-again : tie.Need-loop-again Inv-loop μ-loop
-loop-again c = (search needs, below-more _ _ (c .before .before .before .before .loop .inv .1) (sym (ap (λ (y : List ℕ). less y (c .before .before .before .before .before .before .before .args .x .now)) (c .before .before .row-words .ensures)) ∙ sym (c .before .words-before .ensures) ∙ not-false _ (c .if1 .left)))
+loop-again c =
+    let compared = sym (ap (λ (y : List ℕ). less y (c .before .before .before .before .before .before .before .args .x .now)) (c .before .before .row-words .ensures)) ∙ sym (c .before .words-before .ensures) in
+    (search needs, below-more _ _ (c .before .before .before .before .loop .inv .1) (compared ∙ not-false _ (c .if1 .left)))
 
 returns-2 : tie.Need-returns-2 Inv-loop μ-loop
 returns-2 c = placed-at _ _ _ _ (search needs) (λ j h. c .before .loop .inv .1 j (omega arith)) (λ h. absurd (omega arith))

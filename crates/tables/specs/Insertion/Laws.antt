@@ -22,7 +22,7 @@ use Rattle.tables.specs.Insertion.{rowWords, wordRows, withRow, inserted
 -- ---- the place of a row among others
 
 module _ (x : List ℕ) where
-  pub leading-at : (l : List (List ℕ)) (i : ℕ) → i ≤ length l → ((j : ℕ) → j < i → less (getD l j []) x ≡ true)
+  leading-at : (l : List (List ℕ)) (i : ℕ) → i ≤ length l → ((j : ℕ) → j < i → less (getD l j []) x ≡ true)
       → (i < length l → less (getD l i []) x ≡ false) → i ≡ leading x l
   unfolding leading
   leading-at [] i h b a = omega arith
@@ -30,7 +30,7 @@ module _ (x : List ℕ) where
   leading-at (y ∷ ys) (suc i) h b a =
       rw (leading, b 0 (omega arith)) (ap suc (leading-at ys i (omega arith) (λ j l. b (suc j) (omega arith)) (λ l. a (omega arith))))
 
-  pub leading-within : (l : List (List ℕ)) → leading x l ≤ length l
+  leading-within : (l : List (List ℕ)) → leading x l ≤ length l
   unfolding leading
   leading-within [] = omega arith
   leading-within (y ∷ ys) =
@@ -38,14 +38,14 @@ module _ (x : List ℕ) where
       by-test (less y x) (λ e. rw (leading, e) (omega arith)) (λ e. rw (leading, e) (omega arith))
 
   -- there is no row after those that come before x
-  pub reached-not : (l : List (List ℕ)) → length l ≤ leading x l → false ≡ reached x l
+  reached-not : (l : List (List ℕ)) → length l ≤ leading x l → false ≡ reached x l
   unfolding leading reached
   reached-not [] h = refl
   reached-not (y ∷ ys) h =
       by-test (less y x) (λ e. rw (reached, e) (reached-not ys (let k : suc (length ys) ≤ suc (leading x ys) = rw (leading, e) at h in omega arith)))
       (λ e. absurd (let k : suc (length ys) ≤ 0 = rw (leading, e) at h in omega arith))
 
-  pub reached-row : (l : List (List ℕ)) → leading x l < length l → not (less x (getD l (leading x l) [])) ≡ reached x l
+  reached-row : (l : List (List ℕ)) → leading x l < length l → not (less x (getD l (leading x l) [])) ≡ reached x l
   unfolding leading reached
   reached-row [] h = absurd (omega arith)
   reached-row (y ∷ ys) h =
@@ -53,7 +53,7 @@ module _ (x : List ℕ) where
       (λ e. rw (leading, reached, e) (reached-row ys (let k : suc (leading x ys) < suc (length ys) = rw (leading, e) at h in omega arith)))
       (λ e. rw (leading, reached, e))
 
-  pub insert-reached : (l : List (List ℕ)) → reached x l ≡ true → insert (λ k. k) x l ≡ l
+  insert-reached : (l : List (List ℕ)) → reached x l ≡ true → insert (λ k. k) x l ≡ l
   unfolding reached
   insert-reached [] h = absurd (false≢true h)
   insert-reached (y ∷ ys) h =
@@ -61,7 +61,7 @@ module _ (x : List ℕ) where
       (λ e. insert-after (λ k. k) x y ys e ∙ ap (λ (l : List (List ℕ)). y ∷ l) (insert-reached ys (rw (reached, e) at h)))
       (λ e. insert-held (λ k. k) x y ys (less-neither x y (not-true (less x y) (rw (reached, e) at h)) e))
 
-  pub insert-placed : (l : List (List ℕ)) → reached x l ≡ false → insert (λ k. k) x l ≡ take (leading x l) l ++ x ∷ drop (leading x l) l
+  insert-placed : (l : List (List ℕ)) → reached x l ≡ false → insert (λ k. k) x l ≡ take (leading x l) l ++ x ∷ drop (leading x l) l
   unfolding reached leading insert
   insert-placed [] h = refl
   insert-placed (y ∷ ys) h =
@@ -78,11 +78,11 @@ length-with x (y ∷ ys) (suc i) = ap suc (length-with x ys i)
 -- ---- the first rows of a table, and their words
 
 module _ (w : ℕ) (t : List ℕ) where
-  pub length-wordRows : (n : ℕ) → length (wordRows w n t) ≡ n
+  length-wordRows : (n : ℕ) → length (wordRows w n t) ≡ n
   unfolding wordRows
   length-wordRows n = length-firstOf n (rowWords w t)
 
-  pub getD-wordRows : (n i : ℕ) → i < n → getD (wordRows w n t) i [] ≡ rowWords w t i
+  getD-wordRows : (n i : ℕ) → i < n → getD (wordRows w n t) i [] ≡ rowWords w t i
   unfolding wordRows
   getD-wordRows n i h = getD-firstOf n (rowWords w t) i [] h
 
