@@ -10,7 +10,7 @@ use Rattle.tables.specs.declared.Table.{Table}
 use Rattle.tables.specs.Held.{automatonOf}
 
 -- what is asked of an automaton whose acceptance is worked out in words of 64 bits
-pub record Small (A : Automaton) : Type 0 where
+pub record AutomatonSmall (A : Automaton) : Type 0 where
   pub states-few : A .J + length (A .entries) ≤ 64
   pub inner-small : (e : Edge) → List·Memᴰ e (A .inner) → (e .state < 64) × (e .first < 64)
   pub controls-small : (e : Entry) → List·Memᴰ e (A .entries) → e .control < 64

@@ -19,7 +19,7 @@ use tables::Edge;
 use tables::Move;
 use tables::Table;
 
-// Whether an annotation of order k whose accepting states are `note` is as a move of this order and annotation set b asks.
+// Whether an annotation of order k whose accepting states are `annotation` is as a move of this order and annotation set b asks.
 fn annotation_met(k: u64, annotation: u64, order: u64, b: u64) -> bool
     ensures { λ r. ⌜ r ≡ annotationMet k annotation order b ⌝ }
 {
@@ -38,7 +38,7 @@ fn annotation_met(k: u64, annotation: u64, order: u64, b: u64) -> bool
     sets::part_of(b, annotation)
 }
 
-// Whether a move reads symbol a, where the annotation is of order k and accepted by `note`, and the rest is accepted by `rest`.
+// Whether a move reads symbol a, where the annotation is of order k and accepted by `annotation`, and the rest is accepted by `rest`.
 pub fn move_met(m: Move, a: u64, k: u64, annotation: u64, rest: u64) -> bool
     ensures { λ r. ⌜ r ≡ moveMet a k annotation rest (asMove m) ⌝ }
 {
@@ -73,7 +73,7 @@ fn with_state(met: bool, state: u64, word: u64) -> u64
     word
 }
 
-// The order-1 states that accept symbol a annotated by a stack of order k that the states `note` accept, on a rest that the states `rest`
+// The order-1 states that accept symbol a annotated by a stack of order k that the states `annotation` accept, on a rest that the states `rest`
 // accept.
 fn symbol_word(z: Table, moves: &[u64], a: u64, k: u64, annotation: u64, rest: u64) -> u64
     requires { ⌜ MovesNamed z (now moves) ⌝ }

@@ -41,6 +41,6 @@ unfoldable pub bodiesIn : List ℕ → List Body
 bodiesIn table = bodiesFrom (length table / 4) 0 table
 
 -- the bodies from line i on are placed, which says the same as that all n are
-abbrev pub From : List ℕ → List ℕ → ℕ → ℕ → ℕ → ℕ → Type 0
-From file table n first i offset =
+abbrev pub PlacedFrom : List ℕ → List ℕ → ℕ → ℕ → ℕ → ℕ → Type 0
+PlacedFrom file table n first i offset =
     bodiesPlaced file 0 first (bodiesFrom n 0 table) ≡ bodiesPlaced file i offset (bodiesFrom (n - i) i table)

@@ -33,15 +33,15 @@ unfoldable pub derivationMoves : Automaton → List Rule → Derivation → List
 derivationMoves A rules d ws = writtenAll (readStates A (operationBy rules (d .rule)) (firstOrZero (d .premise)) (d .edges)) (d .moves) ws
 
 -- the numbers of a rule and of a premise (0 where there is none)
-pub record Step : Type 0 where
+pub record StepNumbers : Type 0 where
   pub rule : ℕ
   pub premise : ℕ
 
-abbrev pub foundIn : First → Option Step
+abbrev pub foundIn : First → Option StepNumbers
 foundIn Missing = none
 foundIn (Found n i) = some (record { rule = n; premise = i })
 
-abbrev pub stepOf : Derivation → Step
+abbrev pub stepOf : Derivation → StepNumbers
 stepOf d = record { rule = d .rule; premise = firstOrZero (d .premise) }
 
 -- The search for the first derivation of x answers r, and writes what it chose.

@@ -22,7 +22,7 @@ use Rattle.first_reading.specs.Answer.{writtenAll, Answers}
 use Rattle.first_reading.specs.Search.{joinsKey, wanted, Numbers, onlyMoves, firstReading}
 use Rattle.first_derivation.specs.declared.Premise.{Premise}
 use Rattle.first_derivation.specs.declared.Premise.the-variants.{Nothing, By}
-use Rattle.first_derivation.specs.Search.{Step, withPremise, byMove, byEntry}
+use Rattle.first_derivation.specs.Search.{PremiseNumbers, withPremise, byMove, byEntry}
 
 -- a move of an entry with set S gives x by a rewrite
 unfoldable pub rewritten : ℕ → Move → Result → Bool
@@ -73,18 +73,18 @@ FindsDerivation A op i o t es₀ es ms₀ ms = Answers o (writesEdges A op i) (w
 -- ---- steps, which name their premise
 
 -- how the edges and the moves of a step by the operation are written
-unfoldable pub stepEdges : Automaton → Operation → Step → List ℕ → List ℕ
+unfoldable pub stepEdges : Automaton → Operation → PremiseNumbers → List ℕ → List ℕ
 stepEdges A op s ws = writesEdges A op (firstOrZero (s .premise)) (s .numbers) ws
 
-unfoldable pub stepMoves : Automaton → Operation → Step → List ℕ → List ℕ
+unfoldable pub stepMoves : Automaton → Operation → PremiseNumbers → List ℕ → List ℕ
 stepMoves A op s ws = writesMoves A op (firstOrZero (s .premise)) (s .numbers) ws
 
 -- what move i gives as the premise of a rule to control p′ that reads b
-unfoldable pub moveGives : Automaton → ℕ → Result → Operation → ℕ → ℕ → ℕ → Option Step
+unfoldable pub moveGives : Automaton → ℕ → Result → Operation → ℕ → ℕ → ℕ → Option PremiseNumbers
 moveGives A a x op p′ b i = onlyIf (eqb (moveAt A i .symbol) b && entryOf A p′ (moveAt A i .state)) (Option·map (withPremise i) (byMove A a x op i))
 
 -- what entry e gives as the premise of a rule to control p′
-unfoldable pub entryGives : Automaton → Result → (ℕ → Joins) → ℕ → ℕ → Option Step
+unfoldable pub entryGives : Automaton → Result → (ℕ → Joins) → ℕ → ℕ → Option PremiseNumbers
 entryGives A x joins p′ e = onlyIf (eqb (getD (A .entries) e noEntry .control) p′) (Option·map (withPremise e) (byEntry A x joins e))
 
 abbrev pub premiseIn : Premise → Option ℕ
@@ -92,6 +92,6 @@ premiseIn Nothing = none
 premiseIn (By i) = some i
 
 -- A search for a step by the operation answers r: the number of the step's premise, or nothing; and it writes what it chose.
-pub record Finds (A : Automaton) (op : Operation) (o : Option Step) (r : Premise) (es₀ es ms₀ ms : List ℕ) : Type 0 where
+pub record Finds (A : Automaton) (op : Operation) (o : Option PremiseNumbers) (r : Premise) (es₀ es ms₀ ms : List ℕ) : Type 0 where
   pub number : premiseIn r ≡ Option·map (λ s. firstOrZero (s .premise)) o
   pub written : Answers o (stepEdges A op) (stepMoves A op) (isSome (premiseIn r)) es₀ es ms₀ ms

@@ -16,19 +16,19 @@ use Rattle.first_reading.specs.First.{onlyIf, orElse, firstOf}
 use Rattle.first_reading.specs.Search.{joinsKey, wanted, Numbers, noNumbers, onlyMoves, firstReading, firstEdges}
 
 -- a derivation without its rule and its result
-pub record Step : Type 0 where
+pub record PremiseNumbers : Type 0 where
   pub premise : List ℕ
   pub numbers : Numbers
 
-abbrev pub withPremise : ℕ → Numbers → Step
+abbrev pub withPremise : ℕ → Numbers → PremiseNumbers
 withPremise i n = record { premise = i ∷ []; numbers = n }
 
 -- the derivation of x by rule n
-abbrev pub derived : ℕ → Result → Step → Derivation
+abbrev pub derived : ℕ → Result → PremiseNumbers → Derivation
 derived n x s = record { rule = n; premise = s .premise; edges = s .numbers .edges; moves = s .numbers .moves; result = x }
 
 -- no premise
-unfoldable pub byNone : Result → ℕ → Joins → Option Step
+unfoldable pub byNone : Result → ℕ → Joins → Option PremiseNumbers
 byNone x S j = onlyIf (eqb S (x .S)) (onlyIf (same (joinsKey j) (wanted x)) (some (record { premise = []; numbers = noNumbers })))
 
 -- the joins that an entry as the premise gives: by pop 1, and by collapse 1
@@ -42,7 +42,7 @@ module _ (A : Automaton) (x : Result) where
   byEntry joins e = onlyIf (eqb (entrySet A (A .J + e)) (x .S)) (onlyIf (same (joinsKey (joins (A .J + e))) (wanted x)) (some noNumbers))
 
   -- the first entry of p′ as a premise
-  unfoldable pub firstEntry : (ℕ → Joins) → ℕ → Option Step
+  unfoldable pub firstEntry : (ℕ → Joins) → ℕ → Option PremiseNumbers
   firstEntry joins p′ = firstOf (controlEntries A p′) (λ e. Option·map (withPremise e) (byEntry joins e))
 
 module _ (A : Automaton) (a : ℕ) (x : Result) where
@@ -63,11 +63,11 @@ module _ (A : Automaton) (a : ℕ) (x : Result) where
   byMove collapse2 i = none
 
   -- the first move on b of an entry of p′ as a premise
-  unfoldable pub firstMove : Operation → ℕ → ℕ → Option Step
+  unfoldable pub firstMove : Operation → ℕ → ℕ → Option PremiseNumbers
   firstMove op p′ b = firstOf (controlMoves A p′ b) (λ i. Option·map (withPremise i) (byMove op i))
 
   -- the first derivation of x by a rule on a with this operation, whose next control is p′
-  unfoldable pub firstStep : Operation → ℕ → Option Step
+  unfoldable pub firstStep : Operation → ℕ → Option PremiseNumbers
   firstStep (rewrite b) p′ = firstMove (rewrite b) p′ b
   firstStep (push1 b) p′ = firstMove (push1 b) p′ b
   firstStep (push2 b) p′ = firstMove (push2 b) p′ b
@@ -79,7 +79,7 @@ module _ (A : Automaton) (a : ℕ) (x : Result) where
 
 module _ (A : Automaton) (x : Result) where
   -- the first derivation of x by this rule: it goes to the rule's control and symbol
-  unfoldable pub byRule : Rule → Option Step
+  unfoldable pub byRule : Rule → Option PremiseNumbers
   byRule ρ = onlyIf (eqb (ρ .control) (x .control) && eqb (ρ .symbol) (x .symbol)) (firstStep A (ρ .symbol) x (ρ .operation) (ρ .next))
 
   -- the first derivation of x by these rules, the first of which has number n

@@ -29,7 +29,7 @@ abbrev pub saturatedIn : Table → List ℕ → List ℕ → List ℕ → ℕ �
 saturatedIn z inner entries moves k sizes = record { table = automatonOf z inner entries moves; sizes = rowsIn sizeRow k sizes }
 
 -- What is written into cells for premise p is small: the state that chooses it, its number, and the edge that the new root chooses.
-pub record Small (A : Automaton) (op : Operation) (p : ℕ) : Type 0 where
+pub record StepSmall (A : Automaton) (op : Operation) (p : ℕ) : Type 0 where
   pub state-small : topState A op p < 64
   pub premise-small : p < 1024
   pub edge-small : rootEdge A op p < 128
@@ -43,7 +43,7 @@ pub record Taken (rules : List Rule) (T : Saturated) (w : walks.Walk) (o : walks
   pub numbered : getElem? rules n ≡ some rule
   pub premise-is : p ≡ walks.firstOrZero (derivation .premise)
   pub holds : HoldsNumbers (T .table) derivation (rule .operation) es ms
-  pub small : Small (T .table) (rule .operation) p
+  pub small : StepSmall (T .table) (rule .operation) p
 
 -- what the answer says of the step o of a walk
 abbrev pub Gives : List Rule → Saturated → walks.Walk → walks.Next → Next → List ℕ → List ℕ → Type 0

@@ -75,17 +75,17 @@ StepAnswers most A op p′ n p x es ms w cells trace (On v) cells′ trace′ = 
 
 module _ (rules : List Rule) (T : Saturated) (most : ℕ) where
   -- what the guided run answers from here, the numbers of the steps taken being written
-  abbrev pub outcomeFrom : Walk → List ℕ → List ℕ → Report
-  outcomeFrom w cells trace = guided rules T most (length trace - w .steps) (take (w .steps) trace) (walkIn w cells)
+  abbrev pub reportFrom : Walk → List ℕ → List ℕ → Report
+  reportFrom w cells trace = guided rules T most (length trace - w .steps) (take (w .steps) trace) (walkIn w cells)
 
   -- The walk goes on to v, with the same report.
   pub record TurnFollows (w : Walk) (cells trace : List ℕ) (v : Walk) (cells′ trace′ : List ℕ) : Type 0 where
-    pub same-outcome : outcomeFrom w cells trace ≡ outcomeFrom v cells′ trace′
+    pub same-report : reportFrom w cells trace ≡ reportFrom v cells′ trace′
     pub walking : Walking most v trace′
     pub long : length trace′ ≡ length trace
 
   -- What a turn answers.
   abbrev pub TurnAnswers : Walk → List ℕ → List ℕ → Going → List ℕ → List ℕ → Type 0
-  TurnAnswers w cells trace (Halted h) cells′ trace′ = (outcomeFrom w cells trace ≡ walkedBy h (take (w .steps) trace)) × (trace′ ≡ trace)
-  TurnAnswers w cells trace Stuck cells′ trace′ = outcomeFrom w cells trace ≡ noRun
+  TurnAnswers w cells trace (Halted h) cells′ trace′ = (reportFrom w cells trace ≡ walkedBy h (take (w .steps) trace)) × (trace′ ≡ trace)
+  TurnAnswers w cells trace Stuck cells′ trace′ = reportFrom w cells trace ≡ noRun
   TurnAnswers w cells trace (On v) cells′ trace′ = TurnFollows w cells trace v cells′ trace′ × (v .steps ≡ w .steps + 1)

@@ -24,7 +24,7 @@ fn put_choice_if(met: bool, state: u64, n: usize, cells: &mut [u16], i: usize)
     }
 }
 
-// Cell i chooses, for each state, the least move on symbol a that is met, where the annotation is of order k and accepted by `note`, and the
+// Cell i chooses, for each state, the least move on symbol a that is met, where the annotation is of order k and accepted by `annotation`, and the
 // rest is accepted by `rest`.
 fn put_move_choices(
     z: Table,

@@ -59,11 +59,7 @@ fn with_digit(n: usize, byte: u8) -> usize
         return Limits::STARTS;
     }
     let longer = n * 10 + (byte - 48) as usize;
-    if longer < Limits::STARTS {
-        longer
-    } else {
-        Limits::STARTS
-    }
+    numbers::smaller(longer as u64, Limits::STARTS as u64) as usize
 }
 
 // The number of a start that these bytes name in decimal, or 64, which no start has.

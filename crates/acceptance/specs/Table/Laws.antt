@@ -23,7 +23,7 @@ use Rattle.tables.specs.Rows.{Layout, rowAt, rowsIn}
 use Rattle.tables.specs.Rows.Laws.{length-rowsIn, getD-rowsIn}
 use Rattle.tables.specs.Layouts.{moveRow, entryRow, edgeRow}
 use Rattle.acceptance.specs.Named.{TablesNamed}
-use Rattle.acceptance.specs.Table.{Small, HoldsTable}
+use Rattle.acceptance.specs.Table.{AutomatonSmall, HoldsTable}
 
 -- each of the first rows is an element of what the rows hold
 row-in : {X : Type 0} (L : Layout X) (n : ℕ) (t : List ℕ) (d : X) (l : List X) → rowsIn L n t ≡ l → (i : ℕ) → i < n → List·Memᴰ (rowAt L t i) l
@@ -33,7 +33,7 @@ row-in {X} L n t d l e i h =
     (subst (λ (k : List X). List·Memᴰ (getD (rowsIn L n t) i d) k) e (getD-in (rowsIn L n t) i d (omega arith)))
 
 -- tables that hold a small automaton keep what acceptance asks
-pub stands : {A : Automaton} {z : Table} {inner entries moves : List ℕ} → Small A → HoldsTable A z inner entries moves → TablesNamed z inner entries moves
+pub stands : {A : Automaton} {z : Table} {inner entries moves : List ℕ} → AutomatonSmall A → HoldsTable A z inner entries moves → TablesNamed z inner entries moves
 stands {A} {z} {inner} {entries} {moves} s h =
     let J : z .inner1 ≡ A .J = ap (λ (B : Automaton). B .J) (h .is) in
     let es : rowsIn entryRow (z .entries) entries ≡ A .entries = ap (λ (B : Automaton). B .entries) (h .is) in
@@ -80,7 +80,7 @@ module _ (x : Lent) (sound : caseRefusal (x .case) ≡ 0) {T : Saturated} (is : 
       let i : head (x .case) .I ≤ 8 = h .inner2-few in
       rw (r .3) (omega arith)
 
-  pub table-small : Small (T .table)
+  pub table-small : AutomatonSmall (T .table)
   table-small =
       let few : T .table .J + length (T .table .entries) ≤ 64 = within-keeps (lent (x .moves) (x .entries)) (T .table) (is-saturated .limits-kept) .states-fit in
       let c : head (x .case) .P ≤ 8 = case-head (x .case) sound .controls-few in

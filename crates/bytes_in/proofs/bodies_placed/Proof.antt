@@ -2,14 +2,14 @@
 -- Assumes nothing.
 use Prim.Native.Nat.{_≤_, _-_}
 use mathlib.Core.Path.{sym, _∙_}
-use Rattle.bytes_in.specs.Contents.{From}
+use Rattle.bytes_in.specs.Contents.{PlacedFrom}
 use Rattle.bytes_in.specs.Contents.Laws.{from-first, from-next, from-wrong, from-last}
 use borrow.Author.Needs.{needs}
 use Rattle.bytes_in.proofs.bodies_placed.Statement.{statement}
 use Rattle.bytes_in.proofs.bodies_placed.Tie as tie
 
 abbrev Inv-loop : tie.InvT-loop
-Inv-loop file table n first i₀ offset₀ i offset = (i ≤ n) × From file table n first i offset
+Inv-loop file table n first i₀ offset₀ i offset = (i ≤ n) × PlacedFrom file table n first i offset
 
 abbrev μ-loop : tie.MeasureT-loop
 μ-loop file table n first i₀ offset₀ i offset = n - i

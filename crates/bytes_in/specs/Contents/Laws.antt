@@ -14,7 +14,7 @@ use Rattle.words.specs.Tests.{by-test}
 use Rattle.files.specs.Bytes.{Body, countOf, offsetOf, lineRight, bodiesPlaced, placed}
 use Rattle.files.specs.Bytes.Laws.{line-facts, bodies-first, bodies-end, placed-bodies}
 use Rattle.bytes_in.specs.declared.NextBody.the-variants.{At, Wrong}
-use Rattle.bytes_in.specs.Contents.{nextBody, bodyIn, bodiesFrom, bodiesIn, From}
+use Rattle.bytes_in.specs.Contents.{nextBody, bodyIn, bodiesFrom, bodiesIn, PlacedFrom}
 
 -- ---- one line
 
@@ -95,19 +95,19 @@ bodies-cons n i table h =
     let e : n - i ≡ suc (n - suc i) = omega arith in
     rw e
 
-pub from-first : (file table : List ℕ) (n first : ℕ) → From file table n first 0 first
+pub from-first : (file table : List ℕ) (n first : ℕ) → PlacedFrom file table n first 0 first
 from-first file table n first = let e : n - 0 ≡ n = omega arith in rw e
 
-pub from-next : (file table : List ℕ) (n first i offset next : ℕ) (b : Body) → i < n → From file table n first i offset
-    → b ≡ bodyIn table i → At next ≡ nextBody file i offset b → From file table n first (i + 1) next
+pub from-next : (file table : List ℕ) (n first i offset next : ℕ) (b : Body) → i < n → PlacedFrom file table n first i offset
+    → b ≡ bodyIn table i → At next ≡ nextBody file i offset b → PlacedFrom file table n first (i + 1) next
 from-next file table n first i offset next b h t e f =
     rw (add-one, t, bodies-cons n i table h, ← e) (placed-at file i offset next b _ f)
 
-pub from-wrong : (file table : List ℕ) (n first i offset : ℕ) (b : Body) → i < n → From file table n first i offset
+pub from-wrong : (file table : List ℕ) (n first i offset : ℕ) (b : Body) → i < n → PlacedFrom file table n first i offset
     → b ≡ bodyIn table i → Wrong ≡ nextBody file i offset b → bodiesPlaced file 0 first (bodiesFrom n 0 table) ≡ false
 from-wrong file table n first i offset b h t e f = t ∙ rw (bodies-cons n i table h, ← e) (placed-wrong file i offset b _ f)
 
-pub from-last : (file table : List ℕ) (n first i offset : ℕ) → n ≤ i → From file table n first i offset
+pub from-last : (file table : List ℕ) (n first i offset : ℕ) → n ≤ i → PlacedFrom file table n first i offset
     → eqb offset (length file) ≡ bodiesPlaced file 0 first (bodiesFrom n 0 table)
 unfolding bodiesFrom bodiesPlaced
 from-last file table n first i offset h t = let e : n - i ≡ 0 = omega arith in sym (t ∙ rw e)

@@ -45,8 +45,8 @@ guidedFrom-same n (suc k) ws vs h = ap₂ _∷_ (h n (omega arith)) (guidedFrom-
 
 -- each of the list fits
 abbrev pub AllFit : {X : Type 0} → (X → Type 0) → List X → Type 0
-AllFit Fits [] = Unit {0}
-AllFit Fits (x ∷ xs) = Fits x × AllFit Fits xs
+AllFit ChoicesFit [] = Unit {0}
+AllFit ChoicesFit (x ∷ xs) = ChoicesFit x × AllFit ChoicesFit xs
 
 module _ {X : Type 0} (put : List ℕ → ℕ → X → List ℕ) where
   putFrom-append : (xs ys : List X) (ws : List ℕ) (n : ℕ) → putFrom put ws n (xs ++ ys) ≡ putFrom put (putFrom put ws n xs) (n + length xs) ys
@@ -73,14 +73,14 @@ module _ {X : Type 0} (put : List ℕ → ℕ → X → List ℕ) where
   put-more ws n xs ys e f = f ∙ ap (λ (l : List ℕ). putFrom put l (n + length xs) ys) e ∙ sym (putFrom-append xs ys ws n)
 
   -- where what is written for one cell keeps the others, the cells before are kept
-  putFrom-before : (Fits : X → Type 0)
-      → ((ws : List ℕ) (n : ℕ) (x : X) → Fits x → (i : ℕ) → (i ≡ n → ⊥) → guidedCell (put ws n x) i ≡ guidedCell ws i)
-      → (xs : List X) → AllFit Fits xs → (ws : List ℕ) (n i : ℕ) → i < n → guidedCell (putFrom put ws n xs) i ≡ guidedCell ws i
+  putFrom-before : (ChoicesFit : X → Type 0)
+      → ((ws : List ℕ) (n : ℕ) (x : X) → ChoicesFit x → (i : ℕ) → (i ≡ n → ⊥) → guidedCell (put ws n x) i ≡ guidedCell ws i)
+      → (xs : List X) → AllFit ChoicesFit xs → (ws : List ℕ) (n i : ℕ) → i < n → guidedCell (putFrom put ws n xs) i ≡ guidedCell ws i
   unfolding putFrom
-  putFrom-before Fits other [] h ws n i l = refl
-  putFrom-before Fits other (x ∷ xs) h ws n i l =
+  putFrom-before ChoicesFit other [] h ws n i l = refl
+  putFrom-before ChoicesFit other (x ∷ xs) h ws n i l =
       let d : i ≡ n → ⊥ = omega arith in
-      putFrom-before Fits other xs (h .1) (put ws n x) (n + 1) i (omega arith) ∙ other ws n x (h .0) i d
+      putFrom-before ChoicesFit other xs (h .1) (put ws n x) (n + 1) i (omega arith) ∙ other ws n x (h .0) i d
 
 -- ---- cells
 
@@ -110,21 +110,21 @@ cells-plain (c ∷ cs) ws n h =
 -- ---- choices
 
 -- the state exists, or there is a number for each state
-abbrev pub Fits : CellChoices → Type 0
-Fits (one q n) = q < 64
-Fits (all ns) = length ns ≡ 64
+abbrev pub ChoicesFit : CellChoices → Type 0
+ChoicesFit (one q n) = q < 64
+ChoicesFit (all ns) = length ns ≡ 64
 
-length-withChosen : (ws : List ℕ) (n : ℕ) (f : CellChoices) → Fits f → length (withChosen ws n f) ≡ length ws
+length-withChosen : (ws : List ℕ) (n : ℕ) (f : CellChoices) → ChoicesFit f → length (withChosen ws n f) ≡ length ws
 unfolding withChosen
 length-withChosen ws n (one q k) h = length-withChoice ws n q k h
 length-withChosen ws n (all ns) h = length-withChoices ws n ns h
 
-withChosen-other : (ws : List ℕ) (n : ℕ) (f : CellChoices) → Fits f → (i : ℕ) → (i ≡ n → ⊥) → guidedCell (withChosen ws n f) i ≡ guidedCell ws i
+withChosen-other : (ws : List ℕ) (n : ℕ) (f : CellChoices) → ChoicesFit f → (i : ℕ) → (i ≡ n → ⊥) → guidedCell (withChosen ws n f) i ≡ guidedCell ws i
 unfolding withChosen
 withChosen-other ws n (one q k) h i d = withChoice-other ws n q k h i d
 withChosen-other ws n (all ns) h i d = withChoices-other ws n ns h i d
 
-withChosen-guided : (ws : List ℕ) (n : ℕ) (f : CellChoices) → Fits f → n * 68 + 68 ≤ length ws → {c : walks.Cell} → guidedCell ws n ≡ plain c
+withChosen-guided : (ws : List ℕ) (n : ℕ) (f : CellChoices) → ChoicesFit f → n * 68 + 68 ≤ length ws → {c : walks.Cell} → guidedCell ws n ≡ plain c
     → guidedCell (withChosen ws n f) n ≡ record { cell = c; choice = choiceOf f }
 unfolding withChosen choiceOf choosing chooses
 withChosen-guided ws n (one q k) h l g =
@@ -132,7 +132,7 @@ withChosen-guided ws n (one q k) h l g =
 withChosen-guided ws n (all ns) h l g = withChoices-guided ws n ns h l ∙ λ i. record { cell = g i .cell; choice = λ q. getD ns q 0 }
 
 -- cells that have no choices have those that are written
-chosen-guided : (fs : List CellChoices) (cs : List walks.Cell) (ws : List ℕ) (n : ℕ) → AllFit Fits fs → length fs ≡ length cs → (n + length cs) * 68 ≤ length ws
+chosen-guided : (fs : List CellChoices) (cs : List walks.Cell) (ws : List ℕ) (n : ℕ) → AllFit ChoicesFit fs → length fs ≡ length cs → (n + length cs) * 68 ≤ length ws
     → guidedFrom n (length cs) ws ≡ map plain cs → guidedFrom n (length cs) (withAllChosen ws n fs) ≡ guidedBy cs (map choiceOf fs)
 unfolding putFrom guidedFrom zipWith
 chosen-guided [] [] ws n h e l g = refl
@@ -145,18 +145,18 @@ chosen-guided (f ∷ fs) (c ∷ cs) ws n h e l g =
     let kept : guidedFrom (n + 1) (length cs) (withChosen ws n f) ≡ guidedFrom (n + 1) (length cs) ws =
     guidedFrom-same (n + 1) (length cs) (withChosen ws n f) ws (λ i m. let d : i ≡ n → ⊥ = omega arith in withChosen-other ws n f (h .0) i d) in
     ap₂ _∷_
-    (putFrom-before withChosen Fits withChosen-other fs (h .1) (withChosen ws n f) (n + 1) n (omega arith) ∙ withChosen-guided ws n f (h .0) (omega arith) first)
+    (putFrom-before withChosen ChoicesFit withChosen-other fs (h .1) (withChosen ws n f) (n + 1) n (omega arith) ∙ withChosen-guided ws n f (h .0) (omega arith) first)
     (chosen-guided fs cs (withChosen ws n f) (n + 1) (h .1) (omega arith) (omega arith) (kept ∙ rest))
 
 -- cells and then their choices
-pub written-guided : (cs : List walks.Cell) (fs : List CellChoices) (ws : List ℕ) (n : ℕ) → AllFit Fits fs → length fs ≡ length cs → (n + length cs) * 68 ≤ length ws
+pub written-guided : (cs : List walks.Cell) (fs : List CellChoices) (ws : List ℕ) (n : ℕ) → AllFit ChoicesFit fs → length fs ≡ length cs → (n + length cs) * 68 ≤ length ws
     → guidedIn (n + length cs) (withAllChosen (withCells ws n cs) n fs) ≡ guidedIn n ws ++ guidedBy cs (map choiceOf fs)
 written-guided cs fs ws n h e l =
     let size : length (withCells ws n cs) ≡ length ws = length-withCells cs ws n in
     guidedIn-from n (length cs) (withAllChosen (withCells ws n cs) n fs)
     ∙ ap₂ _++_
     (guidedIn-same n (withAllChosen (withCells ws n cs) n fs) ws λ i m.
-    putFrom-before withChosen Fits withChosen-other fs h (withCells ws n cs) n i m ∙ withCells-before cs ws n i m)
+    putFrom-before withChosen ChoicesFit withChosen-other fs h (withCells ws n cs) n i m ∙ withCells-before cs ws n i m)
     (chosen-guided fs cs (withCells ws n cs) n h e (omega arith) (cells-plain cs ws n l))
 
 -- ---- a step
@@ -173,7 +173,7 @@ module _ (r number p′ edge : ℕ) (es ms : List ℕ) where
   length-stepChosen collapse1 = refl
   length-stepChosen collapse2 = refl
 
-  stepChosen-fit : r < 64 → p′ < 64 → length es ≡ 64 → length ms ≡ 64 → (op : Stack.Operation) → AllFit Fits (stepChosen r number p′ edge es ms op)
+  stepChosen-fit : r < 64 → p′ < 64 → length es ≡ 64 → length ms ≡ 64 → (op : Stack.Operation) → AllFit ChoicesFit (stepChosen r number p′ edge es ms op)
   unfolding stepChosen
   stepChosen-fit h k e m (rewrite b) = (h, (k, tt))
   stepChosen-fit h k e m (push1 b) = (m, (h, (k, tt)))

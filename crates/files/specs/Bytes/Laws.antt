@@ -131,9 +131,3 @@ records-at (suc n) size bytes zero h = ap (λ (k : ℕ). take size (drop k bytes
 records-at (suc n) size bytes (suc i) h =
     records-at n size (drop size bytes) i (le-of-suc-le-suc h)
     ∙ ap (take size) (drop-drop (i * size) size bytes ∙ ap (λ (k : ℕ). drop k bytes) (add-comm size (i * size) ∙ sym (suc-mul i size)))
-
--- ---- numbers in bytes
-
--- every element is below 256
-abbrev pub AllBytes : List ℕ → Type 0
-AllBytes bytes = (i : ℕ) → getD bytes i 0 < 256

@@ -88,7 +88,7 @@ module _ (A : Automaton) (x : Result) (body : List ℕ) (k : ℕ) (ρ : Rule) (i
       (gives-is ∙ ap (Option·map (derived k x)) (f .0), f .1, f .2)
 
 -- the numbers of a step by rule k
-same-step : (x : Result) (k i : ℕ) (o : Option Search.Step) → some i ≡ Option·map (λ s. firstOrZero (s .premise)) o
+same-step : (x : Result) (k i : ℕ) (o : Option Search.PremiseNumbers) → some i ≡ Option·map (λ s. firstOrZero (s .premise)) o
     → some (record { rule = k; premise = i }) ≡ Option·map stepOf (Option·map (derived k x) o)
 same-step x k i none e = absurd (Option·some-ne-none i e)
 same-step x k i (some s) e = ap (λ (j : ℕ). some (record { rule = k; premise = j })) (Option·some-injective i (firstOrZero (s .premise)) e)

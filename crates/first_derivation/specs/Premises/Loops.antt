@@ -28,7 +28,7 @@ use Rattle.first_reading.specs.Answer.Laws.{answer-map, answers-none, answers-e
 use Rattle.first_reading.specs.Search.{joinsKey, wanted, Numbers, noNumbers}
 use Rattle.first_derivation.specs.declared.Premise.{Premise}
 use Rattle.first_derivation.specs.declared.Premise.the-variants.{Nothing, By}
-use Rattle.first_derivation.specs.Search.{Step, withPremise, byMove, byEntry, firstMove, firstEntry}
+use Rattle.first_derivation.specs.Search.{PremiseNumbers, withPremise, byMove, byEntry, firstMove, firstEntry}
 use Rattle.first_derivation.specs.Premises.{writesEdges, writesMoves, FindsDerivation, stepEdges, stepMoves, moveGives, entryGives, Finds}
 
 -- ---- a premise is found, or none
@@ -41,16 +41,16 @@ number-of i true (some n) h = refl
 number-of i false o h = absurd (false≢true h)
 
 module _ (A : Automaton) (op : Operation) where
-  pub finds-by : {o : Option Step} {es₀ es ms₀ ms : List ℕ} (i : ℕ) → some i ≡ Option·map (λ s. firstOrZero (s .premise)) o
+  pub finds-by : {o : Option PremiseNumbers} {es₀ es ms₀ ms : List ℕ} (i : ℕ) → some i ≡ Option·map (λ s. firstOrZero (s .premise)) o
       → Answers o (stepEdges A op) (stepMoves A op) true es₀ es ms₀ ms → Finds A op o (By i) es₀ es ms₀ ms
   unfolding isSome
   finds-by i e h = record { number = e; written = h }
 
-  pub finds-nothing : {o : Option Step} (es ms : List ℕ) → o ≡ none → Finds A op o Nothing es es ms ms
+  pub finds-nothing : {o : Option PremiseNumbers} (es ms : List ℕ) → o ≡ none → Finds A op o Nothing es es ms ms
   unfolding isSome
   finds-nothing es ms e = record { number = ap (Option·map (λ s. firstOrZero (s .premise))) (sym e); written = answers-none es ms e }
 
-  pub finds-from : {o : Option Step} {r : Premise} {es₀ es fs ms₀ ms ns : List ℕ} → Unchanged es₀ es → Unchanged ms₀ ms → Finds A op o r es fs ms ns → Finds A op o r es₀ fs ms₀ ns
+  pub finds-from : {o : Option PremiseNumbers} {r : Premise} {es₀ es fs ms₀ ms ns : List ℕ} → Unchanged es₀ es → Unchanged ms₀ ms → Finds A op o r es fs ms ns → Finds A op o r es₀ fs ms₀ ns
   finds-from h k f = record { number = f .number; written = answers-from h k (f .written) }
 
 -- ---- a move

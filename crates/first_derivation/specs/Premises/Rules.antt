@@ -22,7 +22,7 @@ use Rattle.first_reading.specs.Answer.{writtenAll}
 use Rattle.first_reading.specs.Answer.Laws.{answer-still, isSome-map}
 use Rattle.first_reading.specs.Search.{joinsKey, wanted}
 use Rattle.first_derivation.specs.declared.Premise.{Premise}
-use Rattle.first_derivation.specs.Search.{Step, byEntry, firstEntry, firstMove, entryJoins, byNone, firstStep, byRule}
+use Rattle.first_derivation.specs.Search.{PremiseNumbers, byEntry, firstEntry, firstMove, entryJoins, byNone, firstStep, byRule}
 use Rattle.first_derivation.specs.Premises.{writesEdges, writesMoves, edgeStates, readStates, stepEdges, stepMoves, premiseIn, Finds}
 
 -- ---- no premise
@@ -43,8 +43,8 @@ module _ (x : Result) (S : ℕ) (j : Joins) where
 -- ---- by the operation
 
 -- the operation chooses no edge and no move
-pub finds-plain : (A : Automaton) {op op′ : Operation} {o : Option Step} {r : Premise} (es ms : List ℕ) → op ≡ op′
-    → ((s : Step) (ws : List ℕ) → stepEdges A op′ s ws ≡ ws) → ((s : Step) (ws : List ℕ) → stepMoves A op′ s ws ≡ ws)
+pub finds-plain : (A : Automaton) {op op′ : Operation} {o : Option PremiseNumbers} {r : Premise} (es ms : List ℕ) → op ≡ op′
+    → ((s : PremiseNumbers) (ws : List ℕ) → stepEdges A op′ s ws ≡ ws) → ((s : PremiseNumbers) (ws : List ℕ) → stepMoves A op′ s ws ≡ ws)
     → premiseIn r ≡ Option·map (λ s. firstOrZero (s .premise)) o → Finds A op o r es es ms ms
 finds-plain A {op} {op′} {o} {r} es ms e f g h =
     let s : isSome (premiseIn r) ≡ isSome o = ap isSome h ∙ isSome-map (λ s. firstOrZero (s .premise)) o in
@@ -60,7 +60,7 @@ module _ (z : Table) (inner entries moves : List ℕ) (a : ℕ) (x : Result) (p�
       → Finds A op′ (firstMove A a x op′ p′ b) r es₀ es ms₀ ms → Finds A op (firstStep A a x op p′) r es₀ es ms₀ ms
   step-move {op} {op′} b {r} {es₀} {es} {ms₀} {ms} e f h =
       subst (λ (q : Operation). Finds A q (firstStep A a x q p′) r es₀ es ms₀ ms) (sym e)
-      (subst (λ (o : Option Step). Finds A op′ o r es₀ es ms₀ ms) (sym f) h)
+      (subst (λ (o : Option PremiseNumbers). Finds A op′ o r es₀ es ms₀ ms) (sym f) h)
 
   module _ {op : Operation} {r : Premise} {es₀ es ms₀ ms : List ℕ} where
     pub step-rewrite : {b : ℕ} → op ≡ rewrite b → Finds A (rewrite b) (firstMove A a x (rewrite b) p′ b) r es₀ es ms₀ ms → Finds A op (firstStep A a x op p′) r es₀ es ms₀ ms
@@ -124,5 +124,5 @@ module _ (A : Automaton) (x : Result) (ρ : Rule) where
       → Finds A (ρ .operation) (firstStep A (ρ .symbol) x (ρ .operation) (ρ .next)) r es₀ es ms₀ ms → Finds A (ρ .operation) (byRule A x ρ) r es₀ es ms₀ ms
   unfolding byRule
   rule-step {r} {es₀} {es} {ms₀} {ms} e f h =
-      subst (λ (o : Option Step). Finds A (ρ .operation) o r es₀ es ms₀ ms)
+      subst (λ (o : Option PremiseNumbers). Finds A (ρ .operation) o r es₀ es ms₀ ms)
       (sym (onlyIf-yes _ _ (ap₂ _&&_ (eq-eqb (ρ .control) (x .control) e) (eq-eqb (ρ .symbol) (x .symbol) f)))) h

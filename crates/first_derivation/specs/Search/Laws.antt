@@ -24,7 +24,7 @@ use Rattle.first_reading.specs.First.{orElse, onlyIf, firstOf}
 use Rattle.first_reading.specs.First.Laws.{onlyIf-yes, onlyIf-no, first-one, first-when, onlyIf-none, map-onlyIf, first-append-else, firstOf-same, firstOf-onlyIf, firstOf-first, first-each, map-firstOf}
 use Rattle.first_reading.specs.Search.{joinsKey, wanted, Numbers, noNumbers, onlyMoves, firstReading, firstEdges}
 use Rattle.first_reading.specs.Search.Laws.{reached, same-cons, reading-first, atEdges, edges-first}
-use Rattle.first_derivation.specs.Search.{Step, withPremise, derived, byMove, byEntry, firstMove, firstEntry, entryJoins, byNone, firstStep, byRule, firstFrom}
+use Rattle.first_derivation.specs.Search.{PremiseNumbers, withPremise, derived, byMove, byEntry, firstMove, firstEntry, entryJoins, byNone, firstStep, byRule, firstFrom}
 
 -- ---- one rule
 
@@ -33,7 +33,7 @@ abbrev pub gives : Result → Derivation → Bool
 gives x d = same (resultKey (d .result)) (resultKey x)
 
 -- the derivation of x by rule n with this premise, edges and moves
-abbrev pub stepOf : List ℕ → List ℕ → List ℕ → Step
+abbrev pub stepOf : List ℕ → List ℕ → List ℕ → PremiseNumbers
 stepOf premise es ms = record { premise = premise; numbers = record { edges = es; moves = ms } }
 
 onlyIf-both : {B : Type 0} (u v : Bool) (o p : Option B) → (u ≡ true → v ≡ true → o ≡ p) → onlyIf (u && v) o ≡ onlyIf u (onlyIf v p)
@@ -204,7 +204,7 @@ module _ (A : Automaton) (x : Result) where
   unfolding byRule
   rule-first n ρ =
       let t : Bool = eqb (ρ .control) (x .control) && eqb (ρ .symbol) (x .symbol) in
-      let o : Option Step = firstStep A (ρ .symbol) x (ρ .operation) (ρ .next) in
+      let o : Option PremiseNumbers = firstStep A (ρ .symbol) x (ρ .operation) (ρ .next) in
       by-test t
       (λ e.
       step-first A n ρ x (eqb-true _ _ (and-left (eqb (ρ .control) (x .control)) _ e)) (eqb-true _ _ (and-right (eqb (ρ .control) (x .control)) _ e)) (ρ .operation)

@@ -46,7 +46,7 @@ module _ (x : GuideInput) where
   pub answers-refused : (before ≡ 0 → ⊥) → guideService x ≡ guideLeft x (refused before)
   answers-refused b = refused-is (guide-cases x) b
 
-  -- the outcome o of table U is that of table T
+  -- the report o of table U is that of table T
   same-run : {T U : Saturated} {o : Report} → saturated (guideLent x) ≡ some T → saturated (guideLent x) ≡ some U → guideRun x U ≡ o
       → guideLeft x o ≡ guideLeft x (guideRun x T)
   same-run {T} {U} e f r = ap (guideLeft x) (sym r ∙ ap (guideRun x) (Option·some-injective U T (sym f ∙ e)))

@@ -27,7 +27,7 @@ use Rattle.first_reading.specs.Words.{TablesWithin}
 use Rattle.first_derivation.specs.Premises.{edgeStates, readStates}
 use Rattle.first_derivation.specs.Derived.Choices.{byState}
 use Rattle.cell_steps.specs.Steps.Choices.{topState, rootEdge, HoldsRest, HoldsNumbers}
-use Rattle.guided_step.specs.Step.{Small}
+use Rattle.guided_step.specs.Step.{StepSmall}
 
 -- ---- the premise
 
@@ -117,7 +117,7 @@ module _ {A : Automaton} (few : Sized A) where
       let l : length (A .moves) ≤ 1024 = few .moves-few in
       (omega arith, omega arith, omega arith)
 
-  pub says-small : (ρ : Rule) (d : Derivation) (op : Operation) → Says A ρ op d → Small A op (firstOrZero (d .premise))
+  pub says-small : (ρ : Rule) (d : Derivation) (op : Operation) → Says A ρ op d → StepSmall A op (firstOrZero (d .premise))
   unfolding topState rootEdge
   says-small ρ d (rewrite b) h =
       let k = move-small (h .premise) (firstOrZero (d .premise)) (premise-one (h .concluded .premise-is)) in

@@ -41,7 +41,7 @@ use Rattle.guided_step.specs.Walks.{walkIn, topBy, tipOf}
 use Rattle.guided_step.specs.Walks.Laws.{topOf-moves}
 use Rattle.guided_step.specs.Earlier.{tableUpTo}
 use Rattle.guided_step.specs.Earlier.Laws.{table-upTo, upTo-stands, result-table}
-use Rattle.guided_step.specs.Step.{saturatedIn, Small, Taken, Gives, AtTop, NextIs}
+use Rattle.guided_step.specs.Step.{saturatedIn, StepSmall, Taken, Gives, AtTop, NextIs}
 use Rattle.guided_step.specs.Step.Chosen.{holds-kept, Sized, says-small}
 
 -- ---- the table before a move's round
@@ -115,7 +115,7 @@ module _ (rules : List Rule) (T : Saturated) (x : Top) (i : ℕ) where
         numbered = ap (getElem? rules) (sym k) ∙ D .numbered;
         premise-is = sym q;
         holds = holds-kept (before-extends T i) ρ d (ρ .operation) es ms (D .says) edges-are moves-are;
-        small = subst (Small (T .table) (ρ .operation)) q (says-small few ρ d (ρ .operation) (says-kept (before-extends T i) ρ d (ρ .operation) (D .says)));
+        small = subst (StepSmall (T .table) (ρ .operation)) q (says-small few ρ d (ρ .operation) (says-kept (before-extends T i) ρ d (ρ .operation) (D .says)));
       }
 
   pub step-to : {o n p : ℕ} {r : First} {es₀ es ms₀ ms : List ℕ} → o ≡ ownMoves (T .sizes) → o ≤ i → Sized (T .table) → StatesSmall (before T i)

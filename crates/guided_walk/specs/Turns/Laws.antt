@@ -32,7 +32,7 @@ use Rattle.guided_walk.specs.declared.Going.{Going}
 use Rattle.guided_walk.specs.declared.Going.the-variants.{Halted, Stuck, On}
 use Rattle.guided_walk.specs.Stepped.{movesOnly}
 use Rattle.guided_walk.specs.Stepped.Laws.{stepped-moved}
-use Rattle.guided_walk.specs.Turns.{countsIn, Walking, TurnHalts, full, short, Passes, StepAnswers, outcomeFrom, TurnFollows, TurnAnswers}
+use Rattle.guided_walk.specs.Turns.{countsIn, Walking, TurnHalts, full, short, Passes, StepAnswers, reportFrom, TurnFollows, TurnAnswers}
 
 -- ---- the guided run by what is next
 
@@ -115,14 +115,14 @@ module _ (rules : List Rule) (T : Saturated) (most : ℕ) (w : Walk) (cells trac
   halt-is h e = ap (λ (k : Counts). walkedBy (h k) (take (w .steps) trace)) (counts-in w cells trace (in-room .steps-lent) ∙ sym e)
 
   pub turn-arrived : {k : Counts} → next rules T (walkIn w cells) ≡ arrived → k ≡ countsIn w
-      → outcomeFrom rules T most w cells trace ≡ walkedBy (Arrived k) (take (w .steps) trace)
+      → reportFrom rules T most w cells trace ≡ walkedBy (Arrived k) (take (w .steps) trace)
   turn-arrived e f = guided-arrived rules T most (take (w .steps) trace) (walkIn w cells) (length trace - w .steps) e ∙ halt-is Arrived f
 
-  pub turn-stuck : next rules T (walkIn w cells) ≡ stuck → outcomeFrom rules T most w cells trace ≡ noRun
+  pub turn-stuck : next rules T (walkIn w cells) ≡ stuck → reportFrom rules T most w cells trace ≡ noRun
   turn-stuck e = guided-stuck rules T most (take (w .steps) trace) (walkIn w cells) (length trace - w .steps) e
 
   module _ {n : ℕ} {u : walks.Walk} (e : next rules T (walkIn w cells) ≡ to n u) where
-    turn-full : {k : Counts} → length trace ≤ w .steps → k ≡ countsIn w → outcomeFrom rules T most w cells trace ≡ walkedBy (TraceFull k) (take (w .steps) trace)
+    turn-full : {k : Counts} → length trace ≤ w .steps → k ≡ countsIn w → reportFrom rules T most w cells trace ≡ walkedBy (TraceFull k) (take (w .steps) trace)
     turn-full l f =
         let z : length trace - w .steps ≡ 0 = omega arith in
         ap (λ (t : ℕ). guided rules T most t (take (w .steps) trace) (walkIn w cells)) z
@@ -130,7 +130,7 @@ module _ (rules : List Rule) (T : Saturated) (most : ℕ) (w : Walk) (cells trac
         ∙ halt-is TraceFull f
 
     turn-short : {k : Counts} → w .steps < length trace → most < length (u .cells) → k ≡ countsIn w
-        → outcomeFrom rules T most w cells trace ≡ walkedBy (CellsShort k) (take (w .steps) trace)
+        → reportFrom rules T most w cells trace ≡ walkedBy (CellsShort k) (take (w .steps) trace)
     turn-short l m f =
         let z : length trace - w .steps ≡ suc (length trace - (w .steps + 1)) = omega arith in
         ap (λ (t : ℕ). guided rules T most t (take (w .steps) trace) (walkIn w cells)) z
@@ -138,7 +138,7 @@ module _ (rules : List Rule) (T : Saturated) (most : ℕ) (w : Walk) (cells trac
         ∙ halt-is CellsShort f
 
     turn-on : (v : Walk) (cells′ : List ℕ) {trace′ : List ℕ} → w .steps < length trace → length (u .cells) ≤ most → walkIn v cells′ ≡ u
-        → v .steps ≡ w .steps + 1 → trace′ ≡ set trace (w .steps) n → outcomeFrom rules T most w cells trace ≡ outcomeFrom rules T most v cells′ trace′
+        → v .steps ≡ w .steps + 1 → trace′ ≡ set trace (w .steps) n → reportFrom rules T most w cells trace ≡ reportFrom rules T most v cells′ trace′
     turn-on v cells′ {trace′} l m f g h =
         let z : length trace - w .steps ≡ suc (length trace - (w .steps + 1)) = omega arith in
         let len : length trace′ ≡ length trace = ap length h ∙ length-set trace (w .steps) n in
@@ -159,7 +159,7 @@ module _ (rules : List Rule) (T : Saturated) (most : ℕ) (w : Walk) (cells trac
         length-moved rules T (walkIn w cells) (topBy x (t .move)) (t .derivation) (t .rule)
         ∙ ap (λ (k : ℕ). k + newCells (t .rule .operation)) (length-guidedIn (w .cells) cells)
 
-    halts-is : {h : Halt} → TurnHalts most (t .rule .operation) w trace h → outcomeFrom rules T most w cells trace ≡ walkedBy h (take (w .steps) trace)
+    halts-is : {h : Halt} → TurnHalts most (t .rule .operation) w trace h → reportFrom rules T most w cells trace ≡ walkedBy h (take (w .steps) trace)
     halts-is (full l e) = turn-full (t .goes) l e
     halts-is (short l m e) = let k = cells-after in turn-short (t .goes) l (omega arith) e
 
@@ -170,7 +170,7 @@ module _ (rules : List Rule) (T : Saturated) (most : ℕ) (w : Walk) (cells trac
         let more : v .steps ≡ w .steps + 1 = h .steps .steps-more in
         let len : length trace′ ≡ length trace = ap length (h .written) ∙ length-set trace (w .steps) n in
         record {
-          same-outcome = turn-on (t .goes) v cells′ (h .words-left) (omega (arith, h .cells-left))
+          same-report = turn-on (t .goes) v cells′ (h .words-left) (omega (arith, h .cells-left))
               (h .steps .walk-is ∙ stepped-moved rules T z inner entries moves is w cells t) more (h .written);
           walking =
               record {

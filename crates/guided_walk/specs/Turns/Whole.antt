@@ -16,7 +16,7 @@ use Rattle.words.specs.Lists.{zeros}
 use Rattle.tables.specs.declared.Table.{Table}
 use Rattle.guided_step.specs.declared.Walk.{Walk}
 use Rattle.guided_step.specs.Walks.{walkIn}
-use Rattle.guided_walk.specs.Turns.{RunStands, Leaves, Walking, outcomeFrom, TurnFollows}
+use Rattle.guided_walk.specs.Turns.{RunStands, Leaves, Walking, reportFrom, TurnFollows}
 
 -- the same with other cells, as many
 pub run-stands : {z : Table} {inner entries moves body sizes cells cells′ : List ℕ} {count k most : ℕ}
@@ -47,20 +47,20 @@ walking-padded {w = w} {trace} h =
 
 module _ (rules : List Rule) (T : Saturated) (most : ℕ) where
   pub follows-self : (w : Walk) (cells : List ℕ) {trace : List ℕ} → Walking most w trace → TurnFollows rules T most w cells trace w cells trace
-  follows-self w cells h = record { same-outcome = refl; walking = h; long = refl }
+  follows-self w cells h = record { same-report = refl; walking = h; long = refl }
 
   pub follows-then : {w v u : Walk} {cells cells′ cells″ trace trace′ trace″ : List ℕ} → TurnFollows rules T most w cells trace v cells′ trace′
       → TurnFollows rules T most v cells′ trace′ u cells″ trace″ → TurnFollows rules T most w cells trace u cells″ trace″
-  follows-then f g = record { same-outcome = f .same-outcome ∙ g .same-outcome; walking = g .walking; long = g .long ∙ f .long }
+  follows-then f g = record { same-report = f .same-report ∙ g .same-report; walking = g .walking; long = g .long ∙ f .long }
 
   module _ {w v : Walk} {cells cells′ trace trace′ : List ℕ} (f : TurnFollows rules T most w cells trace v cells′ trace′) (start : w .steps ≡ 0) where
     -- what the run answers is what it answers from v
-    whole-is : guided rules T most (length trace) [] (walkIn w cells) ≡ outcomeFrom rules T most v cells′ trace′
+    whole-is : guided rules T most (length trace) [] (walkIn w cells) ≡ reportFrom rules T most v cells′ trace′
     whole-is =
         let n : length trace ≡ length trace - w .steps = omega arith in
-        (λ i. guided rules T most (n i) (take (sym start i) trace) (walkIn w cells)) ∙ f .same-outcome
+        (λ i. guided rules T most (n i) (take (sym start i) trace) (walkIn w cells)) ∙ f .same-report
 
-    pub ends-halted : {h : Halt} {last : List ℕ} → outcomeFrom rules T most v cells′ trace′ ≡ walkedBy h (take (v .steps) trace′) → last ≡ trace′
+    pub ends-halted : {h : Halt} {last : List ℕ} → reportFrom rules T most v cells′ trace′ ≡ walkedBy h (take (v .steps) trace′) → last ≡ trace′
         → Leaves (guided rules T most (length trace) [] (walkIn w cells)) (length trace) (Walked h) last
     unfolding walkedBy
     ends-halted e l =
@@ -71,7 +71,7 @@ module _ (rules : List Rule) (T : Saturated) (most : ℕ) where
               ∙ ap (λ (x : Report). padded (length trace) (x .trace)) (sym o);
         }
 
-    pub ends-stuck : {last : List ℕ} (n : ℕ) → outcomeFrom rules T most v cells′ trace′ ≡ noRun → last ≡ zeros n → n ≡ length trace
+    pub ends-stuck : {last : List ℕ} (n : ℕ) → reportFrom rules T most v cells′ trace′ ≡ noRun → last ≡ zeros n → n ≡ length trace
         → Leaves (guided rules T most (length trace) [] (walkIn w cells)) (length trace) NoRun last
     unfolding noRun padded
     ends-stuck n e l k =

@@ -32,7 +32,7 @@ use Rattle.tables.specs.Held.Laws.{length-edgesIn}
 use Rattle.acceptance.specs.Cells.{cellWords, annotationOrderAt}
 use Rattle.acceptance.specs.Cells.Laws.{cell-accepts1, cell-accepts2}
 use Rattle.least_choices.specs.Choices.{leastMet}
-use Rattle.least_choices.specs.Choices.Laws.{Small, length-leastMet, leastMet-other, leastMet-guided}
+use Rattle.least_choices.specs.Choices.Laws.{StatesBelow, length-leastMet, leastMet-other, leastMet-guided}
 use Rattle.least_choices.specs.Starts.{choicesBy, withStart}
 
 -- ---- tests by words are those of stacks
@@ -63,8 +63,8 @@ module _ (A : Automaton) where
 
 -- The states of the moves and of the edges are below 64.
 pub record StateNumbersSmall (A : Automaton) : Type 0 where
-  pub moves-small : Small (λ m. m .state) noMove (A .moves)
-  pub edges-small : Small (λ e. e .state) noEdge (edges A)
+  pub moves-small : StatesBelow (λ m. m .state) noMove (A .moves)
+  pub edges-small : StatesBelow (λ e. e .state) noEdge (edges A)
 
 module _ (A : Automaton) (small : StateNumbersSmall A) (i : ℕ) (cells : List ℕ) (fits : i * 68 + 68 ≤ length cells)
     (none : guidedCell cells i .choice ≡ (λ q. 0)) where

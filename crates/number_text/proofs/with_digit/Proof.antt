@@ -1,9 +1,10 @@
 -- `number_text::with_digit` meets its contract.
 -- Assumes nothing.
-use mathlib.Core.Path.{sym}
+use mathlib.Core.Path.{sym, _∙_}
+use native.Mathlib.Nat.{min-le-right}
 use native.Mathlib.Omega.{arith}
 use borrow.Author.Needs.{needs}
-use Rattle.number_text.specs.Named.Laws.{below-digits, above-digits, digit-small, digit-large}
+use Rattle.number_text.specs.Named.Laws.{below-digits, above-digits, digit-adds}
 use Rattle.number_text.proofs.with_digit.Statement.{statement}
 use Rattle.number_text.proofs.with_digit.Tie as tie
 
@@ -22,12 +23,14 @@ cast-longer c = search needs
 add-longer : tie.Need-add-longer
 add-longer c = search needs
 
-returns-3 : tie.Need-returns-3
-returns-3 c = (digit-small _ _ (search needs) (search needs) (search needs), omega arith)
+smaller-requires : tie.Need-smaller-requires
+smaller-requires c κs = search needs
 
-returns-4 : tie.Need-returns-4
-returns-4 c = (sym (digit-large _ _ (search needs) (search needs) (search needs)), omega arith)
+returns-3 : tie.Need-returns-3
+returns-3 c =
+    let is = c .smaller .ensures in
+    (is ∙ sym (digit-adds _ _ (search needs) (search needs)), rw is (min-le-right _ 64))
 
 pub with-digit-spec : {M : Type 1} → statement M
 with-digit-spec =
-    tie.close (tie.spec returns returns-2 mul-longer cast-longer add-longer returns-3 returns-4)
+    tie.close (tie.spec returns returns-2 mul-longer cast-longer add-longer smaller-requires returns-3)

@@ -30,16 +30,9 @@ module _ (n b : ℕ) where
       let l : 48 ≤ b = omega arith in
       rw (withDigit, le-leb 48 b l, lt-leb b 57 h) refl
 
-  digit-adds : 48 ≤ b → b ≤ 57 → withDigit n b ≡ min (n * 10 + (b - 48)) 64
+  pub digit-adds : 48 ≤ b → b ≤ 57 → withDigit n b ≡ min (n * 10 + (b - 48)) 64
   unfolding withDigit noStart
   digit-adds l h = rw (withDigit, le-leb 48 b l, le-leb b 57 h) refl
-
-  module _ (l : 48 ≤ b) (h : b ≤ 57) where
-    pub digit-small : n * 10 + (b - 48) < 64 → n * 10 + (b - 48) ≡ withDigit n b
-    digit-small s = sym (digit-adds l h ∙ min-eq-left (omega arith))
-
-    pub digit-large : 64 ≤ n * 10 + (b - 48) → withDigit n b ≡ 64
-    digit-large s = digit-adds l h ∙ min-eq-right s
 
 -- ---- one byte after another
 
