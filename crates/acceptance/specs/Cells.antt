@@ -1,5 +1,4 @@
--- The states that accept each cell, one word a cell, by one left-to-right pass over the cells. Cell n's word is that of the stack that cell
--- n stands for.
+-- The states that accept each cell of a start file, one word a cell.
 -- Assumes nothing.
 pub mod Body
 pub mod Laws

@@ -1,4 +1,4 @@
--- The tables that saturation leaves hold the saturated table of a sound case, and keep what acceptance asks of tables.
+-- A table of a sound case that is small, and the tables that hold it.
 -- Assumes nothing.
 pub mod Laws
 use Prim.Native.Nat.{ℕ, _+_, _*_, _≤_, _<_}

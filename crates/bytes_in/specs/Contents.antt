@@ -11,8 +11,6 @@ use Rattle.bytes_in.specs.declared.Body.{Body as BodyValue}
 use Rattle.bytes_in.specs.declared.NextBody.{NextBody}
 use Rattle.bytes_in.specs.declared.NextBody.the-variants.{At, Wrong}
 
--- ---- definitions
-
 -- the body that a value of the code stands for
 abbrev pub theBody : BodyValue → Body
 theBody b = record { kind = b .kind; least = b .least; most = b .most; size = b .size }

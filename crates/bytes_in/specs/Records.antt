@@ -1,12 +1,10 @@
--- Records of a body: the record of a number, and tests over all of them one by one.
+-- Records of a body, by number.
 -- Assumes nothing.
 pub mod Laws
 use Prim.Native.Nat.{ℕ, _*_, _-_}
 use mathlib.Core.List.{List}
 use lib.ListN.{take, drop}
 use Rattle.files.specs.Bytes.{countOf, offsetOf, records}
-
--- ---- definitions
 
 -- record number i, from 0
 unfoldable pub recordAt : ℕ → ℕ → List ℕ → List ℕ

@@ -1,4 +1,4 @@
--- Yes and no: a saturated table accepts a configuration from its control exactly if a finite run of the rules leads from it into the target.
+-- A configuration reaches the target by a finite run: in document 01's words, and in the published ones.
 -- Assumes nothing.
 pub mod Laws
 use Prim.Native.Nat.{ℕ}

@@ -1,4 +1,4 @@
--- The turns of the loop over edges, and what does not depend on the inner edges.
+-- The edges of one state.
 -- Assumes nothing.
 pub mod Laws
 use Prim.Native.Nat.{ℕ}

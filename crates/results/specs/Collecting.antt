@@ -1,4 +1,4 @@
--- The loop over the rules of a body, and what it ends with.
+-- The rules of a body and the results of a round.
 -- Assumes nothing.
 pub mod Laws
 use Prim.Native.Nat.{ℕ, _*_, _≤_, _<_}

@@ -1,4 +1,4 @@
--- The turns of the loop over entries.
+-- The entries that a rule uses.
 -- Assumes nothing.
 pub mod Laws
 use Prim.Native.Nat.{ℕ}

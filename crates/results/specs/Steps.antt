@@ -1,4 +1,4 @@
--- The turns of the loops over premises and rules.
+-- What one move and what one entry give by a rule.
 -- Assumes nothing.
 pub mod Laws
 use Prim.Native.Nat.{ℕ, _+_}

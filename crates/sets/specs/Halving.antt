@@ -1,4 +1,4 @@
--- The search for the least member of a set: the set is halved while it is even, and the number of halvings is the member.
+-- The search for the least member of a set: the set is halved while it is even.
 -- Assumes nothing.
 pub mod Laws
 use Prim.Native.Nat.{ℕ, _*_, _^_, _<_}

@@ -2,3 +2,4 @@
 -- Assumes nothing.
 pub mod Decimal
 pub mod Printed
+pub mod Lines

@@ -1,4 +1,4 @@
--- Laws of the definitions in Cells.antt.
+-- The pass over the cells gives each its word: that of the stack that it stands for.
 -- Assumes nothing.
 use Prim.Native.Nat.{ℕ, zero, suc, _<_}
 use mathlib.Core.Path.{_≡_, refl, ap, sym, _∙_}

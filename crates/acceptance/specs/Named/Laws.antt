@@ -1,4 +1,4 @@
--- Laws of the definitions in Named.antt.
+-- States of tables that name small states only are below 64.
 -- Assumes nothing.
 use Prim.Native.Nat.{ℕ, _+_, _-_, _<_}
 use mathlib.Core.Path.{_≡_, refl, ap, sym, _∙_, subst}

@@ -1,4 +1,4 @@
--- Laws of the definitions in Table.antt.
+-- The tables that saturation leaves hold the saturated table of a sound case, and keep what acceptance asks of tables.
 -- Assumes nothing.
 use Prim.Native.Nat.{ℕ, _+_, _≤_, _<_}
 use mathlib.Core.Path.{_≡_, ap, sym, _∙_, subst}

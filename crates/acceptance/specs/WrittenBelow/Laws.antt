@@ -1,4 +1,4 @@
--- Laws of the definitions in WrittenBelow.antt.
+-- A list written from the front: none, one element more, all.
 -- Assumes nothing.
 use Prim.Native.Nat.{ℕ, suc, _+_, _≤_, _<_}
 use mathlib.Core.Path.{_≡_, refl, ap, sym, _∙_}

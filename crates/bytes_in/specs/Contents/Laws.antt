@@ -1,4 +1,4 @@
--- Laws of the definitions in Contents.antt.
+-- A table of contents is right exactly if each of its lines is, one after another.
 -- Assumes nothing.
 use Prim.Native.Nat.{ℕ, zero, suc, _+_, _*_, _/_, _-_, _<_, _≤_}
 use mathlib.Core.Bool.{true, false, _&&_}

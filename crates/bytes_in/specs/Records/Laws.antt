@@ -1,4 +1,4 @@
--- Laws of the definitions in Records.antt.
+-- Records by number, and tests over all of them one by one.
 -- Assumes nothing.
 use Prim.Native.Nat.{ℕ, zero, suc, _+_, _*_, _-_, _<_, _≤_}
 use mathlib.Core.Bool.{Bool, true, false, and-false, false≢true}

@@ -1,4 +1,4 @@
--- Laws of the definitions in Refusal.antt.
+-- The refusal of a case is that of the first test that fails.
 -- Assumes nothing.
 use Prim.Native.Nat.{ℕ}
 use mathlib.Core.Bool.{Bool, true, false, not, _&&_}

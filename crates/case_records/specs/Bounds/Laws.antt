@@ -1,4 +1,4 @@
--- Laws of the definitions in Bounds.antt.
+-- A record keeps its bounds exactly if each part does.
 -- Assumes nothing.
 use Prim.Native.Nat.{ℕ, zero, suc, _+_, _/_, _%_, _^_, _≤_}
 use mathlib.Core.Bool.{false, _&&_}

@@ -1,4 +1,4 @@
--- Laws of the definitions in Keys.antt.
+-- The order of two keys by their first numbers and their rests.
 -- Assumes nothing.
 use Prim.Native.Nat.{ℕ}
 use mathlib.Core.Bool.{Bool, false}

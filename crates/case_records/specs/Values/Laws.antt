@@ -1,4 +1,4 @@
--- Laws of the definitions in Values.antt.
+-- An operation of the code is that of its code number.
 -- Assumes nothing.
 use Prim.Native.Nat.{ℕ, zero, suc, _≤_, _<_}
 use mathlib.Core.Path.{_≡_, refl}

@@ -1,4 +1,4 @@
--- Laws of the definitions in Decoded.antt.
+-- The loops over the edges and moves of a case, turn by turn.
 -- Assumes nothing.
 use Prim.Native.Nat.{ℕ, suc, _+_, _*_, _-_, _≤_, _<_}
 use mathlib.Core.Path.{_≡_, refl, ap, ap₂, sym, _∙_}

@@ -1,4 +1,4 @@
--- Laws of the definitions in Own.antt.
+-- What the three loops write is the case's own automaton.
 -- Assumes nothing.
 use Prim.Native.Nat.{ℕ, _*_, _≤_}
 use mathlib.Core.Path.{_≡_, ap, ap₂, sym, _∙_}

@@ -1,4 +1,4 @@
--- Laws of the definitions in FullRun.antt.
+-- A guide's halt in the words of the walk is its halt in document 01's words.
 -- Assumes nothing.
 use Prim.Native.Nat.{ℕ, suc, _+_, _-_, _≤_, _<_}
 use mathlib.Core.Path.{_≡_, ap, sym, _∙_}

@@ -1,4 +1,4 @@
--- Laws of the definitions in Reach.antt.
+-- Yes and no: a saturated table accepts a configuration from its control exactly if a finite run of the rules leads from it into the target.
 -- Assumes nothing.
 use Prim.Native.Nat.{ℕ}
 use mathlib.Core.Bool.{true}

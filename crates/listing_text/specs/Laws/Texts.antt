@@ -22,7 +22,7 @@ use Rattle.tables.specs.Rows.Laws.{length-rowsIn}
 use Rattle.tables.specs.Layouts.{entryRow, moveRow}
 use Rattle.start_file.specs.Checks.{filesOf}
 use Rattle.saturate.specs.Service.Laws.{done-filled}
-use Rattle.text.specs.Lines.Laws.{startLine-is}
+use Rattle.text.specs.Laws.Lines.{startLine-is}
 use Rattle.sound_files.specs.Sound.Laws.{starts-few}
 use Rattle.sound_files.specs.Refusal.{FilesSound, filesRefusal, refusedBefore}
 use Rattle.sound_files.specs.Refusal.Laws.{by-files}

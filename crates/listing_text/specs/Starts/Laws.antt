@@ -10,7 +10,7 @@ use Rattle.files.specs.Start.{Files}
 use Rattle.services.specs.Listing.{startLine, startLines}
 use Rattle.text.specs.Written.{Written}
 use Rattle.text.specs.Written.Laws.{written-then, written-same}
-use Rattle.text.specs.Lines.Laws.{startLines-next}
+use Rattle.text.specs.Laws.Lines.{startLines-next}
 use Rattle.listing_text.specs.Starts.{Lined}
 
 module _ {f : Files} where

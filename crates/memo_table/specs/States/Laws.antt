@@ -1,4 +1,4 @@
--- Laws of the definitions in States.antt.
+-- A state as nine words and back, and the comparison of two states.
 -- Assumes nothing.
 use Prim.Native.Nat.{ℕ, _+_, _*_, _/_, _%_, _≤_, _<_}
 use mathlib.Core.Bool.{true, false}

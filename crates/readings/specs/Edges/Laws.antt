@@ -1,4 +1,4 @@
--- Laws of the definitions in Edges.antt.
+-- The turns of the loop over edges, and what does not depend on the inner edges.
 -- Assumes nothing.
 use Prim.Native.Nat.{ℕ, _+_, _≤_, _<_}
 use mathlib.Core.Bool.{Bool}

@@ -1,4 +1,4 @@
--- Laws of the definitions in Turns.antt.
+-- The loop over the moves of a state: none, one more, all.
 -- Assumes nothing.
 use Prim.Native.Nat.{ℕ, _+_, _≤_, _<_}
 use mathlib.Core.Path.{_≡_, refl, ap, sym, _∙_}

@@ -1,4 +1,4 @@
--- Laws of the definitions in Collecting.antt.
+-- The loop over the rules of a body, and what it ends with.
 -- Assumes nothing.
 use Prim.Native.Nat.{ℕ, _+_, _≤_, _<_}
 use mathlib.Core.Bool.{not}

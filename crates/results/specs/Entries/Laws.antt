@@ -1,4 +1,4 @@
--- Laws of the definitions in Entries.antt.
+-- The turns of the loop over entries.
 -- Assumes nothing.
 use Prim.Native.Nat.{ℕ, _+_, _-_, _≤_, _<_}
 use mathlib.Core.Bool.{Bool}

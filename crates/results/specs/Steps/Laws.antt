@@ -1,4 +1,4 @@
--- Laws of the definitions in Steps.antt.
+-- The turns of the loops over premises and rules.
 -- Assumes nothing.
 use Prim.Native.Nat.{ℕ, _+_, _≤_, _<_}
 use mathlib.Core.Bool.{Bool, true, false, _&&_, and-false}

@@ -1,4 +1,4 @@
--- Laws of the definitions in Uses.antt.
+-- What a rule gives by its use is what its operation gives.
 -- Assumes nothing.
 use Prim.Native.Nat.{ℕ}
 use mathlib.Core.Path.{_≡_, refl, ap, sym, _∙_}

@@ -1,4 +1,4 @@
--- Laws of the definitions in Halving.antt.
+-- The number of halvings of a set is its least member.
 -- Assumes nothing.
 use Prim.Native.Nat.{ℕ, _+_, _-_, _*_, _/_, _%_, _^_, _≤_, _<_}
 use mathlib.Core.Path.{_≡_, ap, sym, _∙_}

@@ -1,4 +1,4 @@
--- Laws of the definitions in Records.antt.
+-- Each record as words and back.
 -- Assumes nothing.
 use Prim.Native.Nat.{ℕ, _<_}
 use mathlib.Core.Path.{_≡_, refl}

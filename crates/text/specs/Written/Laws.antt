@@ -1,4 +1,4 @@
--- Laws of the definitions in Written.antt.
+-- One text after another, and what a text keeps.
 -- Assumes nothing.
 use Prim.Native.Nat.{ℕ, suc, _+_, _≤_}
 use mathlib.Core.Path.{_≡_, ap, sym, _∙_}

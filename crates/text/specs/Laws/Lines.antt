@@ -1,4 +1,4 @@
--- Laws of the definitions in Lines.antt.
+-- The lines of the starts, one after another.
 -- Assumes nothing.
 use Prim.Native.Nat.{ℕ, zero, suc, _+_}
 use mathlib.Core.Path.{_≡_, refl, ap, sym, _∙_}
