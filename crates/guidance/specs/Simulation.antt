@@ -7,7 +7,7 @@ use mathlib.Core.List.{List, [], _∷_, _++_, zipWith, map-append}
 use native.Mathlib.Omega.{arith}
 use lib.ListN.{length, getElem?, length-map}
 use lib.Dec.{ltb}
-use Rattle.words.specs.Tests.{by-test}
+use Rattle.words.specs.Laws.Tests.{by-test}
 use Rattle.stacks.specs.Stack.{Operation, rewrite, push1, push2, copy, pop1, pop2, collapse1, collapse2}
 use Rattle.stacks.specs.System.{Rule}
 use Rattle.automata.specs.Automaton.{Automaton, edgeAt, moveAt}

@@ -12,7 +12,7 @@ use lib.ListN.{length, getD, length-append}
 use lib.Seq.{getD-append-seam}
 use lib.Dec.{eqb}
 use borrow.Author.Tests.{eqb-true, eqb-false, not-true}
-use Rattle.words.specs.Tests.{by-test}
+use Rattle.words.specs.Laws.Tests.{by-test}
 use Rattle.words.specs.Lists.{only}
 use Rattle.words.specs.Lists.Laws.{only-in, only-out, only-no, length-zero}
 use Rattle.words.specs.Order.{sorted}

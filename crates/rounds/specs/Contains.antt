@@ -11,7 +11,7 @@ use lib.Dec.{ltb}
 use borrow.Author.Tests.{ltb-true, ltb-false}
 use Rattle.words.specs.Sets.{join, single}
 use Rattle.words.specs.Sets.Laws.{Has, All, all-empty, all-join, has-join-left, has-join-right, has-single, all-single, has-part, part-antisym}
-use Rattle.words.specs.Tests.{by-test}
+use Rattle.words.specs.Laws.Tests.{by-test}
 use Rattle.words.specs.Lists.Laws.{getElem?-some, getElem?-below}
 use Rattle.automata.specs.Automaton.{Automaton, Move, Edge, Entry, noEntry, entryKey, entryAt}
 use Rattle.automata.specs.Automaton.Laws.{entryAt-some, entryAt-entry, entryAt-range}

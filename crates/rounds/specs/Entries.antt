@@ -11,7 +11,7 @@ use lib.ListN.{length, getD, getElem?, length-append}
 use lib.Seq.{getD-append-seam}
 use lib.Dec.{eqb}
 use borrow.Author.Tests.{eqb-true, eq-eqb}
-use Rattle.words.specs.Tests.{by-test, and-left, and-right}
+use Rattle.words.specs.Laws.Tests.{by-test, and-left, and-right}
 use Rattle.words.specs.Lists.Laws.{getElem?-some, getElem?-below, getD-in, last-or-before}
 use Rattle.automata.specs.Automaton.{Entry, noEntry, entryKey}
 use Rattle.automata.specs.Automaton.Laws.{entry, entryKey-eq}

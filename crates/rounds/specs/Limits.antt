@@ -11,8 +11,8 @@ use native.Mathlib.Omega.{arith}
 use lib.ListN.{length}
 use lib.Dec.{eqb, leb}
 use borrow.Author.Tests.{eqb-true, eqb-false, eq-eqb, ne-eqb, leb-true, leb-false, le-leb}
-use Rattle.words.specs.Tests.{by-test, and-left, and-right}
-use Rattle.words.specs.Numbers.{below-suc}
+use Rattle.words.specs.Laws.Tests.{by-test, and-left, and-right}
+use Rattle.words.specs.Laws.Numbers.{below-suc}
 use Rattle.stacks.specs.System.{Rule}
 use Rattle.automata.specs.Automaton.{Automaton}
 use Rattle.automata.specs.Saturation.{round, tableAfter, Size, sizeOf, within, Saturated, saturateFrom, saturate}

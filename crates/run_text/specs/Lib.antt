@@ -1,2 +1,2 @@
 pub mod Bounds
-pub mod Answers
+pub mod Laws

@@ -14,7 +14,7 @@ use Rattle.tables.specs.declared.Table.{Table}
 use Rattle.tables.specs.Rows.{rowsIn}
 use Rattle.tables.specs.Layouts.{entryRow, moveRow}
 use Rattle.tables.specs.Held.{automatonOf}
-use Rattle.tables.specs.Filled.{Filled}
+use Rattle.tables.specs.Laws.Filled.{Filled}
 use Rattle.saturation.specs.Running.{mostMoves, mostEntries, ended}
 use Rattle.saturation.specs.Layout.{sizeRow}
 use Rattle.saturation.specs.Rounding.{Standing}

@@ -13,7 +13,7 @@ use Rattle.tables.specs.declared.Table.{Table}
 use Rattle.tables.specs.Rows.{rowsIn}
 use Rattle.tables.specs.Layouts.{entryRow, moveRow}
 use Rattle.tables.specs.Held.{automatonOf}
-use Rattle.tables.specs.Filled.{Filled}
+use Rattle.tables.specs.Laws.Filled.{Filled}
 
 -- From the first n rows of table t, entry e has number i, and t′ has it, if i is below `most`.
 pub record Entered (t : List ℕ) (n most : ℕ) (e : Entry) (i : ℕ) (t′ : List ℕ) : Type 0 where

@@ -15,7 +15,7 @@ use Rattle.tables.specs.declared.Table.{Table}
 use Rattle.tables.specs.Rows.{rowsIn}
 use Rattle.tables.specs.Layouts.{entryRow, moveRow}
 use Rattle.tables.specs.Held.{automatonOf, EdgesStand, EntriesStand, MovesStand}
-use Rattle.tables.specs.Filled.{Filled}
+use Rattle.tables.specs.Laws.Filled.{Filled}
 use Rattle.saturation.specs.Rounding.{Standing}
 use Rattle.saturation.specs.Layout.{sizeRow}
 

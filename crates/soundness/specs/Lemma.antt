@@ -10,7 +10,7 @@ use native.Mathlib.Omega.{arith}
 use lib.ListN.{length, getElem?}
 use lib.Dec.{ltb}
 use borrow.Author.Tests.{ltb-true, ltb-false}
-use Rattle.words.specs.Tests.{by-test}
+use Rattle.words.specs.Laws.Tests.{by-test}
 use Rattle.words.specs.Sets.Laws.{All}
 use Rattle.words.specs.Lists.Laws.{getElem?-in}
 use Rattle.stacks.specs.Stack.{Operation}

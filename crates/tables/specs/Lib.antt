@@ -3,6 +3,5 @@ pub mod Records
 pub mod Insertion
 pub mod Pending
 pub mod Held
-pub mod Filled
 pub mod Layouts
 pub mod Laws

@@ -9,7 +9,7 @@ use Rattle.words.specs.Sets.{member, partOf, members}
 use Rattle.words.specs.Sets.Laws.{member-join, member-empty, member-single, has-in, in-has, part-has, has-part}
 use Rattle.words.specs.Lists.{only, every, some-of}
 use Rattle.words.specs.Lists.Laws.{every-in, in-every, only-yes, only-no, some-of-cons}
-use Rattle.words.specs.Tests.{by-test, equal-tests}
+use Rattle.words.specs.Laws.Tests.{by-test, equal-tests}
 use Rattle.stacks.specs.Stack.{Stack1, nil1, cons1, Stack2, nil2, cons2, Annotation, of1, of2, annotationOrder}
 use Rattle.automata.specs.Automaton.{Automaton, edges}
 use Rattle.automata.specs.Acceptance.{accepts1, accepts2, acceptsAnnotation}

@@ -11,7 +11,7 @@ use lib.Seq.{take-suc, take-all}
 use lib.Dec.{eqb}
 use Rattle.words.specs.Sets.{join, single, partOf}
 use Rattle.words.specs.Sets.Laws.{join-comm, join-assoc}
-use Rattle.words.specs.Tests.{by-test}
+use Rattle.words.specs.Laws.Tests.{by-test}
 use Rattle.acceptance.specs.Words.{annotationMet, statesMet, withState}
 
 -- ---- an annotation

@@ -7,7 +7,7 @@ use mathlib.Core.Path.{_≡_, refl, ap, ap₂, sym, _∙_, subst}
 use mathlib.Core.List.{List, List·Memᴰ}
 use lib.ListN.{getD}
 use lib.Dec.{eqb}
-use Rattle.words.specs.Tests.{and-left, and-right}
+use Rattle.words.specs.Laws.Tests.{and-left, and-right}
 use Rattle.words.specs.Sets.{members}
 use Rattle.words.specs.Sets.Laws.{Has, All, has-in, in-has}
 use Rattle.words.specs.Lists.{only, every, some-of, places}

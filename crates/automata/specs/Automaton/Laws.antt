@@ -13,8 +13,8 @@ use lib.ListN.{length, getD, getElem?, length-append, List·getD-append}
 use lib.Seq.{getD-append-add}
 use lib.Dec.{eqb, leb, ltb}
 use borrow.Author.Tests.{eqb-true, eq-eqb, leb-true, le-leb, ltb-true, ltb-false}
-use Rattle.words.specs.Tests.{by-test, and-left, and-right}
-use Rattle.words.specs.Options.{by-option}
+use Rattle.words.specs.Laws.Tests.{by-test, and-left, and-right}
+use Rattle.words.specs.Laws.Options.{by-option}
 use Rattle.words.specs.Lists.Laws.{getD-in, in-getD, getElem?-below, getElem?-some, places-in, places-out}
 use Rattle.automata.specs.Automaton.{Automaton, Move, Edge, Entry, noMove, noEdge, noEntry, entryKey, entryEdges, edges, edgeAt, moveAt, edgesOf, movesOf, entryAt, entryOf, entryControl, entrySet, entryEdge}
 

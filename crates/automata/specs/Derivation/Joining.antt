@@ -11,7 +11,7 @@ use lib.Dec.{eqb, leb}
 use borrow.Author.Tests.{eqb-true, eq-eqb, leb-true, leb-false}
 use Rattle.words.specs.Sets.{join, single, partOf}
 use Rattle.words.specs.Sets.Laws.{Has, All, all-empty, all-join, has-empty, has-join-left, has-join-right, has-single, all-single, join-empty-left, join-zero, part-refl, part-trans, part-join-left, part-join-right}
-use Rattle.words.specs.Tests.{by-test}
+use Rattle.words.specs.Laws.Tests.{by-test}
 use Rattle.automata.specs.Automaton.{Automaton, Move, moveAt, edgeAt}
 use Rattle.automata.specs.Derivation.{Joins, joinsOf, clash, joinMove, joinMoves, joinAll, named, edgeSets}
 

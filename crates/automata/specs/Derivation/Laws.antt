@@ -13,7 +13,7 @@ use lib.ListN.{getD, getElem?}
 use lib.Dec.{eqb}
 use borrow.Author.Tests.{eqb-true, eq-eqb}
 use Rattle.words.specs.Sets.{join, single, members}
-use Rattle.words.specs.Tests.{or-cases}
+use Rattle.words.specs.Laws.Tests.{or-cases}
 use Rattle.words.specs.Lists.{each, when}
 use Rattle.words.specs.Lists.Laws.{each-in, each-out, when-in, when-out, first-some, some-first}
 use Rattle.words.specs.Order.{same}

@@ -9,7 +9,7 @@ use native.Mathlib.Omega.{arith}
 use lib.ListN.{getD}
 use lib.Dec.{eqb}
 use borrow.Author.Tests.{eqb-true, eq-eqb}
-use Rattle.words.specs.Tests.{and-left, and-right}
+use Rattle.words.specs.Laws.Tests.{and-left, and-right}
 use Rattle.words.specs.Sets.{members}
 use Rattle.words.specs.Order.{rising}
 use Rattle.words.specs.Order.Laws.{risingFrom-less, rising-tail, rising-cons, one-less}

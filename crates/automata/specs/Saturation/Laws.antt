@@ -10,7 +10,7 @@ use lib.ListN.{length, take, drop, length-take, take-append-drop}
 use lib.Seq.{take-append-seam}
 use lib.Dec.{leb}
 use borrow.Author.Tests.{leb-true, le-leb, lt-leb}
-use Rattle.words.specs.Tests.{by-test, and-left, and-right}
+use Rattle.words.specs.Laws.Tests.{by-test, and-left, and-right}
 use Rattle.words.specs.Order.Laws.{same-eq, eq-same}
 use Rattle.words.specs.Lists.Laws.{some-of-in, some-of-out}
 use Rattle.stacks.specs.System.{Rule}

@@ -10,7 +10,7 @@ use borrow.Author.Tests.{eq-eqb, ne-eqb}
 use native.Mathlib.Nat.{mul-le-mul}
 use native.Mathlib.Numerals.{add-one}
 use native.Mathlib.Omega.{arith}
-use Rattle.words.specs.Tests.{by-test}
+use Rattle.words.specs.Laws.Tests.{by-test}
 use Rattle.files.specs.Bytes.{Body, countOf, offsetOf, lineRight, bodiesPlaced, placed}
 use Rattle.files.specs.Bytes.Laws.{line-facts, bodies-first, bodies-end, placed-bodies}
 use Rattle.bytes_in.specs.declared.NextBody.the-variants.{At, Wrong}

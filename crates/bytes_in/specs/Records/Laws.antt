@@ -12,7 +12,7 @@ use native.Mathlib.Numerals.{add-one}
 use native.Mathlib.Omega.{arith}
 use Rattle.words.specs.Lists.{every}
 use Rattle.words.specs.Lists.Laws.{every-append, every-cons}
-use Rattle.words.specs.Tests.{by-test}
+use Rattle.words.specs.Laws.Tests.{by-test}
 use Rattle.words.specs.Order.{less, rising, risingFrom}
 use Rattle.words.specs.Order.Laws.{less-transitive, append-rising-less, append-rising-left, rising-snoc}
 use Rattle.files.specs.Bytes.{countOf, offsetOf, records, recordsOf}

@@ -13,7 +13,7 @@ use Rattle.words.specs.Sets.{member, members}
 use Rattle.words.specs.Sets.Laws.{Has, has-below, has-empty, has-in, in-has, zero-or-member}
 use Rattle.words.specs.Lists.{every}
 use Rattle.words.specs.Lists.Laws.{in-every, every-in}
-use Rattle.words.specs.Tests.{by-test, and-left, and-right, equal-tests}
+use Rattle.words.specs.Laws.Tests.{by-test, and-left, and-right, equal-tests}
 
 -- ---- members of the high and of the low part of a word
 

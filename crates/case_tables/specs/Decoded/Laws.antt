@@ -10,7 +10,7 @@ use lib.Seq.{drop-drop}
 use native.Mathlib.Nat.{zero-add}
 use native.Mathlib.Omega.{arith}
 use Rattle.words.specs.Lists.{only}
-use Rattle.words.specs.Tests.{by-test}
+use Rattle.words.specs.Laws.Tests.{by-test}
 use Rattle.words.specs.Order.{insert, sorted}
 use Rattle.automata.specs.Automaton.{Move, Edge, Entry, choiceKey}
 use Rattle.files.specs.Bytes.{records}

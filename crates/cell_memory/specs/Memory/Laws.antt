@@ -12,7 +12,7 @@ use lib.Dec.{eqb, ltb}
 use borrow.Author.Tests.{ne-eqb, eqb-true, eqb-false, ltb-true, ltb-false}
 use Rattle.words.specs.Lists.{zeros}
 use Rattle.words.specs.Lists.Laws.{length-zeros}
-use Rattle.words.specs.Tests.{by-test}
+use Rattle.words.specs.Laws.Tests.{by-test}
 use Rattle.walks.specs.Cell as walks
 use Rattle.walks.specs.Guide.{Guided, noGuided}
 use Rattle.cell_memory.specs.declared.Cell.{Cell}

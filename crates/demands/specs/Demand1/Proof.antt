@@ -10,7 +10,7 @@ use lib.ListN.{length, length-append, length-map}
 use lib.Dec.{leb}
 use Rattle.words.specs.Lists.{each, zeros}
 use Rattle.words.specs.Lists.Laws.{length-zeros}
-use Rattle.words.specs.Tests.{by-test}
+use Rattle.words.specs.Laws.Tests.{by-test}
 use Rattle.automata.specs.Automaton.{Automaton}
 use Rattle.automata.specs.Saturation.{Saturated}
 use Rattle.rounds.specs.Limits.{KeepsLimits, saturate-some, within-keeps}

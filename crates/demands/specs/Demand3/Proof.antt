@@ -13,7 +13,7 @@ use Rattle.stacks.specs.System.{Configuration, Run}
 use lib.Dec.{leb}
 use borrow.Author.Tests.{eqb-false, leb-true, leb-false}
 use Rattle.words.specs.Lists.Laws.{getD-in}
-use Rattle.words.specs.Tests.{by-test}
+use Rattle.words.specs.Laws.Tests.{by-test}
 use Rattle.automata.specs.Automaton.{Automaton}
 use Rattle.automata.specs.Saturation.{Saturated}
 use Rattle.replies.specs.declared.Reply.the-variants.{Walked}

@@ -11,7 +11,7 @@ use lib.Dec.{eqb, leb}
 use borrow.Author.Tests.{eqb-true, eq-eqb, leb-true, not-true}
 use Rattle.words.specs.Lists.{every}
 use Rattle.words.specs.Lists.Laws.{every-cons}
-use Rattle.words.specs.Tests.{by-test, and-left, and-right}
+use Rattle.words.specs.Laws.Tests.{by-test, and-left, and-right}
 use Rattle.files.specs.Bytes.{records, Body, kindOf, countOf, offsetOf, lineRight, bodiesPlaced, placed, recordsOf, Test, firstHit, testsOn}
 
 -- ---- refusals

@@ -11,7 +11,7 @@ use lib.Dec.{leb}
 use borrow.Author.Tests.{leb-true, not-false}
 use Rattle.words.specs.Lists.{every}
 use Rattle.words.specs.Lists.Laws.{every-in}
-use Rattle.words.specs.Tests.{and-left, and-right}
+use Rattle.words.specs.Laws.Tests.{and-left, and-right}
 use Rattle.words.specs.Order.{rising}
 use Rattle.stacks.specs.System.{Rule}
 use Rattle.automata.specs.Automaton.{Move, Edge, noEntry, entryKey}

@@ -11,7 +11,7 @@ use borrow.Author.Tests.{eqb-true, eqb-false, ltb-true, ltb-false, leb-true, lt-
 use Rattle.words.specs.Sets.Laws.{All, has-in}
 use Rattle.words.specs.Lists.{only}
 use Rattle.words.specs.Lists.Laws.{every-in, only-out}
-use Rattle.words.specs.Tests.{and-left, and-right}
+use Rattle.words.specs.Laws.Tests.{and-left, and-right}
 use Rattle.words.specs.Order.{less, rising}
 use Rattle.words.specs.Order.Laws.{less-cons, less-lt, less-eq, one-less, rising-only, rising-map, sorted-rising, sorted-out}
 use Rattle.automata.specs.Automaton.{Move, Edge, Entry, choiceKey, entryKey}

@@ -12,7 +12,7 @@ use lib.Dec.{eqb, ltb}
 use borrow.Author.Tests.{eqb-true, ltb-true, not-false}
 use Rattle.words.specs.Lists.{every}
 use Rattle.words.specs.Lists.Laws.{every-in}
-use Rattle.words.specs.Tests.{by-test, and-left, and-right}
+use Rattle.words.specs.Laws.Tests.{by-test, and-left, and-right}
 use Rattle.walks.specs.Cell.{Cell, empty1, symbol, empty2, above}
 use Rattle.walks.specs.Cell.Formed.{cellOrder, orderAt, Refers, Formed, formed-below}
 use Rattle.walks.specs.Cell.Values.{getD-map-below}

@@ -9,7 +9,7 @@ use lib.ListN.{length, getD, getElem?, set, replicate, length-set, length-replic
 use lib.Seq.{getD-set-same, getD-set-other}
 use lib.Dec.{eqb, ltb}
 use borrow.Author.Tests.{eqb-true, eqb-false, ltb-true, ltb-false}
-use Rattle.words.specs.Tests.{by-test}
+use Rattle.words.specs.Laws.Tests.{by-test}
 use Rattle.stacks.specs.System.{Rule}
 use Rattle.automata.specs.Automaton.{Automaton}
 use Rattle.automata.specs.Derivation.{Result, Derivation, firstDerivation}

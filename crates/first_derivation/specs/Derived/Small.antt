@@ -8,8 +8,8 @@ use native.Mathlib.Omega.{arith}
 use lib.ListN.{length, getD, List·getD-eq-default}
 use lib.Dec.{ltb}
 use borrow.Author.Tests.{ltb-true, ltb-false}
-use Rattle.words.specs.Tests.{by-test}
-use Rattle.words.specs.Options.{by-option}
+use Rattle.words.specs.Laws.Tests.{by-test}
+use Rattle.words.specs.Laws.Options.{by-option}
 use Rattle.words.specs.Sets.{single, members}
 use Rattle.words.specs.Sets.Laws.{Has, has-below, has-empty, single-has, join-cases, in-has}
 use Rattle.words.specs.Lists.Laws.{getElem?-some}

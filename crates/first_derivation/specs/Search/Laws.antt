@@ -12,7 +12,7 @@ use Rattle.words.specs.Sets.{join, single, members}
 use Rattle.words.specs.Sets.Laws.{join-empty-left}
 use Rattle.words.specs.Lists.{each, when, first}
 use Rattle.words.specs.Lists.Laws.{none-first}
-use Rattle.words.specs.Tests.{by-test, and-left, and-right}
+use Rattle.words.specs.Laws.Tests.{by-test, and-left, and-right}
 use Rattle.words.specs.Order.{same}
 use Rattle.words.specs.Order.Laws.{same-eq}
 use Rattle.stacks.specs.Stack.{Operation, rewrite, push1, push2, copy, pop1, pop2, collapse1, collapse2}

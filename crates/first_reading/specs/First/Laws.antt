@@ -12,7 +12,7 @@ use lib.ListN.{length, getD, take}
 use lib.Seq.{take-length}
 use Rattle.words.specs.Lists.{each, when, first, places, placesFrom}
 use Rattle.words.specs.Lists.Laws.{first-yes, first-no, places-take}
-use Rattle.words.specs.Tests.{by-test}
+use Rattle.words.specs.Laws.Tests.{by-test}
 use Rattle.first_reading.specs.First.{orElse, onlyIf, isSome, firstBelow, firstOf}
 
 -- ---- one answer or another

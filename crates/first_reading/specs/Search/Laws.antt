@@ -10,7 +10,7 @@ use Rattle.words.specs.Sets.{join, single, members}
 use Rattle.words.specs.Sets.Laws.{join-assoc, join-empty-right}
 use Rattle.words.specs.Lists.{first, choices}
 use Rattle.words.specs.Lists.Laws.{none-first}
-use Rattle.words.specs.Tests.{by-test}
+use Rattle.words.specs.Laws.Tests.{by-test}
 use Rattle.words.specs.Order.{same}
 use Rattle.automata.specs.Automaton.{Automaton, moveAt, edgeAt, edgesOf, movesOf}
 use Rattle.automata.specs.Derivation.{Joins, joinMove, joinMoves, joinAll, named, edgeSets}

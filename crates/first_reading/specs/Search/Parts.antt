@@ -13,7 +13,7 @@ use Rattle.words.specs.Sets.{join, single, partOf}
 use Rattle.words.specs.Sets.Laws.{part-refl, part-trans, part-join-left}
 use Rattle.words.specs.Lists.{first, choices}
 use Rattle.words.specs.Lists.Laws.{first-some}
-use Rattle.words.specs.Tests.{by-test}
+use Rattle.words.specs.Laws.Tests.{by-test}
 use Rattle.words.specs.Order.Laws.{same-eq}
 use Rattle.automata.specs.Automaton.{Automaton, edgeAt, edgesOf, movesOf}
 use Rattle.automata.specs.Derivation.{Result, Joins, joinAll}

@@ -9,7 +9,7 @@ use lib.ListN.{getD, set}
 use lib.Dec.{eqb}
 use Rattle.words.specs.Sets.{members}
 use Rattle.words.specs.Sets.Laws.{members-empty}
-use Rattle.words.specs.Tests.{by-test}
+use Rattle.words.specs.Laws.Tests.{by-test}
 use Rattle.words.specs.Order.{same}
 use Rattle.automata.specs.Automaton.{Automaton, Move, noMove, moveAt, movesOf}
 use Rattle.automata.specs.Derivation.{Result, Joins, joinMove}

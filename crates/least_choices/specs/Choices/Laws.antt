@@ -11,7 +11,7 @@ use lib.Seq.{drop-cons}
 use lib.Dec.{eqb}
 use Rattle.words.specs.Lists.{only, placesFrom}
 use Rattle.words.specs.Lists.Laws.{only-yes, only-no}
-use Rattle.words.specs.Tests.{by-test, and-left, and-right}
+use Rattle.words.specs.Laws.Tests.{by-test, and-left, and-right}
 use Rattle.walks.specs.Guide.{Guided, firstOrZero}
 use Rattle.cell_memory.specs.Memory.{guidedCell}
 use Rattle.cell_memory.specs.Memory.Laws.{choosing, length-withChoice, withChoice-other, withChoice-guided}

@@ -8,7 +8,7 @@ use lib.ListN.{length, getD}
 use lib.Seq.{ext-getD}
 use lib.Dec.{eqb}
 use borrow.Author.Tests.{eqb-true, eqb-false}
-use Rattle.words.specs.Tests.{by-test}
+use Rattle.words.specs.Laws.Tests.{by-test}
 use Rattle.stacks.specs.Stack.{nil1, Annotation, of1}
 use Rattle.automata.specs.Automaton.{Automaton, edges}
 use Rattle.walks.specs.Cell as walks

@@ -9,7 +9,7 @@ use native.Mathlib.Omega.{arith}
 use lib.ListN.{length, getD}
 use lib.Dec.{eqb}
 use borrow.Author.Tests.{eq-eqb}
-use Rattle.words.specs.Tests.{by-test}
+use Rattle.words.specs.Laws.Tests.{by-test}
 use Rattle.words.specs.Order.{same}
 use Rattle.words.specs.Order.Laws.{same-eq, differs-same}
 use Rattle.tables.specs.Rows.{firstOf}

@@ -10,7 +10,7 @@ use lib.ListN.{length, getD, take}
 use lib.Seq.{take-all, take-suc}
 use lib.Dec.{ltb}
 use borrow.Author.Tests.{le-leb, lt-leb, ltb-true, ltb-false}
-use Rattle.words.specs.Tests.{by-test}
+use Rattle.words.specs.Laws.Tests.{by-test}
 use Rattle.words.specs.Lists.Laws.{length-zero}
 use Rattle.services.specs.Listing.{decimal}
 use Rattle.text.specs.Laws.Decimal.{decimal-one, decimal-more, length-more}

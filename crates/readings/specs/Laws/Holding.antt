@@ -13,7 +13,7 @@ use lib.Seq.{take-all}
 use borrow.Author.Tests.{eqb-true, eqb-false}
 use Rattle.words.specs.Lists.{some-of}
 use Rattle.words.specs.Lists.Laws.{some-of-take, some-of-in, getD-in}
-use Rattle.words.specs.Tests.{by-test}
+use Rattle.words.specs.Laws.Tests.{by-test}
 use Rattle.words.specs.Order.{same}
 use Rattle.words.specs.Order.Laws.{differs-same, eq-same}
 use Rattle.automata.specs.Automaton.{Automaton, Move, noMove, Entry, entryAt, entryOf, entryControl, entrySet}

@@ -9,7 +9,7 @@ use native.Mathlib.Omega.{arith}
 use lib.ListN.{length}
 use lib.Dec.{leb}
 use borrow.Author.Tests.{leb-true, leb-false}
-use Rattle.words.specs.Tests.{by-test}
+use Rattle.words.specs.Laws.Tests.{by-test}
 use Rattle.words.specs.Order.{less, insert}
 use Rattle.words.specs.Order.Laws.{less-transitive, by-place, insert-before, insert-after, insert-held}
 use Rattle.automata.specs.Derivation.{Result, resultKey}

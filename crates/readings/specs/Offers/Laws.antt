@@ -16,7 +16,7 @@ use borrow.Author.Tests.{leb-true, leb-false}
 use native.Mathlib.Numerals.{add-one}
 use Rattle.words.specs.Lists.{each, when, only, places, placesFrom}
 use Rattle.words.specs.Lists.Laws.{only-yes, only-no, each-append, each-one, places-take}
-use Rattle.words.specs.Tests.{by-test}
+use Rattle.words.specs.Laws.Tests.{by-test}
 use Rattle.words.specs.Order.{insert, sorted, rising}
 use Rattle.words.specs.Order.Laws.{insert-out, insert-in, insert-key, insert-rising, sorted-unique}
 use Rattle.automata.specs.Automaton.{Automaton}

@@ -9,7 +9,7 @@ use lib.ListN.{length, getD}
 use Rattle.words.specs.Sets.{members}
 use Rattle.words.specs.Sets.Laws.{members-empty}
 use Rattle.words.specs.Lists.{when}
-use Rattle.words.specs.Tests.{by-test}
+use Rattle.words.specs.Laws.Tests.{by-test}
 use Rattle.automata.specs.Automaton.{Automaton, Move, noMove, moveAt, movesOf}
 use Rattle.automata.specs.Derivation.{Result, Joins, joinMove}
 use Rattle.tables.specs.declared.Table.{Table}

@@ -7,7 +7,7 @@ use borrow.Author.Needs.{needs}
 use Rattle.services.specs.Listing.{ascii}
 use Rattle.text.specs.Written.Laws.{written-then}
 use Rattle.run_text.specs.Bounds.{Bounded}
-use Rattle.run_text.specs.Answers.{walk-text}
+use Rattle.run_text.specs.Laws.Answers.{walk-text}
 use Rattle.run_text.proofs.put_walk.Statement.{statement}
 use Rattle.run_text.proofs.put_walk.Tie as tie
 

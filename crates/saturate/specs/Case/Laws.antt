@@ -12,7 +12,7 @@ use lib.Dec.{leb, ltb}
 use borrow.Author.Tests.{not-false, leb-true, leb-false}
 use Rattle.words.specs.Lists.{only, every, zeros}
 use Rattle.words.specs.Lists.Laws.{getD-in, only-yes, only-no}
-use Rattle.words.specs.Tests.{by-test}
+use Rattle.words.specs.Laws.Tests.{by-test}
 use Rattle.words.specs.Order.{insert, sorted}
 use Rattle.words.specs.Order.Laws.{by-place, insert-before, insert-after, insert-held}
 use Rattle.stacks.specs.System.{Rule}
@@ -31,7 +31,7 @@ use Rattle.tables.specs.Rows.{Layout, rowAt, rowsIn, putRow}
 use Rattle.tables.specs.Rows.Laws.{firstOf-list, length-rowsIn, getD-rowsIn}
 use Rattle.tables.specs.Layouts.{edgeRow, entryRow, moveRow}
 use Rattle.tables.specs.Held.{automatonOf}
-use Rattle.tables.specs.Filled.{Filled, filled-zeros, filled-put}
+use Rattle.tables.specs.Laws.Filled.{Filled, filled-zeros, filled-put}
 use Rattle.case_tables.specs.WrittenRows.{written}
 use Rattle.case_tables.specs.Own.{RoomForOwn}
 use Rattle.results.specs.Collecting.{ruleIn, rulesIn, RulesStand}

@@ -20,7 +20,7 @@ use Rattle.tables.specs.Rows.{rowsIn}
 use Rattle.tables.specs.Rows.Laws.{length-rowsIn}
 use Rattle.tables.specs.Layouts.{entryRow, moveRow}
 use Rattle.tables.specs.Held.{automatonOf, EntriesStand, MovesStand}
-use Rattle.tables.specs.Filled.{Filled, filled-whole}
+use Rattle.tables.specs.Laws.Filled.{Filled, filled-whole}
 use Rattle.saturation.specs.Rounding.{Standing}
 use Rattle.saturation.specs.Rounding.Laws.{standing-entries, standing-moves}
 use Rattle.saturation.specs.Running.{mostMoves, mostEntries, ended}

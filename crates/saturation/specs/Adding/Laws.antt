@@ -21,7 +21,7 @@ use Rattle.tables.specs.Rows.{rowAt, rowsIn, putRow}
 use Rattle.tables.specs.Rows.Laws.{length-rowsIn, getD-rowsIn, length-putRow, put-more}
 use Rattle.tables.specs.Layouts.{entryRow, moveRow, edgeRow, resultRow}
 use Rattle.tables.specs.Held.{automatonOf}
-use Rattle.tables.specs.Filled.{Filled, filled-put}
+use Rattle.tables.specs.Laws.Filled.{Filled, filled-put}
 use Rattle.saturation.specs.Adding.{Entered, Growing, Grows, Added}
 
 -- ---- one entry

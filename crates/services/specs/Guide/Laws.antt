@@ -8,8 +8,8 @@ use mathlib.Core.List.{List, [], _++_}
 use lib.ListN.{length}
 use lib.Dec.{eqb, leb}
 use borrow.Author.Tests.{eqb-true, eqb-false, ne-eqb, le-leb, lt-leb, leb-true, leb-false}
-use Rattle.words.specs.Tests.{by-test}
-use Rattle.words.specs.Options.{by-option}
+use Rattle.words.specs.Laws.Tests.{by-test}
+use Rattle.words.specs.Laws.Options.{by-option}
 use Rattle.automata.specs.Saturation.{Saturated}
 use Rattle.replies.specs.declared.Halt.the-variants.{CellsShort}
 use Rattle.walks.specs.Guide.{Report, walkedBy, noRun, startWalk, guided}

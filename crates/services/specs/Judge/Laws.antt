@@ -9,8 +9,8 @@ use lib.ListN.{length}
 use lib.Dec.{eqb, ltb}
 use borrow.Author.Tests.{eqb-true, eqb-false, ne-eqb, lt-ltb, le-ltb, ltb-true, ltb-false}
 use Rattle.words.specs.Lists.{every}
-use Rattle.words.specs.Tests.{by-test}
-use Rattle.words.specs.Options.{by-option}
+use Rattle.words.specs.Laws.Tests.{by-test}
+use Rattle.words.specs.Laws.Options.{by-option}
 use Rattle.automata.specs.Saturation.{Saturated}
 use Rattle.files.specs.Bytes.{Test, firstHit, testsOn}
 use Rattle.files.specs.Bytes.Laws.{numbered, firstHit-past, firstHit-stays, firstHit-testsOn, numbered-testsOn, firstHit-fails, firstHit-passes}

@@ -6,7 +6,7 @@ use mathlib.Core.Path.{_≡_, refl, ap, sym, _∙_}
 use mathlib.Core.List.{List, _∷_, map}
 use native.Mathlib.Numerals.{add-one}
 use Rattle.words.specs.Lists.{every}
-use Rattle.words.specs.Tests.{by-test}
+use Rattle.words.specs.Laws.Tests.{by-test}
 use Rattle.files.specs.Bytes.{placed, firstHit, records}
 use Rattle.files.specs.Case.{Head, head}
 use Rattle.files.specs.Start.{startBodies, CellBytes, cellBytes, startsOf, cellRecords, startRight, cellRight, cellsRight, startFileRight, startTests, startRefusal}

@@ -8,7 +8,7 @@ use lib.ListN.{length, getD, length-map, List·getD-map}
 use lib.Dec.{eqb, ltb}
 use borrow.Author.Tests.{lt-ltb, le-ltb, eq-eqb, ne-eqb, ltb-true, eqb-true, eqb-false}
 use native.Mathlib.Omega.{arith}
-use Rattle.words.specs.Tests.{by-test}
+use Rattle.words.specs.Laws.Tests.{by-test}
 use Rattle.files.specs.Bytes.{number, field, records}
 use Rattle.files.specs.Bytes.Laws.{length-records, records-at}
 use Rattle.files.specs.Start.{CellBytes, cellBytes, orderOf, refersTo, cellRight, cellOf}

@@ -14,7 +14,7 @@ use Rattle.words.specs.Lists.{each}
 use Rattle.words.specs.Lists.Laws.{each-append, each-one, each-map}
 use Rattle.words.specs.Order.{less, insert}
 use Rattle.words.specs.Order.Laws.{less-neither, insert-before, insert-after, insert-held, by-place}
-use Rattle.words.specs.Tests.{by-test}
+use Rattle.words.specs.Laws.Tests.{by-test}
 use Rattle.tables.specs.Rows.{firstOf, Layout, rowAt, rowsIn}
 use Rattle.tables.specs.Rows.Laws.{row-before, length-firstOf, getD-firstOf, firstOf-same, firstOf-list, row-words, words-rowsIn, length-rowsIn, length-each-words}
 use Rattle.tables.specs.Insertion.{rowWords, wordRows, withRow, insertedIn, leading, reached, Inserted}

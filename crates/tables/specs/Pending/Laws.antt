@@ -9,7 +9,7 @@ use lib.ListN.{length}
 use lib.Dec.{leb}
 use borrow.Author.Tests.{le-leb, lt-leb, leb-true, leb-false}
 use Rattle.words.specs.Order.{insert}
-use Rattle.words.specs.Tests.{by-test}
+use Rattle.words.specs.Laws.Tests.{by-test}
 use Rattle.automata.specs.Derivation.{Result, resultKey}
 use Rattle.tables.specs.Rows.{rowsIn}
 use Rattle.tables.specs.Layouts.{resultRow}

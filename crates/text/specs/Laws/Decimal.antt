@@ -8,7 +8,7 @@ use native.Mathlib.Omega.{arith}
 use lib.ListN.{length, length-append}
 use lib.Dec.{ltb}
 use borrow.Author.Tests.{eq-eqb, ne-eqb, ltb-true, ltb-false}
-use Rattle.words.specs.Tests.{by-test}
+use Rattle.words.specs.Laws.Tests.{by-test}
 use Rattle.services.specs.Listing.{digitsBefore, decimal}
 
 -- ---- one digit more

@@ -11,7 +11,7 @@ use Rattle.services.specs.Memory.{padded}
 use Rattle.words.specs.Lists.{zeros}
 use Rattle.text.specs.Written.{Written}
 use Rattle.text.specs.Written.Laws.{written-parts, written-same}
-use Rattle.tables.specs.Filled.{drop-zeros}
+use Rattle.tables.specs.Laws.Filled.{drop-zeros}
 
 -- n being the number of the bytes
 pub printed : {n : ℕ} {line text after : List ℕ} {end : ℕ} → line ≡ text → Written (replicate n 0) 0 line after end → end ≤ n

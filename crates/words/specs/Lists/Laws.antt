@@ -15,7 +15,7 @@ use lib.Dec.{ltb}
 use borrow.Author.Tests.{ltb-true, ltb-false}
 use Rattle.words.specs.Order.{rising, risingFrom}
 use Rattle.words.specs.Order.Laws.{less-one, risingFrom-cons}
-use Rattle.words.specs.Tests.{by-test, and-left, and-right}
+use Rattle.words.specs.Laws.Tests.{by-test, and-left, and-right}
 use Rattle.words.specs.Lists.{zeros, each, when, only, every, some-of, first, placesFrom, places}
 
 -- ---- zeros

@@ -12,7 +12,7 @@ use lib.Arith.{bin-ind}
 use lib.Bits.{bitOr, digits, or-shr, or-step, shifted-half, shifted-even}
 use lib.Pow.{pow-mono, pow-lt}
 use borrow.Author.Tests.{eqb-true, eq-eqb}
-use Rattle.words.specs.Tests.{or-cases}
+use Rattle.words.specs.Laws.Tests.{or-cases}
 use Rattle.words.specs.Order.{rising, risingFrom}
 use Rattle.words.specs.Order.Laws.{less-one, risingFrom-cons}
 use Rattle.words.specs.Sets.{member, single, joinBits, join, partOf, membersFrom, members}

@@ -5,7 +5,7 @@ use mathlib.Core.Path.{_≡_, sym, subst}
 use native.Mathlib.Omega.{arith}
 use lib.Dec.{eqb}
 use borrow.Author.Tests.{eqb-true, eqb-false}
-use Rattle.words.specs.Tests.{by-test}
+use Rattle.words.specs.Laws.Tests.{by-test}
 
 -- from n on, step by step
 pub upward : (P : ℕ → Type 0) (n : ℕ) → P n → ((k : ℕ) → n ≤ k → P k → P (suc k)) → (m : ℕ) → n ≤ m → P m
