@@ -1,4 +1,4 @@
-// States of a recursion that were worked through already, in a table with rows of nine words. A state's words give its place in the table;
+// A memo table: states of a recursion that were worked through already, in rows of nine words. A state's words give its place in the table;
 // a state put into a row takes the place of what stood there.
 ghost use mathlib.Core.Path.{_≡_};
 ghost use Prim.Native.Nat.{_+_, _*_, _≤_};

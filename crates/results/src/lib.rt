@@ -360,7 +360,7 @@ fn by_rule(
 }
 
 // Collects the results of the first `count` rules of a body that are not yet held: sorted, each once, in the first rows of `out`. Answers
-// their number, and a number above `room` where there is no room for them. States that were worked through are remembered in 16,384 rows.
+// their number, and a number above `room` where there is no room for them. States that were worked through stand in a memo table of 16,384 rows.
 pub fn collect(
     z: tables::Table,
     inner: &[u64],

@@ -75,11 +75,11 @@ read-choices-claims t = (
 )
 
 abbrev read-choices-Inv-loop : read-choices-lts.InvT-loop
-read-choices-Inv-loop z inner entries moves to j part named s seen₀ out₀ n room count k₀ i₀ memo out k i =
-    (i ≤ count) × EdgesUpTo z inner entries moves (to .control) (to .symbol) (asJoins j) (part .member) (members (part .others)) named s room n out₀ i k out × (length out ≡ length out₀) × MemoHolds (automatonOf z inner entries moves) room k out memo × (length memo ≡ length seen₀)
+read-choices-Inv-loop z inner entries moves to j part named s memo₀ out₀ n room count k₀ i₀ memo out k i =
+    (i ≤ count) × EdgesUpTo z inner entries moves (to .control) (to .symbol) (asJoins j) (part .member) (members (part .others)) named s room n out₀ i k out × (length out ≡ length out₀) × MemoHolds (automatonOf z inner entries moves) room k out memo × (length memo ≡ length memo₀)
 
 abbrev read-choices-μ-loop : read-choices-lts.MeasureT-loop
-read-choices-μ-loop z inner entries moves to j part named s seen₀ out₀ n room count k₀ i₀ memo out k i =
+read-choices-μ-loop z inner entries moves to j part named s memo₀ out₀ n room count k₀ i₀ memo out k i =
     count - i
 
 read-choices-add-count : (t : ℕ) → read-choices-lts.Need-add-count (read-choices-claims t) (read-choices-at t) read-choices.Post read-choices-Inv-loop read-choices-μ-loop

@@ -138,11 +138,11 @@ read-moves-claims t = (
 )
 
 abbrev read-moves-Inv-loop : read-moves-lts.InvT-loop
-read-moves-Inv-loop z inner entries moves to s part j seen₀ out₀ n room count k₀ i₀ memo out k i =
-    (i ≤ count) × ReadUpTo (automatonOf z inner entries moves) (to .control) (to .symbol) s (asJoins j) (part .member) (members (part .others)) room n out₀ i k out × (length out ≡ length out₀) × MemoHolds (automatonOf z inner entries moves) room k out memo × (length memo ≡ length seen₀)
+read-moves-Inv-loop z inner entries moves to s part j memo₀ out₀ n room count k₀ i₀ memo out k i =
+    (i ≤ count) × ReadUpTo (automatonOf z inner entries moves) (to .control) (to .symbol) s (asJoins j) (part .member) (members (part .others)) room n out₀ i k out × (length out ≡ length out₀) × MemoHolds (automatonOf z inner entries moves) room k out memo × (length memo ≡ length memo₀)
 
 abbrev read-moves-μ-loop : read-moves-lts.MeasureT-loop
-read-moves-μ-loop z inner entries moves to s part j seen₀ out₀ n room count k₀ i₀ memo out k i = count - i
+read-moves-μ-loop z inner entries moves to s part j memo₀ out₀ n room count k₀ i₀ memo out k i = count - i
 
 read-moves-loop-holds : (t : ℕ) → read-moves-lts.Need-loop-holds (read-moves-claims t) (read-moves-at t) read-moves.Post read-moves-Inv-loop read-moves-μ-loop
 read-moves-loop-holds t c = (search needs, read-none (c .before .before .before .before .before .args .z) _ _ _ _ _ _ _ _ _ _ _ _ (c .before .before .before .before .before .pre .1 .2 .number), refl, (c .before .before .before .before .before .pre .1 .3), refl)

@@ -1,4 +1,4 @@
--- What holds of remembered states: a state that a row holds need not be worked through again, and one that was worked through may be put
+-- What holds of the memo table: a state that a row holds need not be worked through again, and one that was worked through may be put
 -- into a row.
 -- Assumes nothing.
 use Prim.Native.Nat.{ℕ, _+_, _*_, _≤_, _<_}
@@ -51,7 +51,7 @@ results-empty A x e =
 -- ---- tables of states
 
 module _ {A : Automaton} {room n : ℕ} {t : List ℕ} where
-  -- a table of zeros remembers nothing
+  -- a table of zeros holds no state
 
   pub memo-none : (k : ℕ) → 9 ≤ k → MemoHolds A room n t (replicate k 0)
   unfolding rowAt offerAll

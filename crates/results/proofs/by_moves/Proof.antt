@@ -12,11 +12,11 @@ use Rattle.results.proofs.by_moves.Statement.{statement}
 use Rattle.results.proofs.by_moves.Tie as tie
 
 abbrev Inv-loop : tie.InvT-loop
-Inv-loop z inner entries moves to kind b q seen₀ out₀ n room count k₀ i₀ memo out k i =
-    (i ≤ count) × MovesUpTo z inner entries moves (to .control) (to .symbol) kind b q room n out₀ i k out × (length out ≡ length out₀) × MemoHolds (automatonOf z inner entries moves) room k out memo × (length memo ≡ length seen₀)
+Inv-loop z inner entries moves to kind b q memo₀ out₀ n room count k₀ i₀ memo out k i =
+    (i ≤ count) × MovesUpTo z inner entries moves (to .control) (to .symbol) kind b q room n out₀ i k out × (length out ≡ length out₀) × MemoHolds (automatonOf z inner entries moves) room k out memo × (length memo ≡ length memo₀)
 
 abbrev μ-loop : tie.MeasureT-loop
-μ-loop z inner entries moves to kind b q seen₀ out₀ n room count k₀ i₀ memo out k i = count - i
+μ-loop z inner entries moves to kind b q memo₀ out₀ n room count k₀ i₀ memo out k i = count - i
 
 loop-holds : tie.Need-loop-holds Inv-loop μ-loop
 loop-holds c = (search needs, moves-none (c .before .before .before .before .before .args .z) _ _ _ _ _ _ _ _ _ _ _ (c .before .before .before .before .before .pre .3 .number), refl, (c .before .before .before .before .before .pre .4), refl)

@@ -13,11 +13,11 @@ use Rattle.results.proofs.collect.Statement.{statement}
 use Rattle.results.proofs.collect.Tie as tie
 
 abbrev Inv-loop : tie.InvT-loop
-Inv-loop z inner entries moves body count out₀ room seen₀ n₀ i₀ out memo n i =
+Inv-loop z inner entries moves body count out₀ room memo₀ n₀ i₀ out memo n i =
     (i ≤ count) × RulesUpTo (automatonOf z inner entries moves) room body out₀ i n out × MemoHolds (automatonOf z inner entries moves) room n out memo × (length memo ≡ 147456)
 
 abbrev μ-loop : tie.MeasureT-loop
-μ-loop z inner entries moves body count out₀ room seen₀ n₀ i₀ out memo n i = count - i
+μ-loop z inner entries moves body count out₀ room memo₀ n₀ i₀ out memo n i = count - i
 
 loop-holds : tie.Need-loop-holds Inv-loop μ-loop
 loop-holds c = (search needs, rules-none _ _ _ _, memo-none 147456 (omega arith), length-replicate {A = ℕ} 147456 0)
