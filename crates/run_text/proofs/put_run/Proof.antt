@@ -4,7 +4,7 @@ use Prim.Native.Nat.{ℕ}
 use mathlib.Core.Path.{sym, subst}
 use borrow.Author.Needs.{needs}
 use Rattle.text.specs.Written.Laws.{written-same}
-use Rattle.run_text.specs.Bounds.{Bounded}
+use Rattle.answer_text.specs.Bounds.{Bounded}
 use Rattle.run_text.specs.Laws.Answers.{answer-bounded, answer-is, text-room, text-within}
 use Rattle.run_text.proofs.put_run.Statement.{statement}
 use Rattle.run_text.proofs.put_run.Tie as tie

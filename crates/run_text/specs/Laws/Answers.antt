@@ -2,31 +2,16 @@
 -- Assumes nothing.
 use Prim.Native.Nat.{ℕ, _+_, _*_, _≤_}
 use mathlib.Core.Path.{_≡_, ap, sym, subst}
-use mathlib.Core.List.{List, _++_}
+use mathlib.Core.List.{List}
 use native.Mathlib.Omega.{arith}
-use lib.ListN.{take}
-use Rattle.replies.specs.Numbers.{countsOf}
-use Rattle.replies.specs.declared.Halt.{Halt}
 use Rattle.replies.specs.declared.Reply.{Reply}
-use Rattle.replies.specs.declared.Reply.the-variants.{Walked}
 use Rattle.services.specs.Guide.{GuideDone, guideService, cellWords}
-use Rattle.services.specs.Listing.{ascii, replyLine}
-use Rattle.text.specs.Written.{Written}
-use Rattle.text.specs.Written.Laws.{written-same}
 use Rattle.start_file.specs.Checks.{filesOf}
 use Rattle.guided_start.specs.Run.{guideInput}
 use Rattle.guide.specs.Service.{guideDone}
-use Rattle.services.specs.Run.{runGuide, numbersText, traceLine, answerText, runText}
-use Rattle.run_text.specs.Bounds.{Bounded}
-use Rattle.run_text.specs.Bounds.Laws.{guide-bounded}
-
--- the line of a walk, and the numbers of its steps
-pub walk-text : {before after : List ℕ} {end steps : ℕ} (number : ℕ) (h : Halt) (trace : List ℕ) → steps ≡ countsOf h .steps
-    → Written before 0 (replyLine number (Walked h) ++ (numbersText (take steps trace) ++ ascii "\n")) after end
-    → Written before 0 (answerText number (Walked h) trace) after end
-unfolding answerText traceLine
-walk-text number h trace e w =
-    written-same (ap (λ (k : ℕ). replyLine number (Walked h) ++ (numbersText (take k trace) ++ ascii "\n")) e) w
+use Rattle.services.specs.Run.{runGuide, answerText, runText}
+use Rattle.answer_text.specs.Bounds.{Bounded}
+use Rattle.run_text.specs.Laws.Bounds.{guide-bounded}
 
 module _ (case start : List ℕ) (number : ℕ) {reply : Reply} {moves entries cells trace : List ℕ}
     (is : guideDone reply moves entries cells trace ≡ guideService (guideInput case start number (1024 * 5) (64 * 2) (4096 * 68) 65536)) where

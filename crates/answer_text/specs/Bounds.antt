@@ -1,6 +1,5 @@
 -- What is asked of guide's answer for its text: the start is in the file, and a walk has no more steps than trace words.
 -- Assumes nothing.
-pub mod Laws
 use Prim.Native.Nat.{ℕ, _≤_, _<_}
 use Rattle.replies.specs.Numbers.{countsOf}
 use Rattle.replies.specs.declared.Reply.{Reply}

@@ -1,4 +1,4 @@
--- `run_text::put_answer` meets its contract.
+-- `answer_text::put_answer` meets its contract.
 -- Assumes nothing.
 use Prim.Native.Nat.{_<_}
 use mathlib.Core.Path.{ap, sym, _∙_, subst}
@@ -9,9 +9,9 @@ use Rattle.replies.specs.declared.Reply.{Reply}
 use Rattle.services.specs.Listing.{replyLine}
 use Rattle.services.specs.Run.{answerText}
 use Rattle.text.specs.Written.Laws.{written-same}
-use Rattle.run_text.specs.Bounds.{Bounded}
-use Rattle.run_text.proofs.put_answer.Statement.{statement}
-use Rattle.run_text.proofs.put_answer.Tie as tie
+use Rattle.answer_text.specs.Bounds.{Bounded}
+use Rattle.answer_text.proofs.put_answer.Statement.{statement}
+use Rattle.answer_text.proofs.put_answer.Tie as tie
 
 enum-known-reply : tie.Need-enum-known-reply
 enum-known-reply c = search needs

@@ -1,9 +1,9 @@
--- `run_text::steps_of` meets its contract.
+-- `answer_text::steps_of` meets its contract.
 -- Assumes nothing.
 use borrow.Author.Needs.{needs}
 use Rattle.replies.specs.Numbers.{countsOf}
-use Rattle.run_text.proofs.steps_of.Statement.{statement}
-use Rattle.run_text.proofs.steps_of.Tie as tie
+use Rattle.answer_text.proofs.steps_of.Statement.{statement}
+use Rattle.answer_text.proofs.steps_of.Tie as tie
 
 enum-known-halt : tie.Need-enum-known-halt
 enum-known-halt c = search needs

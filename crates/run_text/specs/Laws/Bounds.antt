@@ -15,7 +15,7 @@ use Rattle.files.specs.Start.{startsOf}
 use Rattle.services.specs.Guide.{GuideInput, GuideDone, guideFiles, guideLeft, refused, guideService}
 use Rattle.services.specs.Guide.Laws.{Started, GuideCase, case-refused, start-refused, start-missing, size-exceeded, no-run, cells-short, walked, guide-cases}
 use Rattle.sound_files.specs.Sound.Laws.{starts-few}
-use Rattle.run_text.specs.Bounds.{Bounded}
+use Rattle.answer_text.specs.Bounds.{Bounded}
 
 module _ (number : ℕ) (few : number < 64) (rules : List Rule) (T : Saturated) (c : ℕ) where
   -- with t trace words left of so many

@@ -1,4 +1,4 @@
--- `run_text::put_walk` meets its contract.
+-- `answer_text::put_walk` meets its contract.
 -- Assumes nothing.
 use mathlib.Core.Path.{sym}
 use native.Mathlib.Omega.{arith}
@@ -6,10 +6,10 @@ use lib.Seq.{length-take-le}
 use borrow.Author.Needs.{needs}
 use Rattle.services.specs.Listing.{ascii}
 use Rattle.text.specs.Written.Laws.{written-then}
-use Rattle.run_text.specs.Bounds.{Bounded}
-use Rattle.run_text.specs.Laws.Answers.{walk-text}
-use Rattle.run_text.proofs.put_walk.Statement.{statement}
-use Rattle.run_text.proofs.put_walk.Tie as tie
+use Rattle.answer_text.specs.Bounds.{Bounded}
+use Rattle.answer_text.specs.Laws.Walks.{walk-text}
+use Rattle.answer_text.proofs.put_walk.Statement.{statement}
+use Rattle.answer_text.proofs.put_walk.Tie as tie
 
 steps-of-requires : tie.Need-steps-of-requires
 steps-of-requires c κs = search needs

@@ -1,0 +1,3 @@
+-- Laws about definitions of the crates below.
+-- Assumes nothing.
+pub mod Walks
