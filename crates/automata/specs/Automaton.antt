@@ -17,7 +17,7 @@ pub record Move : Type 0 where
   pub B : ℕ
   pub R : ℕ
 
--- An edge (r, S) of an order-2 state: a transition to order-1 state r and the set S of order-2 states.
+-- An edge (r, S) of an order-2 state: a transition to order-1 state r, its `first`, and the set S of order-2 states.
 pub record Edge : Type 0 where
   pub state : ℕ
   pub first : ℕ

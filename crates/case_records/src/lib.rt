@@ -46,7 +46,7 @@ pub struct Rule {
     pub next: u64,
 }
 
-// An edge's order-2 state, its second byte and its set S.
+// An edge's order-2 state, its order-1 state or 255 (`first`, the second byte) and its set S.
 pub struct Edge {
     pub state: u64,
     pub first: u64,

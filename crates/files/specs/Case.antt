@@ -92,7 +92,7 @@ ruleRecords file = map ruleBytes (recordsOf file 1 5)
 
 -- ---- body 3
 
--- an edge's four bytes: order-2 state, order-1 state, S
+-- an edge's four bytes: order-2 state, order-1 state (`first`, the second byte), S
 pub record EdgeBytes : Type 0 where
   pub state : ℕ
   pub first : ℕ

@@ -2,6 +2,7 @@
 -- `unfolding computed`.
 -- Assumes nothing.
 use Prim.Native.Nat.{ℕ}
+use Rattle.words.specs.Lists
 use Rattle.files.specs.Bytes
 use Rattle.files.specs.Case
 use Rattle.files.specs.Start
@@ -40,7 +41,7 @@ unfolding Listing.ascii Listing.digitsBefore Listing.decimal Listing.listingJudg
 open-listing = 0
 
 unfoldable pub open-memory : ℕ
-unfolding Memory.zeros Memory.padded Memory.moveWords Memory.entryWords Memory.moveTable Memory.entryTable Memory.lent
+unfolding Lists.zeros Memory.padded Memory.moveWords Memory.entryWords Memory.moveTable Memory.entryTable Memory.lent
 open-memory = 0
 
 unfoldable pub open-run : ℕ

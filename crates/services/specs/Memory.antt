@@ -3,8 +3,7 @@
 use Prim.Native.Nat.{ℕ, _-_, _/_}
 use mathlib.Core.List.{List, [], _∷_, _++_}
 use lib.ListN.{length}
-use Rattle.words.specs.Lists.{each}
-unfoldable pub use Rattle.words.specs.Lists.{zeros}
+use Rattle.words.specs.Lists.{each, zeros}
 use Rattle.automata.specs.Automaton.{Automaton, Move, Entry}
 use Rattle.automata.specs.Saturation.{Size}
 

@@ -31,7 +31,7 @@ pub struct Entry {
     pub s: u64,
 }
 
-// An edge (r,S) of an order-2 state.
+// An edge (r,S) of an order-2 state; `first` is r.
 pub struct Edge {
     pub state: u64,
     pub first: u64,
