@@ -10,5 +10,6 @@ pub mod Contains
 pub mod Joining
 pub mod Readings
 pub mod Monotone
+pub mod SaturatedTable
 pub mod Least
 pub mod LeastChoice
