@@ -1,5 +1,5 @@
 -- The limits: a saturated table is that after some number of rounds, is closed and keeps the limits, and there is none exactly if the table
--- after some number of rounds passes a limit.
+-- after some number of rounds passes a limit. It is the same for all lent sizes that hold it.
 -- Assumes nothing.
 use Prim.Native.Nat.{ℕ, zero, suc, _+_, _≤_, _<_, min}
 use mathlib.Core.Bool.{Bool, true, false, _&&_, false≢true}
@@ -160,3 +160,43 @@ module _ (rules : List Rule) (lent : Size) where
         go : (o : Option Saturated) → SaturatesTo o → (T : Saturated) × (o ≡ some T)
         go (some U) (saturated s) = (U, refl)
         go none (exceeds n k) = absurd (false≢true (sym k ∙ h n))
+
+-- ---- other lent sizes
+
+module _ (rules : List Rule) (own : Automaton) where
+  -- the rounds of a saturated table are no more than those after which the table is closed
+  pub rounds-least : {lent : Size} {T : Saturated} (s : IsSaturated rules lent own T) (n : ℕ) → Closed rules (tableAfter rules own n) → s .after .rounds ≤ n
+  rounds-least s n c =
+      let m : ℕ = s .after .rounds in
+      by-test (leb m n)
+      (λ t. leb-true m n t)
+      (λ t.
+      let g : length (tableAfter rules own n .moves) < length (tableAfter rules own (suc n) .moves) = s .each-adds n (leb-false m n t) in
+      let e : length (tableAfter rules own (suc n) .moves) ≡ length (tableAfter rules own n .moves) =
+      ap (λ (A : Automaton). length (A .moves)) (after-closed rules own n (suc n) (omega arith) c) in
+      absurd (omega arith))
+
+  -- there is one saturated table, whatever the lent sizes
+  pub saturated-same : {lent lent′ : Size} {T U : Saturated} → IsSaturated rules lent own T → IsSaturated rules lent′ own U → T ≡ U
+  saturated-same {T = T} {U = U} s t =
+      let n : ℕ = s .after .rounds in
+      let m : ℕ = t .after .rounds in
+      let a : n ≤ m = rounds-least s m (subst (Closed rules) (t .after .table-is) (t .closed)) in
+      let b : m ≤ n = rounds-least t n (subst (Closed rules) (s .after .table-is) (s .closed)) in
+      let k : n ≡ m = omega arith in
+      let e : T .table ≡ U .table = s .after .table-is ∙ ap (tableAfter rules own) k ∙ sym (t .after .table-is) in
+      let f : T .sizes ≡ U .sizes = s .after .sizes-are ∙ ap (λ (i : ℕ). sizesBefore rules own (suc i)) k ∙ sym (t .after .sizes-are) in
+      λ i. record { table = e i; sizes = f i }
+
+module _ (rules : List Rule) (lent lent′ : Size) (own : Automaton) where
+  -- the saturated table is the same for any two lent sizes that hold it
+  pub same-table : {T U : Saturated} → saturate rules lent own ≡ some T → saturate rules lent′ own ≡ some U → T ≡ U
+  same-table e f = saturated-same rules own (saturate-some rules lent own e) (saturate-some rules lent′ own f)
+
+  -- all lent sizes that hold it give it
+  pub held-table : {T : Saturated} → saturate rules lent own ≡ some T → within lent′ (T .table) ≡ true → saturate rules lent′ own ≡ some T
+  held-table {T} e w =
+      let s : IsSaturated rules lent own T = saturate-some rules lent own e in
+      let t : IsSaturated rules lent′ own T = record { after = s .after; each-adds = s .each-adds; closed = s .closed; limits-kept = w } in
+      let (U, f) = within-some rules lent′ own (all-within rules lent′ own t) in
+      f ∙ ap some (sym (same-table e f))

@@ -2,6 +2,7 @@
 -- Assumes nothing.
 pub mod Laws
 pub mod Choices
+pub mod Once
 use Prim.Native.Nat.{ℕ, suc}
 use mathlib.Core.Bool.{Bool, true, false}
 use mathlib.Core.Option.{Option, none, some}
