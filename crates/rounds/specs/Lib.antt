@@ -11,5 +11,6 @@ pub mod Joining
 pub mod Readings
 pub mod Monotone
 pub mod SaturatedTable
+pub mod Once
 pub mod Least
 pub mod LeastChoice

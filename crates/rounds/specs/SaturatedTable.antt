@@ -1,5 +1,6 @@
 -- The saturated table as document 01 defines it: "The least closed set is the *saturated table*."
 -- Assumes nothing.
+pub mod Laws
 use Prim.Native.Nat.{ℕ, _<_}
 use mathlib.Core.Path.{_≡_}
 use mathlib.Core.List.{List}

@@ -1,0 +1,75 @@
+-- The table after rounds is the least closed set where it is closed. Any two least closed sets keep the same limits, and where the table
+-- after some number of rounds passes a limit, each of them passes it.
+-- Assumes nothing.
+use Prim.Native.Nat.{ℕ, _≤_, _<_}
+use mathlib.Core.Bool.{true, false, false≢true}
+use mathlib.Core.Path.{_≡_, ap, sym, _∙_, subst}
+use mathlib.Core.Option.{none}
+use mathlib.Core.List.{List, List·Memᴰ}
+use native.Mathlib.Nat.{le-of-lt as lt-le}
+use lib.Dec.{leb}
+use borrow.Author.Tests.{leb-true, leb-false}
+use Rattle.words.specs.Laws.Tests.{by-test, equal-tests}
+use Rattle.stacks.specs.System.{Rule}
+use Rattle.automata.specs.Automaton.{Automaton}
+use Rattle.automata.specs.Saturation.{tableAfter, Size, within, Saturated, saturate}
+use Rattle.automata.specs.Facts.{RuleFacts, TableFacts, OwnFacts, Closed}
+use Rattle.rounds.specs.Rounds.{own-extends, after-extends, after-closed}
+use Rattle.rounds.specs.Kept.{after-facts}
+use Rattle.rounds.specs.Limits.{IsSaturated, within-part, saturate-none}
+use Rattle.rounds.specs.Contains.{Contains, contains-kept, contains-self}
+use Rattle.rounds.specs.Least.{closed-contains}
+use Rattle.rounds.specs.Once.{after-moves-once, within-contained}
+use Rattle.rounds.specs.SaturatedTable.{MovesOnce, LeastClosed}
+
+-- ---- two least closed sets
+
+-- each contains the other
+pub least-contains : {rules : List Rule} {own A C : Automaton} → LeastClosed rules own A → LeastClosed rules own C → Contains A C
+least-contains {C = C} a c = a .least C (c .contains-own) (c .entries-once) (c .closed)
+
+-- so they keep the same limits
+pub least-within : (lent : Size) {rules : List Rule} {own A C : Automaton} → LeastClosed rules own A → LeastClosed rules own C → within lent A ≡ within lent C
+least-within lent {A = A} {C = C} a c =
+    equal-tests (within lent A) (within lent C)
+    (within-contained (c .entries-once) lent (c .moves-once) (least-contains c a))
+    (within-contained (a .entries-once) lent (a .moves-once) (least-contains a c))
+
+-- ---- the table after rounds
+
+module _ {P : ℕ} (rules : List Rule) (rule-facts : (ρ : Rule) → List·Memᴰ ρ rules → RuleFacts P ρ) {own : Automaton} (F : TableFacts P own) (once : MovesOnce own) where
+  -- where it is closed it is the least closed set
+  pub closed-least : OwnFacts P own → (n : ℕ) → Closed rules (tableAfter rules own n) → LeastClosed rules own (tableAfter rules own n)
+  closed-least O n c =
+      record {
+        contains-own = contains-kept (own-extends rules own n) (contains-self own F O);
+        entries-once = after-facts rules rule-facts F n .entry-once;
+        moves-once = after-moves-once rules rule-facts F once n;
+        closed = c;
+        least = λ C d o h. closed-contains rules rule-facts F d o h n;
+      }
+
+  -- so the saturated table is the least closed set
+  pub saturated-least : OwnFacts P own → {lent : Size} {T : Saturated} → IsSaturated rules lent own T → LeastClosed rules own (T .table)
+  saturated-least O s =
+      subst (LeastClosed rules own) (sym (s .after .table-is)) (closed-least O (s .after .rounds) (subst (Closed rules) (s .after .table-is) (s .closed)))
+
+  -- what passes a limit after some number of rounds is contained in the least closed set, which passes it too
+  pub after-passes : (lent : Size) (n : ℕ) → within lent (tableAfter rules own n) ≡ false → {A : Automaton} → LeastClosed rules own A → within lent A ≡ false
+  after-passes lent n h {A} a =
+      by-test (within lent A)
+      (λ t.
+      let c : Contains (tableAfter rules own n) A = closed-contains rules rule-facts F (a .contains-own) (a .entries-once) (a .closed) n in
+      absurd (false≢true (sym h ∙ within-contained (after-facts rules rule-facts F n .entry-once) lent (after-moves-once rules rule-facts F once n) c t)))
+      (λ t. t)
+
+-- where no saturated table keeps the limits, the closed table passes one
+pub closed-exceeds : (rules : List Rule) (lent : Size) (own : Automaton) (n : ℕ) → Closed rules (tableAfter rules own n) → saturate rules lent own ≡ none
+    → within lent (tableAfter rules own n) ≡ false
+closed-exceeds rules lent own n c e =
+    let (m, h) = saturate-none rules lent own e in
+    by-test (within lent (tableAfter rules own n))
+    (λ t. absurd (false≢true (sym h ∙ by-test (leb m n)
+    (λ l. within-part lent (after-extends rules own m n (leb-true m n l)) t)
+    (λ l. ap (within lent) (after-closed rules own n m (lt-le (leb-false m n l)) c) ∙ t))))
+    (λ t. t)
