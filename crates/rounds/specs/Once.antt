@@ -27,7 +27,7 @@ use Rattle.automata.specs.Facts.Laws.{moveAt-facts, moveAt-kept, entryIs-own}
 use Rattle.rounds.specs.Added.{added, added-out, add-length, add-stands, addAll-extends, addAll-length}
 use Rattle.rounds.specs.Kept.{after-facts}
 use Rattle.rounds.specs.Limits.{KeepsLimits, within-keeps, keeps-within}
-use Rattle.rounds.specs.Contains.{Matched, Same, SameIn, SameMove, Contains, same-injective}
+use Rattle.rounds.specs.Contains.{Matched, SameIn, SameMove, Contains, same-injective}
 use Rattle.rounds.specs.SaturatedTable.{MovesOnce}
 
 -- ---- rounds
@@ -108,12 +108,13 @@ addAll-moves-once {P} {A} F once xs r new i j hi hj e =
         let q : i - n ≡ j - n = rising-once resultKey xs d (i - n) (j - n) r (place i li hi) (place j lj hj) (ap resultKey z) in
         omega arith
 
+-- a round adds only results that are not yet held, each once
 pub round-moves-once : (rules : List Rule) {P : ℕ} {A : Automaton} → TableFacts P A → MovesOnce A → MovesOnce (round rules A)
 unfolding round extend
 round-moves-once rules {A = A} F once =
     addAll-moves-once F once (added A (results rules A)) (sorted-rising resultKey (only _ (results rules A))) (λ x j. added-out A (results rules A) j .1)
 
--- a round adds only results that are not yet held, each once, so each move is there once after any number of rounds
+-- so each move is there once after any number of rounds
 pub after-moves-once : {P : ℕ} (rules : List Rule) → ((ρ : Rule) → List·Memᴰ ρ rules → RuleFacts P ρ) → {own : Automaton} → TableFacts P own → MovesOnce own
     → (n : ℕ) → MovesOnce (tableAfter rules own n)
 unfolding tableAfter
@@ -130,6 +131,7 @@ matched-injective {X} alone {a} {b} {c} x y =
     (has-part (λ n h. let (k, i, z) = y .forth n h in let (m, j, w) = x .back k i in subst (Has a) (alone m n k w z) j))
 
 module _ (A C : Automaton) (j : C .J ≡ A .J) (once : Once (A .entries)) where
+  -- no member of an annotation set is the same as two
   pub sameIn-injective : (o n m k : ℕ) → SameIn A C o n k → SameIn A C o m k → n ≡ m
   sameIn-injective zero n m k x y = absurd x
   sameIn-injective (suc zero) n m k x y = same-injective j once x y
@@ -147,6 +149,7 @@ module _ (A C : Automaton) (j : C .J ≡ A .J) (once : Once (A .entries)) where
       λ i. record { state = e i; symbol = s i; order = sym o i; B = b i; R = r i }
 
 module _ {A C : Automaton} (once : Once (A .entries)) where
+  -- each entry is an entry of what contains it
   pub contains-entries : Contains A C → length (A .entries) ≤ length (C .entries)
   contains-entries c =
       once-shorter (λ (x y : Entry). x ≡ y) noEntry (A .entries) (C .entries)
@@ -154,6 +157,7 @@ module _ {A C : Automaton} (once : Once (A .entries)) where
       (λ x i. (x, c .entries-in x i, refl))
       (λ x z y p q. p ∙ sym q)
 
+  -- each move has its like, and no two have one
   pub contains-moves : MovesOnce A → Contains A C → length (A .moves) ≤ length (C .moves)
   unfolding moveAt
   contains-moves moves-once c =

@@ -3,7 +3,7 @@
 -- Assumes nothing.
 use Prim.Native.Nat.{ℕ, _+_, _*_, _<_, _≤_}
 use mathlib.Core.Bool.{Bool, true, _&&_}
-use mathlib.Core.Path.{_≡_, refl, subst}
+use mathlib.Core.Path.{_≡_, refl, ap, subst}
 use mathlib.Core.List.{List, List·Memᴰ, List·Memᴰ·head, List·Memᴰ·tail, Memᴰ·of-map}
 use native.Mathlib.Omega.{arith}
 use lib.ListN.{length, getD, length-map}
@@ -14,7 +14,7 @@ use Rattle.words.specs.Lists.Laws.{every-in}
 use Rattle.words.specs.Laws.Tests.{and-left, and-right}
 use Rattle.words.specs.Order.{rising}
 use Rattle.stacks.specs.System.{Rule}
-use Rattle.automata.specs.Automaton.{Move, Edge, noEntry, entryKey}
+use Rattle.automata.specs.Automaton.{Move, Edge, noMove, noEntry, entryKey, moveAt}
 use Rattle.automata.specs.Facts.{RuleFacts, InnerFacts, TableFacts, OwnFacts}
 use Rattle.files.specs.Bytes.{placed, countOf, offsetOf, recordsOf}
 use Rattle.files.specs.Bytes.Laws.{numbered, unrefused, bodies-first, bodies-end, placed-first, placed-bodies, length-recordsOf}
@@ -105,6 +105,9 @@ module _ (file : List ℕ) (sound : caseRefusal file ≡ 0) where
   pub case-edges-rising : rising edgeKey (edgeRecords file) ≡ true
   case-edges-rising = and-left (rising edgeKey (edgeRecords file)) _ case-order
 
+  pub case-moves-rising : rising moveKey (moveRecords file) ≡ true
+  case-moves-rising = and-right (rising edgeKey (edgeRecords file)) _ case-order
+
   -- ---- sizes
 
   pub case-edges-few : length (edgeRecords file) ≤ 64
@@ -173,3 +176,8 @@ module _ (file : List ℕ) (sound : caseRefusal file ≡ 0) where
         annotation1-inner = λ m j e. case-bounds .move j .annotation .annotation1-inner e;
         annotation2-inner = λ m j e q i. case-bounds .move j .annotation .annotation2-inner e q i .0;
       }
+
+  -- each own move is there once
+  pub case-moves-once : (i j : ℕ) → i < length (ownOf file .moves) → j < length (ownOf file .moves) → moveAt (ownOf file) i ≡ moveAt (ownOf file) j → i ≡ j
+  unfolding ownOf moveAt
+  case-moves-once i j hi hj e = rising-once moveKey (moveRecords file) noMove i j case-moves-rising hi hj (ap moveKey e)

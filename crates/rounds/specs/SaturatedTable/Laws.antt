@@ -1,8 +1,8 @@
 -- The table after rounds is the least closed set where it is closed. Any two least closed sets keep the same limits, and where the table
 -- after some number of rounds passes a limit, each of them passes it.
 -- Assumes nothing.
-use Prim.Native.Nat.{ℕ, _≤_, _<_}
-use mathlib.Core.Bool.{true, false, false≢true}
+use Prim.Native.Nat.{ℕ}
+use mathlib.Core.Bool.{false, false≢true}
 use mathlib.Core.Path.{_≡_, ap, sym, _∙_, subst}
 use mathlib.Core.Option.{none}
 use mathlib.Core.List.{List, List·Memᴰ}
