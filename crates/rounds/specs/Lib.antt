@@ -2,6 +2,7 @@ pub mod Entries
 pub mod Added
 pub mod Rounds
 pub mod Kept
+pub mod Bounded
 pub mod First
 pub mod Sizes
 pub mod Before
