@@ -22,7 +22,7 @@ use Rattle.automata.specs.Derivation.{Result, Derivation, derivations, Joins, j
 use Rattle.automata.specs.Derivation.Joining.{Fits, both, clash-fits, joinMoves-keeps, at-numbers, edgeSets-all}
 use Rattle.automata.specs.Derivation.Laws.{Concludes, Says, Derives, derivations-out}
 use Rattle.automata.specs.Derivation.Numbers.{paired-state}
-use Rattle.automata.specs.Saturation.{withEntry, add, addAll, extend, results, round, tableAfter}
+use Rattle.automata.specs.Saturation.{add, addAll, extend, results, round, tableAfter}
 use Rattle.automata.specs.Saturation.Laws.{results-out}
 use Rattle.automata.specs.Facts.{RuleBounded, MoveBounded, Bounded, ofOrder, states}
 use Rattle.automata.specs.Facts.Laws.{states-grow}

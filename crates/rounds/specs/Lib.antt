@@ -12,5 +12,6 @@ pub mod Joining
 pub mod Readings
 pub mod Monotone
 pub mod SaturatedTable
+pub mod Ends
 pub mod Least
 pub mod LeastChoice
