@@ -2,7 +2,7 @@
 -- for any automaton with these facts.
 -- Assumes nothing.
 pub mod Laws
-use Prim.Native.Nat.{ℕ, _+_, _≤_, _<_}
+use Prim.Native.Nat.{ℕ, zero, suc, _+_, _≤_, _<_}
 use mathlib.Core.Bool.{true}
 use mathlib.Core.Path.{_≡_}
 use mathlib.Core.List.{List, _++_, List·Memᴰ}
@@ -56,6 +56,33 @@ pub record OwnFacts (P : ℕ) (A : Automaton) : Type 0 where
   pub rest-inner : (m : Move) → List·Memᴰ m (A .moves) → All (m .R) (λ r. r < A .J)
   pub annotation1-inner : (m : Move) → List·Memᴰ m (A .moves) → m .order ≡ 1 → All (m .B) (λ r. r < A .J)
   pub annotation2-inner : (m : Move) → List·Memᴰ m (A .moves) → m .order ≡ 2 → All (m .B) (λ q. P ≤ q)
+
+-- ---- what is named exists, where there are Q order-2 states and K symbols
+
+-- the number of states of order k, where there are n of order 1; there are none of order 0
+abbrev pub ofOrder : ℕ → ℕ → ℕ → ℕ
+ofOrder Q n zero = 0
+ofOrder Q n (suc zero) = n
+ofOrder Q n (suc (suc k)) = Q
+
+-- Of a rule.
+pub record RuleBounded (Q K : ℕ) (ρ : Rule) : Type 0 where
+  pub symbol-below : ρ .symbol < K
+  pub next-below : ρ .next < Q
+
+-- Of a move, where there are n order-1 states.
+pub record MoveBounded (Q K n : ℕ) (m : Move) : Type 0 where
+  pub symbol-below : m .symbol < K
+  pub annotation-below : All (m .B) (λ q. q < ofOrder Q n (m .order))
+  pub rest-below : All (m .R) (λ r. r < n)
+
+-- Of any table.
+pub record Bounded (Q K : ℕ) (A : Automaton) : Type 0 where
+  pub inner-below : (e : Edge) → List·Memᴰ e (A .inner) → All (e .S) (λ q. q < Q)
+  pub entry-below : (e : Entry) → List·Memᴰ e (A .entries) → All (e .S) (λ q. q < Q)
+  pub move-below : (m : Move) → List·Memᴰ m (A .moves) → MoveBounded Q K (states A) m
+
+-- ---- extension and closedness
 
 -- A has all that `own` has, under the same numbers, and more entries and moves after it.
 pub record Extends (own A : Automaton) : Type 0 where

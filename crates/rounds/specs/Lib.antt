@@ -2,6 +2,7 @@ pub mod Entries
 pub mod Added
 pub mod Rounds
 pub mod Kept
+pub mod Bounded
 pub mod First
 pub mod Sizes
 pub mod Before
@@ -12,5 +13,6 @@ pub mod Readings
 pub mod Monotone
 pub mod SaturatedTable
 pub mod Once
+pub mod Ends
 pub mod Least
 pub mod LeastChoice

@@ -1,10 +1,11 @@
--- What a case file without a refusal gives: the bounds of its head, rules, edges and moves, the facts of its rules and own automaton,
--- and the widths of its numbers where the file is of bytes.
+-- What a case file without a refusal gives: the bounds of its head, rules, edges and moves, the facts and bounds of its rules and own
+-- automaton, and the widths of its numbers where the file is of bytes.
 -- Assumes nothing.
-use Prim.Native.Nat.{ℕ, _+_, _*_, _<_, _≤_}
+use Prim.Native.Nat.{ℕ, zero, suc, _+_, _*_, _<_, _≤_}
 use mathlib.Core.Bool.{Bool, true, _&&_}
 use mathlib.Core.Path.{_≡_, refl, ap, subst}
 use mathlib.Core.List.{List, List·Memᴰ, List·Memᴰ·head, List·Memᴰ·tail, Memᴰ·of-map}
+use native.Mathlib.Nat.{le-trans}
 use native.Mathlib.Omega.{arith}
 use lib.ListN.{length, getD, length-map}
 use lib.Dec.{leb}
@@ -12,14 +13,15 @@ use borrow.Author.Tests.{leb-true, not-false}
 use Rattle.words.specs.Lists.{every}
 use Rattle.words.specs.Lists.Laws.{every-in}
 use Rattle.words.specs.Laws.Tests.{and-left, and-right}
+use Rattle.words.specs.Sets.Laws.{All, all-empty}
 use Rattle.words.specs.Order.{rising}
 use Rattle.stacks.specs.System.{Rule}
 use Rattle.automata.specs.Automaton.{Move, Edge, noMove, noEntry, entryKey, moveAt}
-use Rattle.automata.specs.Facts.{RuleFacts, InnerFacts, TableFacts, OwnFacts}
+use Rattle.automata.specs.Facts.{RuleFacts, InnerFacts, TableFacts, OwnFacts, RuleBounded, Bounded, ofOrder, states}
 use Rattle.files.specs.Bytes.{placed, countOf, offsetOf, recordsOf}
 use Rattle.files.specs.Bytes.Laws.{numbered, unrefused, bodies-first, bodies-end, placed-first, placed-bodies, length-recordsOf}
 use Rattle.files.specs.Case.{caseBodies, head, headRight, RuleBytes, ruleRight, ruleOf, ruleRecords, EdgeBytes, edgeBytes, edgeRight, edgeKey, edgeRecords, entriesOf, innerEdges, moveOf, moveRight, moveKey, moveRecords, states1, recordsRight, caseTests, caseRefusal, ownOf, rulesOf}
-use Rattle.files.specs.Case.Records.{HeadBounds, head-bounds, RuleBounds, rule-bounds, EdgeBounds, edge-bounds, MoveBounds, move-bounds}
+use Rattle.files.specs.Case.Records.{HeadBounds, head-bounds, RuleBounds, rule-bounds, EdgeBounds, edge-bounds, AnnotationBounds, MoveBounds, move-bounds}
 use Rattle.files.specs.Case.Records.{entries-out, entries-rising, inner-out, inner-edges-rising}
 use Rattle.words.specs.Order.Rising.{rising-once}
 
@@ -181,3 +183,39 @@ module _ (file : List ℕ) (sound : caseRefusal file ≡ 0) where
   pub case-moves-once : (i j : ℕ) → i < length (ownOf file .moves) → j < length (ownOf file .moves) → moveAt (ownOf file) i ≡ moveAt (ownOf file) j → i ≡ j
   unfolding ownOf moveAt
   case-moves-once i j hi hj e = rising-once moveKey (moveRecords file) noMove i j case-moves-rising hi hj (ap moveKey e)
+
+  -- ---- what is named exists
+
+  pub case-rules-bounded : (ρ : Rule) → List·Memᴰ ρ (rulesOf file) → RuleBounded (head file .P + head file .I) (head file .A) ρ
+  unfolding rulesOf ruleOf
+  case-rules-bounded ρ j =
+      let r = Memᴰ·of-map ruleOf (ruleRecords file) j in
+      let b = case-bounds .rule (r .1) in
+      let l : r .0 .next < head file .P = b .next-exists in
+      record {
+        symbol-below = subst (λ (τ : Rule). τ .symbol < head file .A) (r .2) (b .symbol-exists);
+        next-below = subst (λ (τ : Rule). τ .next < head file .P + head file .I) (r .2) (omega arith);
+      }
+
+  -- an annotation names states of its order
+  case-annotation : (k B n : ℕ) → head file .J ≤ n → AnnotationBounds (head file) k B → All B (λ q. q < ofOrder (head file .P + head file .I) n k)
+  case-annotation zero B n h b = rw (b .none-empty refl) (all-empty _)
+  case-annotation (suc zero) B n h b = λ q i. le-trans (b .annotation1-inner refl q i) h
+  case-annotation (suc (suc zero)) B n h b = λ q i. b .annotation2-inner refl q i .1
+  case-annotation (suc (suc (suc k))) B n h b = let l : suc (suc (suc k)) ≤ 2 = b .order-small in absurd (omega arith)
+
+  pub case-bounded : Bounded (head file .P + head file .I) (head file .A) (ownOf file)
+  unfolding ownOf
+  case-bounded =
+      record {
+        inner-below = λ e j. let r = inner-out (head file) (edgeRecords file) j in rw (r .3) (λ q i. case-bounds .edge (r .1) .set-inner q i .1);
+        entry-below = λ e j. let r = entries-out (head file) (edgeRecords file) j in rw (r .4) (λ q i. case-bounds .edge (r .1) .set-inner q i .1);
+        move-below = λ m j.
+            let b = case-bounds .move j in
+            let h : head file .J ≤ states (ownOf file) = omega arith in
+            record {
+              symbol-below = b .symbol-exists;
+              annotation-below = case-annotation (m .order) (m .B) (states (ownOf file)) h (b .annotation);
+              rest-below = λ r i. le-trans (b .rest-inner r i) h;
+            };
+      }

@@ -1,10 +1,11 @@
--- Numbers: what holds from a number on, and below a number.
+-- Numbers: what holds from a number on, and below a number; two numbers as one; how many different numbers are below a number.
 -- Assumes nothing.
-use Prim.Native.Nat.{ℕ, zero, suc, _≤_, _<_}
-use mathlib.Core.Path.{_≡_, sym, subst}
+use Prim.Native.Nat.{ℕ, zero, suc, _+_, _-_, _*_, _≤_, _<_, min, suc-le-suc}
+use mathlib.Core.Path.{_≡_, ap, sym, _∙_, subst}
+use native.Mathlib.Nat.{suc-mul, mul-le-mul-right}
 use native.Mathlib.Omega.{arith}
-use lib.Dec.{eqb}
-use borrow.Author.Tests.{eqb-true, eqb-false}
+use lib.Dec.{eqb, ltb}
+use borrow.Author.Tests.{eqb-true, eqb-false, ltb-true, ltb-false}
 use Rattle.words.specs.Laws.Tests.{by-test}
 
 -- from n on, step by step
@@ -19,3 +20,86 @@ pub below-suc : (P : ℕ → Type 0) (n : ℕ) → ((m : ℕ) → m < n → P m)
 below-suc P n f x m h = by-test (eqb m n)
     (λ t. subst P (sym (eqb-true m n t)) x)
     (λ t. let d : m ≡ n → ⊥ = eqb-false m n t in f m (omega arith))
+
+-- ---- two numbers as one
+
+-- a below n and b below k as one number below n * k
+pub paired-below : (n k a b : ℕ) → a < n → b < k → a * k + b < n * k
+paired-below n k a b h l =
+    let p : suc a * k ≤ n * k = mul-le-mul-right k h in
+    let q : suc a * k ≡ a * k + k = suc-mul a k in
+    omega arith
+
+-- the number with the lesser first part is the lesser
+paired-less : (k a b c d : ℕ) → b < k → a < c → a * k + b < c * k + d
+paired-less k a b c d l h =
+    let p : suc a * k ≤ c * k = mul-le-mul-right k h in
+    let q : suc a * k ≡ a * k + k = suc-mul a k in
+    omega arith
+
+-- both can be read off the one number
+pub paired-parts : (k a b c d : ℕ) → b < k → d < k → a * k + b ≡ c * k + d → (a ≡ c) × (b ≡ d)
+paired-parts k a b c d hb hd e = by-test (ltb a c)
+    (λ t. let l : a * k + b < c * k + d = paired-less k a b c d hb (ltb-true a c t) in absurd (omega arith))
+    (λ t. by-test (ltb c a)
+    (λ u. let l : c * k + d < a * k + b = paired-less k c d a b hd (ltb-true c a u) in absurd (omega arith))
+    (λ u.
+    let g : c ≤ a = ltb-false a c t in
+    let h : a ≤ c = ltb-false c a u in
+    let q : a ≡ c = omega arith in
+    let p : a * k ≡ c * k = ap (λ (x : ℕ). x * k) q in
+    let r : b ≡ d = omega arith in
+    (q, r)))
+
+-- ---- different numbers below a number
+
+-- x, or one less where it is above v: the numbers other than v, without a gap
+abbrev closed-up : ℕ → ℕ → ℕ
+closed-up v x = x - min 1 (x - v)
+
+closed-above : (v x : ℕ) → v < x → suc (closed-up v x) ≡ x
+closed-above v x h = omega arith
+
+closed-under : (v x : ℕ) → x ≤ v → closed-up v x ≡ x
+closed-under v x h = omega arith
+
+-- one that is less than v stays less
+closed-apart : (v x y : ℕ) → (x ≡ v → ⊥) → x ≤ v → v < y → closed-up v x ≡ closed-up v y → ⊥
+closed-apart v x y d g h e = let p : suc x ≡ y = ap suc (sym (closed-under v x g) ∙ e) ∙ closed-above v y h in d (omega arith)
+
+closed-once : (v x y : ℕ) → (x ≡ v → ⊥) → (y ≡ v → ⊥) → closed-up v x ≡ closed-up v y → x ≡ y
+closed-once v x y c d e = by-test (ltb v x)
+    (λ t. let g : v < x = ltb-true v x t in by-test (ltb v y)
+    (λ u. sym (closed-above v x g) ∙ ap suc e ∙ closed-above v y (ltb-true v y u))
+    (λ u. absurd (closed-apart v y x d (ltb-false v y u) g (sym e))))
+    (λ t. let g : x ≤ v = ltb-false v x t in by-test (ltb v y)
+    (λ u. absurd (closed-apart v x y c g (ltb-true v y u) e))
+    (λ u. sym (closed-under v x g) ∙ e ∙ closed-under v y (ltb-false v y u)))
+
+-- of numbers below k that are all different there are at most k
+pub pigeonhole : (f : ℕ → ℕ) (n k : ℕ) → ((i : ℕ) → i < n → f i < k) → ((i j : ℕ) → i < n → j < n → f i ≡ f j → i ≡ j) → n ≤ k
+pigeonhole f zero k below once = omega arith
+pigeonhole f (suc n) zero below once = let h : f 0 < 0 = below 0 (omega arith) in absurd (omega arith)
+pigeonhole f (suc n) (suc k) below once = suc-le-suc (pigeonhole (λ i. closed-up (f n) (f i)) n k
+    (λ i l.
+    let h : f i < suc k = below i (omega arith) in
+    let g : f n < suc k = below n (omega arith) in
+    let d : f i ≡ f n → ⊥ = other i l in
+    omega arith)
+    (λ i j l m e. once i j (omega arith) (omega arith) (closed-once (f n) (f i) (f j) (other i l) (other j m) e)))
+  where
+    other : (i : ℕ) → i < n → f i ≡ f n → ⊥
+    other i l e = let z : i ≡ n = once i n (omega arith) (omega arith) e in omega arith
+
+-- numbers that grow and have a bound are equal somewhere to the next
+pub stops : (f : ℕ → ℕ) (k : ℕ) → ((n : ℕ) → f n ≤ f (suc n)) → ((n : ℕ) → f n ≤ k) → (n : ℕ) × (f (suc n) ≡ f n)
+stops f k grows bound = go (suc k) 0 (omega arith)
+  where
+    go : (m n : ℕ) → k < m + f n → (n : ℕ) × (f (suc n) ≡ f n)
+    go zero n h = let l : f n ≤ k = bound n in absurd (omega arith)
+    go (suc m) n h = by-test (eqb (f (suc n)) (f n))
+        (λ t. (n, eqb-true (f (suc n)) (f n) t))
+        (λ t.
+        let d : f (suc n) ≡ f n → ⊥ = eqb-false (f (suc n)) (f n) t in
+        let l : f n ≤ f (suc n) = grows n in
+        go m (suc n) (omega arith))

@@ -200,6 +200,14 @@ zero-or-member = bin-ind (λ (s : ℕ). (s ≡ 0) ⊎ ((n : ℕ) × Has s n)) (i
     step s (inl z) = by-parity s (λ e. inl (omega arith)) (λ o. inr (0, record { has = member-zero s ∙ eq-eqb (s % 2) 1 o }))
     step s (inr x) = inr (suc (x .0), record { has = member-suc s (x .0) ∙ x .1 .has })
 
+-- a set of numbers below w is a word below 2 ^ w
+pub all-below : (w s : ℕ) → All s (λ n. n < w) → s < 2 ^ w
+all-below zero s h = ⊎-elim (λ z. omega arith) (λ x. let l : x .0 < 0 = h (x .0) (x .1) in absurd (omega arith)) (zero-or-member s)
+all-below (suc w) s h =
+    let p : 2 ^ suc w ≡ 2 * 2 ^ w = pow-succ' 2 w in
+    let l : s / 2 < 2 ^ w = all-below w (s / 2) (λ n x. let k : suc n < suc w = h (suc n) (record { has = member-suc s n ∙ x .has }) in omega arith) in
+    omega arith
+
 -- ---- parts
 
 pub same-members : (x y : Bool) → (x ≡ true → y ≡ true) → x || y ≡ y
