@@ -2,22 +2,22 @@
 -- rounds, so that some round adds none, and the table before it is closed.
 -- Assumes nothing.
 use Prim.Native.Nat.{ℕ, zero, suc, _+_, _*_, _^_, _≤_, _<_}
-use mathlib.Core.Path.{_≡_, ap₂, subst}
-use mathlib.Core.List.{List, [], _∷_, List·Memᴰ}
+use mathlib.Core.Path.{_≡_, refl, ap, sym, _∙_, subst}
+use mathlib.Core.List.{List, List·Memᴰ}
 use native.Mathlib.Nat.{le-trans}
 use native.Mathlib.Omega.{arith}
-use lib.ListN.{length, getD}
-use Rattle.words.specs.Laws.Numbers.{paired-below, paired-parts, pigeonhole, stops}
-use Rattle.words.specs.Lists.Laws.{getD-in}
+use lib.ListN.{length}
+use Rattle.words.specs.Laws.Numbers.{paired-below, paired-parts, stops}
+use Rattle.words.specs.Lists.Once.{once-shorter, below, length-below, below-in}
 use Rattle.words.specs.Sets.Laws.{all-below}
 use Rattle.stacks.specs.System.{Rule}
-use Rattle.automata.specs.Automaton.{Automaton, Move, Entry, noEntry, entryKey, moveAt}
-use Rattle.automata.specs.Automaton.Laws.{moveAt-in}
+use Rattle.automata.specs.Automaton.{Automaton, Move, Entry, noMove, noEntry, entryKey, moveAt}
 use Rattle.automata.specs.Saturation.{tableAfter}
 use Rattle.automata.specs.Facts.{RuleFacts, MoveFacts, TableFacts, RuleBounded, MoveBounded, Bounded, ofOrder, states, Closed}
 use Rattle.automata.specs.Facts.Laws.{moves-grow}
 use Rattle.rounds.specs.Bounded.{after-bounded}
 use Rattle.rounds.specs.Kept.{after-facts}
+use Rattle.rounds.specs.Once.{after-moves-once}
 use Rattle.rounds.specs.Rounds.{after-suc, after-next, own-extends, still-closed}
 use Rattle.rounds.specs.SaturatedTable.{MovesOnce}
 
@@ -27,23 +27,22 @@ use Rattle.rounds.specs.SaturatedTable.{MovesOnce}
 abbrev entryCode : ℕ → Entry → ℕ
 entryCode Q e = e .control * 2 ^ Q + e .S
 
+entryCode-once : (Q : ℕ) {d e : Entry} → d .S < 2 ^ Q → e .S < 2 ^ Q → entryCode Q d ≡ entryCode Q e → d ≡ e
+entryCode-once Q {d} {e} h k z =
+    let (p, q) = paired-parts (2 ^ Q) (d .control) (d .S) (e .control) (e .S) h k z in
+    λ i. record { control = p i; S = q i }
+
 -- where there are P controls and Q order-2 states, there are at most P * 2 ^ Q entries
 pub entries-few : {P Q K : ℕ} {A : Automaton} → TableFacts P A → Bounded Q K A → length (A .entries) ≤ P * 2 ^ Q
-unfolding entryKey
-entries-few {P} {Q} {K} {A} F G = pigeonhole (λ i. entryCode Q (at i)) (length (A .entries)) (P * 2 ^ Q)
-    (λ i l. paired-below P (2 ^ Q) (at i .control) (at i .S) (F .entry-control (at i) (getD-in (A .entries) i noEntry l)) (set i l))
-    (λ i j l m e.
-    let z = paired-parts (2 ^ Q) (at i .control) (at i .S) (at j .control) (at j .S) (set i l) (set j m) e in
-    F .entry-once i j l m (key (at i) (at j) (z .0) (z .1)))
-  where
-    at : ℕ → Entry
-    at i = getD (A .entries) i noEntry
-
-    set : (i : ℕ) → i < length (A .entries) → at i .S < 2 ^ Q
-    set i l = all-below Q (at i .S) (G .entry-below (at i) (getD-in (A .entries) i noEntry l))
-
-    key : (d e : Entry) → d .control ≡ e .control → d .S ≡ e .S → entryKey d ≡ entryKey e
-    key d e p q = ap₂ (λ (x y : ℕ). x ∷ y ∷ []) p q
+entries-few {P} {Q} {K} {A} F G =
+    subst (λ (n : ℕ). length (A .entries) ≤ n) (length-below (P * 2 ^ Q))
+    (once-shorter (λ (e : Entry) (n : ℕ). (e .S < 2 ^ Q) × (entryCode Q e ≡ n)) noEntry (A .entries) (below (P * 2 ^ Q))
+    (λ i j l m e. F .entry-once i j l m (ap entryKey e))
+    (λ e i.
+    let s : e .S < 2 ^ Q = all-below Q (e .S) (G .entry-below e i) in
+    let l : entryCode Q e < P * 2 ^ Q = paired-below P (2 ^ Q) (e .control) (e .S) (F .entry-control e i) s in
+    (entryCode Q e, below-in (P * 2 ^ Q) (entryCode Q e) l, (s, refl)))
+    (λ d e n x y. entryCode-once Q (x .0) (y .0) (x .1 ∙ sym (y .1))))
 
 -- ---- moves
 
@@ -103,31 +102,33 @@ unfoldable pub moveBound : ℕ → ℕ → ℕ → ℕ → ℕ
 moveBound P Q K J = mostMoves Q K (J + P * 2 ^ Q)
 
 pub moves-few : {P Q K : ℕ} {A : Automaton} → TableFacts P A → Bounded Q K A → MovesOnce A → length (A .moves) ≤ moveBound P Q K (A .J)
-unfolding moveBound
-moves-few {P} {Q} {K} {A} F G once = pigeonhole (λ i. moveCode Q K N (moveAt A i)) (length (A .moves)) (mostMoves Q K N)
-    (λ i l. code-below (at i l))
-    (λ i j l m e. once i j l m (code-once (at i l) (at j m) e))
+unfolding moveBound moveAt
+moves-few {P} {Q} {K} {A} F G once =
+    subst (λ (n : ℕ). length (A .moves) ≤ n) (length-below (mostMoves Q K N))
+    (once-shorter (λ (m : Move) (n : ℕ). Small Q K N m × (moveCode Q K N m ≡ n)) noMove (A .moves) (below (mostMoves Q K N))
+    once
+    (λ m i. (moveCode Q K N m, below-in (mostMoves Q K N) (moveCode Q K N m) (code-below (at m i)), (at m i, refl)))
+    (λ m k n x y. code-once (x .0) (y .0) (x .1 ∙ sym (y .1))))
   where
     N : ℕ
     N = A .J + P * 2 ^ Q
 
-    at : (i : ℕ) → i < length (A .moves) → Small Q K N (moveAt A i)
-    at i l =
+    at : (m : Move) → List·Memᴰ m (A .moves) → Small Q K N m
+    at m i =
         let k : length (A .entries) ≤ P * 2 ^ Q = entries-few F G in
-        let j = moveAt-in A i l in
         let h : states A ≤ N = omega arith in
-        small h (F .move-facts (moveAt A i) j) (G .move-below (moveAt A i) j)
+        small h (F .move-facts m i) (G .move-below m i)
 
 -- ---- the rounds
 
 module _ {P Q K : ℕ} (rules : List Rule) (rule-facts : (ρ : Rule) → List·Memᴰ ρ rules → RuleFacts P ρ)
     (rule-bounded : (ρ : Rule) → List·Memᴰ ρ rules → RuleBounded Q K ρ) {own : Automaton} (F : TableFacts P own) (G : Bounded Q K own)
-    (once : (n : ℕ) → MovesOnce (tableAfter rules own n)) where
+    (once : MovesOnce own) where
   -- no table after rounds has more moves
   pub after-moves-few : (n : ℕ) → length (tableAfter rules own n .moves) ≤ moveBound P Q K (own .J)
   after-moves-few n =
       subst (λ (J : ℕ). length (tableAfter rules own n .moves) ≤ moveBound P Q K J) (own-extends rules own n .same-J)
-      (moves-few (after-facts rules rule-facts F n) (after-bounded rules rule-bounded G n) (once n))
+      (moves-few (after-facts rules rule-facts F n) (after-bounded rules rule-bounded G n) (after-moves-once rules rule-facts F once n))
 
   -- "The work ends": after some number of rounds the table is closed
   pub work-ends : (n : ℕ) × Closed rules (tableAfter rules own n)

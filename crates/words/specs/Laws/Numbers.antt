@@ -1,7 +1,7 @@
--- Numbers: what holds from a number on, and below a number; two numbers as one; how many different numbers are below a number.
+-- Numbers: what holds from a number on, and below a number; two numbers as one; numbers that grow and have a bound.
 -- Assumes nothing.
-use Prim.Native.Nat.{ℕ, zero, suc, _+_, _-_, _*_, _≤_, _<_, min, suc-le-suc}
-use mathlib.Core.Path.{_≡_, ap, sym, _∙_, subst}
+use Prim.Native.Nat.{ℕ, zero, suc, _+_, _*_, _≤_, _<_}
+use mathlib.Core.Path.{_≡_, ap, sym, subst}
 use native.Mathlib.Nat.{suc-mul, mul-le-mul-right}
 use native.Mathlib.Omega.{arith}
 use lib.Dec.{eqb, ltb}
@@ -51,45 +51,7 @@ paired-parts k a b c d hb hd e = by-test (ltb a c)
     let r : b ≡ d = omega arith in
     (q, r)))
 
--- ---- different numbers below a number
-
--- x, or one less where it is above v: the numbers other than v, without a gap
-abbrev closed-up : ℕ → ℕ → ℕ
-closed-up v x = x - min 1 (x - v)
-
-closed-above : (v x : ℕ) → v < x → suc (closed-up v x) ≡ x
-closed-above v x h = omega arith
-
-closed-under : (v x : ℕ) → x ≤ v → closed-up v x ≡ x
-closed-under v x h = omega arith
-
--- one that is less than v stays less
-closed-apart : (v x y : ℕ) → (x ≡ v → ⊥) → x ≤ v → v < y → closed-up v x ≡ closed-up v y → ⊥
-closed-apart v x y d g h e = let p : suc x ≡ y = ap suc (sym (closed-under v x g) ∙ e) ∙ closed-above v y h in d (omega arith)
-
-closed-once : (v x y : ℕ) → (x ≡ v → ⊥) → (y ≡ v → ⊥) → closed-up v x ≡ closed-up v y → x ≡ y
-closed-once v x y c d e = by-test (ltb v x)
-    (λ t. let g : v < x = ltb-true v x t in by-test (ltb v y)
-    (λ u. sym (closed-above v x g) ∙ ap suc e ∙ closed-above v y (ltb-true v y u))
-    (λ u. absurd (closed-apart v y x d (ltb-false v y u) g (sym e))))
-    (λ t. let g : x ≤ v = ltb-false v x t in by-test (ltb v y)
-    (λ u. absurd (closed-apart v x y c g (ltb-true v y u) e))
-    (λ u. sym (closed-under v x g) ∙ e ∙ closed-under v y (ltb-false v y u)))
-
--- of numbers below k that are all different there are at most k
-pub pigeonhole : (f : ℕ → ℕ) (n k : ℕ) → ((i : ℕ) → i < n → f i < k) → ((i j : ℕ) → i < n → j < n → f i ≡ f j → i ≡ j) → n ≤ k
-pigeonhole f zero k below once = omega arith
-pigeonhole f (suc n) zero below once = let h : f 0 < 0 = below 0 (omega arith) in absurd (omega arith)
-pigeonhole f (suc n) (suc k) below once = suc-le-suc (pigeonhole (λ i. closed-up (f n) (f i)) n k
-    (λ i l.
-    let h : f i < suc k = below i (omega arith) in
-    let g : f n < suc k = below n (omega arith) in
-    let d : f i ≡ f n → ⊥ = other i l in
-    omega arith)
-    (λ i j l m e. once i j (omega arith) (omega arith) (closed-once (f n) (f i) (f j) (other i l) (other j m) e)))
-  where
-    other : (i : ℕ) → i < n → f i ≡ f n → ⊥
-    other i l e = let z : i ≡ n = once i n (omega arith) (omega arith) e in omega arith
+-- ---- numbers that grow
 
 -- numbers that grow and have a bound are equal somewhere to the next
 pub stops : (f : ℕ → ℕ) (k : ℕ) → ((n : ℕ) → f n ≤ f (suc n)) → ((n : ℕ) → f n ≤ k) → (n : ℕ) × (f (suc n) ≡ f n)

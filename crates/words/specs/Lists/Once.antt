@@ -1,12 +1,13 @@
--- Lists that hold each element once: one is no longer than a list that has a partner for each element, and no partner for two.
+-- Lists that hold each element once: one is no longer than a list of partners, one for each element and none for two; the numbers below k.
 -- Assumes nothing.
-use Prim.Native.Nat.{ℕ, suc, _<_, _≤_, suc-le-suc}
+use Prim.Native.Nat.{ℕ, zero, suc, _<_, _≤_, suc-le-suc}
 use mathlib.Core.Path.{_≡_, refl, ap, sym, _∙_, subst}
 use mathlib.Core.Logic.{_⊎_, inl, inr, ⊎-elim}
 use mathlib.Core.List.{List, [], _∷_, List·Memᴰ, List·Memᴰ·head, List·Memᴰ·tail, List·Memᴰ·cases-cons}
 use native.Mathlib.Nat.{suc-inj}
 use native.Mathlib.Omega.{arith}
 use lib.ListN.{length, getD}
+use Rattle.words.specs.Laws.Numbers.{below-suc}
 use Rattle.words.specs.Lists.Laws.{in-getD}
 
 -- a list without one of its elements has one element fewer and all others
@@ -43,3 +44,20 @@ module _ {A B : Type 0} (X : A → B → Type 0) (d : A) where
       (f w h))
       alone in
       omega arith
+
+-- ---- the numbers below a number
+
+-- the numbers below k, the greatest first
+unfoldable pub below : ℕ → List ℕ
+below zero = []
+below (suc k) = k ∷ below k
+
+pub length-below : (k : ℕ) → length (below k) ≡ k
+unfolding below
+length-below zero = refl
+length-below (suc k) = ap suc (length-below k)
+
+pub below-in : (k n : ℕ) → n < k → List·Memᴰ n (below k)
+unfolding below
+below-in zero n h = absurd (omega arith)
+below-in (suc k) n h = below-suc (λ m. List·Memᴰ m (below (suc k))) k (λ m l. List·Memᴰ·tail (below-in k m l)) (List·Memᴰ·head refl) n h
