@@ -3,3 +3,4 @@ pub mod Prefix
 pub mod Decoration
 pub mod Simulation
 pub mod Arrival
+pub mod LeastChoice
