@@ -1,41 +1,91 @@
--- Demand 1: whatever the files and the lengths of the lent slices, a service answers with one of document 01's numbers, and every lent word
--- then holds what that paper states. The services' contracts equate their code with the definitions; this is what the definitions say. The
--- proof is `demand1` in Demand1/Proof.antt.
+-- Demand 1: whatever the files and the lengths of the lent slices, a service judges them or refuses with document 01's number, and every lent
+-- word then holds what that paper states. The services' contracts equate their code with the definitions; this is what the definitions
+-- say. The proof is `demand1` in Demand1/Proof.antt.
 -- Assumes nothing.
 pub mod Proof
+use Prim.Native.Nat.{ℕ, _<_}
 use mathlib.Core.Path.{_≡_}
-use mathlib.Core.List.{[], _∷_, List·Memᴰ}
-use lib.ListN.{length}
-use Rattle.replies.specs.Numbers.{refusalOf}
+use mathlib.Core.List.{List}
+use lib.ListN.{length, getD}
+use Rattle.automata.specs.Automaton.{Automaton}
+use Rattle.replies.specs.declared.Reply.{Reply}
+use Rattle.replies.specs.declared.Reply.the-variants.{Refused, NoRun, Walked}
+use Rattle.replies.specs.Numbers.{countsOf}
 use Rattle.words.specs.Lists.{zeros}
+use Rattle.files.specs.Start.{startsOf}
+use Rattle.services.specs.Memory.{padded, moveTable, entryTable}
 use Rattle.services.specs.Saturate.{Lent, SaturateDone, saturateService}
 use Rattle.services.specs.Judge.{JudgeInput, JudgeDone, judgeService}
 use Rattle.services.specs.Guide.{GuideInput, GuideDone, guideService}
+use Rattle.demands.specs.Reach.{Runs, Marks}
+use Rattle.demands.specs.Size.{SaturatedTable}
+use Rattle.demands.specs.Refusals.{Returned, saturateRefusals, judgeRefusals, guideRefusals}
+use Rattle.demands.specs.FullRun.{fullTrace}
+
+-- ---- saturate
+
+-- "Saturate fills a move table .. and an entry table ..; only whole records count, the rest is zero", with its numbers of moves and entries.
+pub record Filled (x : Lent) (d : SaturateDone) : Type 0 where
+  pub table : Automaton
+  pub saturated : SaturatedTable (x .case) table
+  pub moves-are : d .moves ≡ padded (x .moves) (moveTable table)
+  pub entries-are : d .entries ≡ padded (x .entries) (entryTable table)
+  pub move-count : d .reply .moves ≡ length (table .moves)
+  pub entry-count : d .reply .entries ≡ length (table .entries)
+
+-- "All zero", with "0 in a refusal" for both numbers.
+pub record Emptied (x : Lent) (d : SaturateDone) : Type 0 where
+  pub moves-zero : d .moves ≡ zeros (x .moves)
+  pub entries-zero : d .entries ≡ zeros (x .entries)
+  pub move-count : d .reply .moves ≡ 0
+  pub entry-count : d .reply .entries ≡ 0
 
 -- what document 01 states of saturate's answer d to x
 pub record SaturateStates (x : Lent) (d : SaturateDone) : Type 0 where
-  pub number : List·Memᴰ (d .reply .code) (0 ∷ 1 ∷ 2 ∷ 3 ∷ 4 ∷ 9 ∷ [])
+  pub number : Returned saturateRefusals x (d .reply .code)
   pub moves-length : length (d .moves) ≡ x .moves
   pub entries-length : length (d .entries) ≡ x .entries
-  pub refused-moves : (d .reply .code ≡ 0 → ⊥) → (d .moves ≡ zeros (x .moves)) × (d .reply .moves ≡ 0)
-  pub refused-entries : (d .reply .code ≡ 0 → ⊥) → (d .entries ≡ zeros (x .entries)) × (d .reply .entries ≡ 0)
+  pub done : d .reply .code ≡ 0 → Filled x d
+  pub refused : (d .reply .code ≡ 0 → ⊥) → Emptied x d
+
+-- ---- judge
+
+-- "Judge writes one byte per start, 1 or 0, the rest zero."
+pub record Marked (x : JudgeInput) (answers : List ℕ) : Type 0 where
+  pub marks : List ℕ
+  pub one-a-start : length marks ≡ length (startsOf (x .start))
+  pub each-mark : (n : ℕ) → n < length (startsOf (x .start)) → Marks (x .case) (x .start) n (getD marks n 0)
+  pub answers-are : answers ≡ padded (x .answers) marks
 
 -- what document 01 states of judge's answer d to x
 pub record JudgeStates (x : JudgeInput) (d : JudgeDone) : Type 0 where
-  pub number : List·Memᴰ (d .code) (0 ∷ 1 ∷ 2 ∷ 3 ∷ 4 ∷ 5 ∷ 6 ∷ 8 ∷ 9 ∷ [])
+  pub number : Returned judgeRefusals x (d .code)
   pub moves-zero : d .moves ≡ zeros (x .moves)
   pub entries-zero : d .entries ≡ zeros (x .entries)
   pub answers-length : length (d .answers) ≡ x .answers
-  pub refused-answers : (d .code ≡ 0 → ⊥) → d .answers ≡ zeros (x .answers)
+  pub done : d .code ≡ 0 → Marked x (d .answers)
+  pub refused : (d .code ≡ 0 → ⊥) → d .answers ≡ zeros (x .answers)
 
--- what document 01 states of guide's answer d to x; the trace of a walk is demand 3's
+-- ---- guide
+
+-- the number and the trace of each answer: a refusal's number is the first that applies and its trace zero; no run, where no number applies and
+-- there is none, leaves the trace zero; a walk, where no number applies and there is a run, writes as many steps of the full run as it
+-- reports, the rest being zero
+abbrev pub Answered : GuideInput → Reply → List ℕ → Type 0
+Answered x (Refused n) trace = Returned guideRefusals x n × (n ≡ 0 → ⊥) × (trace ≡ zeros (x .trace))
+Answered x NoRun trace = Returned guideRefusals x 0 × (Runs (x .case) (x .start) (x .number) → ⊥) × (trace ≡ zeros (x .trace))
+Answered x (Walked h) trace =
+    Returned guideRefusals x 0
+    × Runs (x .case) (x .start) (x .number)
+    × (trace ≡ padded (x .trace) (fullTrace (x .case) (x .start) (x .number) (countsOf h .steps)))
+
+-- what document 01 states of guide's answer d to x; how a walk halts is demand 3's
 pub record GuideStates (x : GuideInput) (d : GuideDone) : Type 0 where
-  pub number : List·Memᴰ (refusalOf (d .reply)) (0 ∷ 1 ∷ 2 ∷ 3 ∷ 4 ∷ 5 ∷ 6 ∷ 7 ∷ 9 ∷ [])
+  pub answered : Answered x (d .reply) (d .trace)
   pub moves-zero : d .moves ≡ zeros (x .moves)
   pub entries-zero : d .entries ≡ zeros (x .entries)
   pub cells-zero : d .cells ≡ zeros (x .cells)
   pub trace-length : length (d .trace) ≡ x .trace
-  pub refused-trace : (refusalOf (d .reply) ≡ 0 → ⊥) → d .trace ≡ zeros (x .trace)
 
 -- for every input of each service
 abbrev pub Demand1 : Type 0

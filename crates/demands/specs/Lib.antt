@@ -1,6 +1,9 @@
 pub mod Reach
+pub mod Size
+pub mod Refusals
 pub mod FullRun
 pub mod Demand1
 pub mod Demand2
 pub mod Demand3
+pub mod Instances
 pub mod Laws

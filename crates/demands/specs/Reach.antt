@@ -1,14 +1,18 @@
--- A configuration reaches the target by a finite run: in document 01's words, and in the published ones.
+-- A configuration reaches the target by a finite run: in document 01's words, and in the published ones; and the mark of a start.
 -- Assumes nothing.
 pub mod Laws
 use Prim.Native.Nat.{ℕ}
 use mathlib.Core.Bool.{true}
 use mathlib.Core.Path.{_≡_}
+use mathlib.Core.Logic.{_↔_}
 use mathlib.Core.List.{List, map}
+use lib.ListN.{getD}
 use Rattle.stacks.specs.System.{Configuration, Rule, Run}
 use Rattle.stacks.specs.Published.{Transitions, publishedRule}
 use Rattle.automata.specs.Automaton.{Automaton}
 use Rattle.automata.specs.Acceptance.{inTarget}
+use Rattle.files.specs.Case.{ownOf, rulesOf}
+use Rattle.files.specs.Start.{Start, startsOf, configurationOf}
 
 -- a finite run of the rules leads from c into the target of the own automaton
 pub record Reaches (rules : List Rule) (own : Automaton) (c : Configuration) : Type 0 where
@@ -22,3 +26,21 @@ pub record PublishedReaches (rules : List Rule) (own : Automaton) (c : Configura
   pub end : Configuration
   pub transitions : Transitions (map publishedRule rules) c end
   pub in-target : inTarget own end ≡ true
+
+-- ---- the starts of a start file
+
+-- start n of a start file, and its configuration
+unfoldable pub startAt : List ℕ → ℕ → Start
+startAt file n = getD (startsOf file) n (record { control = 0; root = 0 })
+
+unfoldable pub configurationAt : List ℕ → ℕ → Configuration
+configurationAt file n = configurationOf file (startAt file n)
+
+-- a finite run of the case's rules, as document 001 publishes them, leads from start n into the target
+abbrev pub Runs : List ℕ → List ℕ → ℕ → Type 0
+Runs case start n = PublishedReaches (rulesOf case) (ownOf case) (configurationAt start n)
+
+-- A mark says yes exactly if there is a run, and no exactly if there is none.
+pub record Marks (case start : List ℕ) (n mark : ℕ) : Type 0 where
+  pub yes : (mark ≡ 1) ↔ Runs case start n
+  pub no-run : (mark ≡ 0) ↔ (Runs case start n → ⊥)

@@ -13,7 +13,7 @@ use Rattle.automata.specs.Acceptance.{accepts2, inTarget}
 use Rattle.automata.specs.Saturation.{Saturated}
 use Rattle.walks.specs.Cell.{Cell, order2, stackAt, stacks}
 use Rattle.walks.specs.Cell.Formed.{orderAt, Formed}
-use Rattle.walks.specs.Guide.{Walk, startWalk, Next, arrived, to, next, walkAfter, traceAfter}
+use Rattle.walks.specs.Guide.{Walk, walkConfiguration, startWalk, Next, arrived, to, next, walkAfter, traceAfter}
 use Rattle.soundness.specs.Decorated.{DecoratedWalk, erased, DecoratedNext, arrived as arrived′, to as to′, stuck as stuck′, next as next′, walkAfter as walkAfter′, traceAfter as traceAfter′}
 use Rattle.soundness.specs.Facts.{SaturatedFacts}
 use Rattle.soundness.specs.Theorem.{Arrival, guided-arrives as decorated-run-arrives}
@@ -77,12 +77,8 @@ module _ (rules : List Rule) (T : Saturated) (w : Walk) (F : WalkFormed w) where
 
 -- ---- the run
 
--- the configuration that a walk stands for: "its control with the stack that its root cell stands for"
-unfoldable pub configurationAt : Walk → Configuration
-configurationAt w = record { control = w .control; stack = order2 (stackAt (stacks (bare (w .cells))) (w .root)) }
-
-pub erased-at : (w : Walk) → erased (decoratedOf w) ≡ configurationAt w
-unfolding configurationAt
+pub erased-at : (w : Walk) → erased (decoratedOf w) ≡ walkConfiguration w
+unfolding walkConfiguration
 erased-at w = erase-walk w
 
 module _ (rules : List Rule) (T : Saturated) where
@@ -142,13 +138,13 @@ module _ (rules : List Rule) (T : Saturated) where
     pub steps : ℕ
     pub last : Walk
     pub arrives : ArrivesAfter rules T steps w last
-    pub run : Run rules (configurationAt w) (traceAfter rules T steps w) (configurationAt last)
-    pub in-target : inTarget own (configurationAt last) ≡ true
+    pub run : Run rules (walkConfiguration w) (traceAfter rules T steps w) (walkConfiguration last)
+    pub in-target : inTarget own (walkConfiguration last) ≡ true
 
   pub guided-arrival : {own : Automaton} (w : Walk) → WalkFormed w → Arrival rules T own (decoratedOf w) → GuidedArrival own w
   guided-arrival {own} w F a =
       let q = run-follows (a .steps) w F (a .reached) in
-      let e : erased (a .last) ≡ configurationAt (q .last) = ap erased (sym (q .stands)) ∙ erased-at (q .last) in
+      let e : erased (a .last) ≡ walkConfiguration (q .last) = ap erased (sym (q .stands)) ∙ erased-at (q .last) in
       record {
         steps = a .steps;
         last = q .last;
@@ -168,7 +164,7 @@ start-arrival {own = own} {rules = rules} {T = T} F cells p root x h o l e =
 
 -- the start's configuration
 pub start-configuration : (A : Automaton) (cells : List Cell) (p root : ℕ)
-    → configurationAt (startWalk A cells p root) ≡ record { control = p; stack = order2 (stackAt (stacks cells) root) }
-unfolding configurationAt startWalk
+    → walkConfiguration (startWalk A cells p root) ≡ record { control = p; stack = order2 (stackAt (stacks cells) root) }
+unfolding walkConfiguration startWalk
 start-configuration A cells p root =
     ap (λ (l : List Cell). record { control = p; stack = order2 (stackAt (stacks l) root) }) (start-bare A cells p root)

@@ -183,6 +183,15 @@ module _ (rules : List Rule) (T : Saturated) where
   run-trace zero w h = refl
   run-trace (suc m) w h = let r = run-first w m h in rw (traceAfter-to w (r .2) m) (ap suc (run-trace m (r .1) (r .3)))
 
+  -- the rule numbers of m steps are at most m
+  pub trace-short : (m : ℕ) (w : Walk) → length (traceAfter rules T m w) ≤ m
+  unfolding traceAfter
+  trace-short zero w = omega arith
+  trace-short (suc m) w = by-next w
+      (λ e. rw (traceAfter, e) (omega arith))
+      (λ n v e. let l : length (traceAfter rules T m v) ≤ m = trace-short m v in rw (traceAfter-to w e m) (omega arith))
+      (λ e. rw (traceAfter, e) (omega arith))
+
   -- the rule numbers of fewer steps are the first of those of more
   pub trace-take : (m k : ℕ) (w : Walk) → m ≤ k → traceAfter rules T m w ≡ take m (traceAfter rules T k w)
   unfolding traceAfter

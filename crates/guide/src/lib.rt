@@ -5,10 +5,13 @@ ghost use lib.ListN.{length};
 ghost use Rattle.files.specs.Start.{startsOf};
 ghost use Rattle.words.specs.Lists.{zeros};
 ghost use Rattle.services.specs.Guide.{guideService};
+ghost use Rattle.replies.specs.Numbers.{refusalOf};
 ghost use Rattle.demands.specs.Demand1.{GuideStates};
+ghost use Rattle.demands.specs.Demand2.{GuideRuns, GuideSize};
+ghost use Rattle.demands.specs.Demand3.{Guides};
 ghost use Rattle.sound_files.specs.Refusal.{FilesSound};
 ghost use Rattle.guided_start.specs.Run.{guideInput};
-ghost use Rattle.guide.specs.Service.{guideDone, Guides};
+ghost use Rattle.guide.specs.Service.{guideDone};
 use limits::Limits;
 use replies::Reply;
 
@@ -54,7 +57,8 @@ fn guide_sound(
 }
 
 // Writes into the trace the rule numbers of a run from start `number` into the case's target, as many as the trace and the cells hold. Answers
-// how the walk halted, that there is no run, or the number of a refusal. Demands 1 and 3 hold of what it answers and leaves.
+// how the walk halted, that there is no run, or the number of a refusal. Demands 1, 2 and 3 hold of what it answers and
+// leaves.
 pub fn guide(
     case: &[u8],
     start: &[u8],
@@ -66,6 +70,8 @@ pub fn guide(
 ) -> Reply
     ensures { λ r. ⌜ guideDone r (now (moves .exit)) (now (entries .exit)) (now (cells .exit)) (now (trace .exit)) ≡ guideService (guideInput (now (case .entry)) (now (start .entry)) number (length (now (moves .entry))) (length (now (entries .entry))) (length (now (cells .entry))) (length (now (trace .entry)))) ⌝ }
     ensures demand1 { λ r. ⌜ GuideStates (guideInput (now (case .entry)) (now (start .entry)) number (length (now (moves .entry))) (length (now (entries .entry))) (length (now (cells .entry))) (length (now (trace .entry)))) (guideDone r (now (moves .exit)) (now (entries .exit)) (now (cells .exit)) (now (trace .exit))) ⌝ }
+    ensures demand2 { λ r. ⌜ GuideRuns (guideInput (now (case .entry)) (now (start .entry)) number (length (now (moves .entry))) (length (now (entries .entry))) (length (now (cells .entry))) (length (now (trace .entry)))) r ⌝ }
+    ensures size { λ r. ⌜ GuideSize (guideInput (now (case .entry)) (now (start .entry)) number (length (now (moves .entry))) (length (now (entries .entry))) (length (now (cells .entry))) (length (now (trace .entry)))) (refusalOf r) ⌝ }
     ensures demand3 { λ r. ⌜ Guides (guideInput (now (case .entry)) (now (start .entry)) number (length (now (moves .entry))) (length (now (entries .entry))) (length (now (cells .entry))) (length (now (trace .entry)))) (guideDone r (now (moves .exit)) (now (entries .exit)) (now (cells .exit)) (now (trace .exit))) ⌝ }
 {
     sound_files::zero_tables(moves, entries);

@@ -15,8 +15,8 @@ ghost use Rattle.sound_files.specs.Sound.{StartSound};
 ghost use Rattle.sound_files.specs.Refusal.{FilesSound};
 ghost use Rattle.judge.specs.Marks.{markBy};
 ghost use Rattle.demands.specs.Demand1.{JudgeStates};
-ghost use Rattle.demands.specs.Demand2.{Marks};
-ghost use Rattle.judge.specs.Service.{judgeInput, judgeDone, SizeRefused};
+ghost use Rattle.demands.specs.Demand2.{JudgeMarks, JudgeSize};
+ghost use Rattle.judge.specs.Service.{judgeInput, judgeDone};
 use limits::Limits;
 use start_records::Start;
 use tables::Table;
@@ -104,8 +104,8 @@ pub fn judge(
 ) -> u64
     ensures { λ r. ⌜ judgeDone r (now (moves .exit)) (now (entries .exit)) (now (answers .exit)) ≡ judgeService (judgeInput (now (case .entry)) (now (start .entry)) (length (now (moves .entry))) (length (now (entries .entry))) (length (now (answers .entry)))) ⌝ }
     ensures demand1 { λ r. ⌜ JudgeStates (judgeInput (now (case .entry)) (now (start .entry)) (length (now (moves .entry))) (length (now (entries .entry))) (length (now (answers .entry)))) (judgeDone r (now (moves .exit)) (now (entries .exit)) (now (answers .exit))) ⌝ }
-    ensures demand2 { λ r. ⌜ (r ≡ 0 → (n : ℕ) → n < length (startsOf (now (start .entry))) → Marks (now (case .entry)) (now (start .entry)) n (getD (now (answers .exit)) n 0)) ⌝ }
-    ensures size { λ r. ⌜ SizeRefused (judgeInput (now (case .entry)) (now (start .entry)) (length (now (moves .entry))) (length (now (entries .entry))) (length (now (answers .entry)))) r ⌝ }
+    ensures demand2 { λ r. ⌜ JudgeMarks (judgeInput (now (case .entry)) (now (start .entry)) (length (now (moves .entry))) (length (now (entries .entry))) (length (now (answers .entry)))) (judgeDone r (now (moves .exit)) (now (entries .exit)) (now (answers .exit))) ⌝ }
+    ensures size { λ r. ⌜ JudgeSize (judgeInput (now (case .entry)) (now (start .entry)) (length (now (moves .entry))) (length (now (entries .entry))) (length (now (answers .entry)))) r ⌝ }
 {
     sound_files::zero_tables(moves, entries);
     zeroing::zero_u8(answers);

@@ -1,4 +1,3 @@
 pub mod Files
 pub mod Computing
 pub mod Examples
-pub mod Instances

@@ -1,14 +1,13 @@
 // The service saturate, and the saturated table of a sound case for the services above.
 ghost use mathlib.Core.Path.{_≡_};
 ghost use mathlib.Core.Bool.{false};
-ghost use mathlib.Core.Logic.{_↔_};
 ghost use lib.ListN.{length};
 ghost use Rattle.automata.specs.Saturation.{within};
 ghost use Rattle.files.specs.Case.{ownOf, caseRefusal};
 ghost use Rattle.services.specs.Memory.{lent};
 ghost use Rattle.services.specs.Saturate.{saturateService};
 ghost use Rattle.demands.specs.Demand1.{SaturateStates};
-ghost use Rattle.demands.specs.Demand2.{Exceeds};
+ghost use Rattle.demands.specs.Demand2.{SaturateSize};
 ghost use Rattle.saturate.specs.Case.{Working, CaseSaturated};
 ghost use Rattle.saturate.specs.Service.{theLent, theDone, theRefused};
 use limits::Limits;
@@ -83,7 +82,7 @@ fn refused(code: u64) -> Saturation
 pub fn saturate(case: &[u8], moves: &mut [u64], entries: &mut [u64]) -> Saturation
     ensures { λ r. ⌜ theDone r (now (moves .exit)) (now (entries .exit)) ≡ saturateService (theLent (now (case .entry)) (now (moves .entry)) (now (entries .entry))) ⌝ }
     ensures demand1 { λ r. ⌜ SaturateStates (theLent (now (case .entry)) (now (moves .entry)) (now (entries .entry))) (theDone r (now (moves .exit)) (now (entries .exit))) ⌝ }
-    ensures demand2 { λ r. ⌜ (caseRefusal (now (case .entry)) ≡ 0 → (r .code ≡ 9) ↔ Exceeds (theLent (now (case .entry)) (now (moves .entry)) (now (entries .entry)))) ⌝ }
+    ensures demand2 { λ r. ⌜ SaturateSize (theLent (now (case .entry)) (now (moves .entry)) (now (entries .entry))) (r .code) ⌝ }
 {
     zeroing::zero_u64(moves);
     zeroing::zero_u64(entries);

@@ -1,5 +1,6 @@
 -- Lent memory: how many records it holds, and what stands in it.
 -- Assumes nothing.
+pub mod Laws
 use Prim.Native.Nat.{ℕ, _-_, _/_}
 use mathlib.Core.List.{List, [], _∷_, _++_}
 use lib.ListN.{length}

@@ -3,14 +3,14 @@
 use Prim.Native.Nat.{ℕ, zero, suc, _-_}
 use mathlib.Core.Bool.{true, false}
 use mathlib.Core.Option.{Option, none, some}
-use mathlib.Core.List.{List, [], _∷_, _++_, zipWith}
+use mathlib.Core.List.{List, [], _∷_, _++_, map, zipWith}
 use lib.ListN.{length, getD, getElem?}
 use lib.Dec.{eqb, ltb, leb}
 use Rattle.words.specs.Sets.{members}
 use Rattle.words.specs.Lists.{only}
 use Rattle.stacks.specs.Stack.{nil1, cons1, nil2, cons2, Annotation, of1, of2}
 use Rattle.stacks.specs.Stack.{Operation, rewrite, push1, push2, copy, pop1, pop2, collapse1, collapse2}
-use Rattle.stacks.specs.System.{Rule}
+use Rattle.stacks.specs.System.{Configuration, Rule}
 use Rattle.automata.specs.Automaton.{Automaton, moveAt, edgeAt, edgesOf, movesOf, entrySet, entryEdge}
 use Rattle.automata.specs.Acceptance.{moveFits, edgeFits}
 use Rattle.automata.specs.Derivation.{Derivation, named, resultOf, firstDerivation}
@@ -20,7 +20,7 @@ use Rattle.replies.specs.declared.Halt.{Halt}
 use Rattle.replies.specs.declared.Halt.the-variants.{Arrived, TraceFull, CellsShort}
 use Rattle.replies.specs.declared.Reply.{Reply}
 use Rattle.replies.specs.declared.Reply.the-variants.{NoRun, Walked}
-use Rattle.walks.specs.Cell.{Cell, empty1, symbol, empty2, above, stacks, cellsAfter, rootAfter}
+use Rattle.walks.specs.Cell.{Cell, empty1, symbol, empty2, above, order2, stackAt, stacks, cellsAfter, rootAfter}
 
 -- a cell with its choices: for a symbol the number of a move by order-1 state, for an order-2 stack the number of an edge by order-2
 -- state
@@ -36,6 +36,10 @@ pub record Walk : Type 0 where
   pub control : ℕ
   pub root : ℕ
   pub cells : List Guided
+
+-- the configuration that a walk stands for: "its control with the stack that its root cell stands for"
+unfoldable pub walkConfiguration : Walk → Configuration
+walkConfiguration w = record { control = w .control; stack = order2 (stackAt (stacks (map (λ g. g .cell) (w .cells))) (w .root)) }
 
 -- the first number of a list
 unfoldable pub firstOrZero : List ℕ → ℕ

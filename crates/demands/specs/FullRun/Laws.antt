@@ -1,18 +1,97 @@
--- A guide's halt in the words of the walk is its halt in document 01's words.
+-- The full run of a start is one, whatever tables are lent. A guide's halt in the words of the walk is its halt in document 01's words.
 -- Assumes nothing.
-use Prim.Native.Nat.{ℕ, suc, _+_, _-_, _≤_, _<_}
+use Prim.Native.Nat.{ℕ, suc, _+_, _-_, _≤_, _<_, min}
+use mathlib.Core.Bool.{true}
 use mathlib.Core.Path.{_≡_, ap, sym, _∙_}
-use mathlib.Core.Option.{some}
+use mathlib.Core.Option.{none, some, Option·some-injective, Option·none-ne-some}
 use mathlib.Core.List.{List}
 use native.Mathlib.Omega.{arith}
 use lib.ListN.{length}
+use Rattle.words.specs.Laws.Options.{by-option}
 use Rattle.stacks.specs.System.{Rule}
-use Rattle.automata.specs.Saturation.{Saturated}
+use Rattle.automata.specs.Automaton.{Automaton}
+use Rattle.automata.specs.Facts.{states}
+use Rattle.automata.specs.Saturation.{Size, Saturated, within}
+use Rattle.rounds.specs.Limits.{KeepsLimits, within-keeps, keeps-within, saturate-some, held-table}
 use Rattle.walks.specs.Guide.{Walk, arrived, to, next, walkAfter, traceAfter}
-use Rattle.guidance.specs.Run.{run-first, run-trace, run-join, run-split, trace-take, cellsOfSteps, run-cells-used, walkAfter-to}
+use Rattle.files.specs.Case.{ownOf, rulesOf}
+use Rattle.services.specs.Memory.{lent}
+use Rattle.services.specs.Saturate.{Lent, saturated}
+use Rattle.guidance.specs.Run.{trace-short, run-first, run-trace, run-join, run-split, trace-take, cellsOfSteps, run-cells-used, walkAfter-to}
 use Rattle.guidance.specs.Prefix.{Reason, ArrivesAfter, FirstHalt, arrives-last}
 use Rattle.guidance.specs.Prefix
-use Rattle.demands.specs.FullRun.{used, HaltsAfter, has-arrived, is-full, is-short}
+use Rattle.demands.specs.FullRun.{saturatedTable, walkFrom, fullWalk, fullTrace, fullNext, FullRun, used, HaltsAfter, has-arrived, is-full, is-short}
+
+-- ---- the table
+
+-- what keeps the limits of some lent tables keeps those of the largest tables that count
+within-most : (z : Size) (A : Automaton) → within z A ≡ true → within (record { moves = 1024; entries = 64 }) A ≡ true
+within-most z A h =
+    let k : KeepsLimits z A = within-keeps z A h in
+    let m : length (A .moves) ≤ min (z .moves) 1024 = k .moves-fit in
+    let s : states A ≤ 64 = k .states-fit in
+    keeps-within (record { moves = 1024; entries = 64 }) A (record { moves-fit = omega arith; entries-fit = omega arith; states-fit = s })
+
+-- The saturated table is the same for all lent tables that hold it.
+pub saturated-is : (x : Lent) {T : Saturated} → saturated x ≡ some T → saturatedTable (x .case) ≡ some T
+unfolding saturated saturatedTable
+saturated-is x {T} e =
+    let z : Size = lent (x .moves) (x .entries) in
+    let s = saturate-some (rulesOf (x .case)) z (ownOf (x .case)) e in
+    held-table (rulesOf (x .case)) z (record { moves = 1024; entries = 64 }) (ownOf (x .case)) e (within-most z (T .table) (s .limits-kept))
+
+-- ---- the full run
+
+module _ (case : List ℕ) {T : Saturated} (e : saturatedTable case ≡ some T) where
+  pub full-walk : (start : List ℕ) (n m : ℕ) → fullWalk case start n m ≡ walkAfter (rulesOf case) T m (walkFrom start n (T .table))
+  unfolding fullWalk
+  full-walk start n m = rw (fullWalk, e)
+
+  pub full-trace : (start : List ℕ) (n m : ℕ) → fullTrace case start n m ≡ traceAfter (rulesOf case) T m (walkFrom start n (T .table))
+  unfolding fullTrace
+  full-trace start n m = rw (fullTrace, e)
+
+  pub full-next : (w : Walk) → fullNext case w ≡ next (rulesOf case) T w
+  unfolding fullNext
+  full-next w = rw (fullNext, e)
+
+-- the first m steps are at most m
+pub full-short : (case start : List ℕ) (n m : ℕ) → length (fullTrace case start n m) ≤ m
+unfolding fullTrace
+full-short case start n m =
+    by-option (saturatedTable case)
+    (λ o. rw (fullTrace, o) (omega arith))
+    (λ T o. rw (full-trace case o start n m) (trace-short (rulesOf case) T m (walkFrom start n (T .table))))
+
+-- the table on which a full run goes
+pub full-table : {case start : List ℕ} {n : ℕ} {ns : List ℕ} {w : Walk} → FullRun case start n ns w → (T : Saturated) × (saturatedTable case ≡ some T)
+unfolding fullWalk
+full-table {case} {w = w} r = by-option (saturatedTable case) (λ o. absurd (Option·none-ne-some w (rw (fullWalk, o) at (r .walk-is)))) (λ T o. (T, o))
+
+module _ {case start : List ℕ} {n : ℕ} where
+  -- it arrives after as many steps as it has rule numbers
+  pub full-arrives : {ns : List ℕ} {w : Walk} {T : Saturated} → saturatedTable case ≡ some T → FullRun case start n ns w
+      → ArrivesAfter (rulesOf case) T (length ns) (walkFrom start n (T .table)) w
+  full-arrives {ns} {w} e r =
+      record {
+        run-is = sym (full-walk case e start n (length ns)) ∙ r .walk-is;
+        arrives = sym (full-next case e w) ∙ r .arrives;
+      }
+
+  -- "That one run": the case file, the start file and the number of the start leave only one.
+  pub one-full-run : {ns ms : List ℕ} {w v : Walk} → FullRun case start n ns w → FullRun case start n ms v → (ns ≡ ms) × (w ≡ v)
+  one-full-run {ns} {ms} {w} {v} r s =
+      let (T, e) = full-table r in
+      let a = full-arrives e r in
+      let b = full-arrives e s in
+      let k : length ms ≤ length ns = arrives-last (rulesOf case) T (length ns) (walkFrom start n (T .table)) a (length ms) (b .run-is) in
+      let l : length ns ≤ length ms = arrives-last (rulesOf case) T (length ms) (walkFrom start n (T .table)) b (length ns) (a .run-is) in
+      let z : length ns ≡ length ms = omega arith in (
+        sym (r .trace-is) ∙ ap (fullTrace case start n) z ∙ s .trace-is,
+        Option·some-injective w v (sym (r .walk-is) ∙ ap (fullWalk case start n) z ∙ s .walk-is),
+      )
+
+-- ---- the halt
 
 module _ (rules : List Rule) (T : Saturated) (M : ℕ) (w : Walk) {v : Walk} (a : ArrivesAfter rules T M w v) where
   pub length-trace : length (traceAfter rules T M w) ≡ M

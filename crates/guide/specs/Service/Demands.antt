@@ -1,22 +1,24 @@
--- The service's answer meets demands 1 and 3.
+-- The service's answer meets demands 1, 2 and 3.
 -- Assumes nothing.
 use mathlib.Core.Path.{_≡_, sym, subst}
+use Rattle.replies.specs.Numbers.{refusalOf}
 use Rattle.services.specs.Guide.{GuideInput, GuideDone, guideService}
 use Rattle.demands.specs.Demand1.{GuideStates}
-use Rattle.demands.specs.Demand1.Proof.{demand1}
-use Rattle.demands.specs.Demand3.{guideTo}
-use Rattle.demands.specs.Demand3.Proof.{demand3}
-use Rattle.guide.specs.Service.{judgeFor, Guides}
+use Rattle.demands.specs.Demand1.Proof.{demand1-guide}
+use Rattle.demands.specs.Demand2.{GuideRuns, GuideSize}
+use Rattle.demands.specs.Demand2.Proof.{guide-runs, guide-size}
+use Rattle.demands.specs.Demand3.{Guides}
+use Rattle.demands.specs.Demand3.Proof.{guides}
 
-guides : (x : GuideInput) → Guides x (guideService x)
-unfolding guideTo
-guides x answers marked =
-    let run = demand3 (judgeFor x answers) (x .number) marked in
-    record {
-      walks = run .walks (x .cells) (x .trace);
-      too-short = run .too-short (x .cells) (x .trace);
-      arrives-exactly = run .arrives-exactly (x .cells) (x .trace);
-    }
-
-pub meets : (x : GuideInput) (d : GuideDone) → d ≡ guideService x → (d ≡ guideService x) × (GuideStates x d × Guides x d)
-meets x d e = (e, (subst (GuideStates x) (sym e) (demand1 .2 x), subst (Guides x) (sym e) (guides x)))
+pub meets : (x : GuideInput) (d : GuideDone) → d ≡ guideService x
+    → (d ≡ guideService x) × (GuideStates x d × (GuideRuns x (d .reply) × (GuideSize x (refusalOf (d .reply)) × Guides x d)))
+meets x d e = (
+  e,
+  (
+    subst (GuideStates x) (sym e) (demand1-guide x),
+    (
+      subst (λ (y : GuideDone). GuideRuns x (y .reply)) (sym e) (guide-runs x),
+      (subst (λ (y : GuideDone). GuideSize x (refusalOf (y .reply))) (sym e) (guide-size x), subst (Guides x) (sym e) (guides x)),
+    ),
+  ),
+)

@@ -12,7 +12,7 @@ use Rattle.files.specs.Start.{startsOf}
 use Rattle.words.specs.Lists.{zeros}
 use Rattle.services.specs.Saturate.{saturated}
 use Rattle.services.specs.Guide.{GuideInput, GuideDone, guideLent, guideRun, guideLeft, refused, guideService}
-use Rattle.demands.specs.Demand1.Proof.{padded-none}
+use Rattle.services.specs.Memory.Laws.{padded-none}
 use Rattle.guided_walk.specs.Turns.{Leaves}
 use Rattle.sound_files.specs.Refusal.{FilesSound, refusedBefore}
 use Rattle.sound_files.specs.Saturated.{lentOf}

@@ -22,7 +22,7 @@ use Rattle.words.specs.Lists.{zeros}
 use Rattle.services.specs.Judge.{accepted}
 use Rattle.services.specs.Guide.{GuideInput, cellWords, cellsLent, startNamed, guideWalk, guideRun}
 use Rattle.services.specs.Guide.Laws.{walk-short, walk-goes}
-use Rattle.demands.specs.Demand1.Proof.{padded-none}
+use Rattle.services.specs.Memory.Laws.{padded-none}
 use Rattle.bytes_in.specs.Records.{recordAt, bodyOf}
 use Rattle.acceptance.specs.Cells as acceptance
 use Rattle.guided_walk.specs.Turns.{Leaves}

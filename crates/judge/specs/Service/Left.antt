@@ -12,7 +12,7 @@ use Rattle.words.specs.Lists.{zeros}
 use Rattle.services.specs.Saturate.{saturated}
 use Rattle.services.specs.Judge.{JudgeInput, JudgeDone, judgeLent, judgeLeft, judgeService, mark}
 use Rattle.tables.specs.Laws.Filled.{drop-zeros}
-use Rattle.demands.specs.Demand1.Proof.{padded-none}
+use Rattle.services.specs.Memory.Laws.{padded-none}
 use Rattle.sound_files.specs.Refusal.{FilesSound, refusedBefore}
 use Rattle.sound_files.specs.Saturated.{lentOf}
 use Rattle.judge.specs.Service.{judgeInput, judgeDone}

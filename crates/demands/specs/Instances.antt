@@ -3,12 +3,12 @@
 use mathlib.Core.Path.{refl}
 use lib.Dec.{lit<}
 use Rattle.services.specs.Judge.{JudgeInput}
-use Rattle.demands.specs.Demand2.{Runs}
-use Rattle.demands.specs.Demand2.Proof.{demand2}
-use Rattle.demands.specs.Demand3.{MarkedYes, GuidedRun}
-use Rattle.demands.specs.Demand3.Proof.{demand3}
 use Rattle.models.specs.Computing.{computed}
 use Rattle.models.specs.Files.{caseA, startA, caseC, startC}
+use Rattle.demands.specs.Reach.{Runs}
+use Rattle.demands.specs.Demand2.Proof.{judge-marks}
+use Rattle.demands.specs.Demand3.{MarkedYes, GuidedRun}
+use Rattle.demands.specs.Demand3.Proof.{demand3}
 
 -- judge with tables of 17 and 7 words and five answer bytes
 unfoldable pub inputA : JudgeInput
@@ -17,18 +17,19 @@ inputA = record { case = caseA; start = startA; moves = 17; entries = 7; answers
 unfoldable pub inputC : JudgeInput
 inputC = record { case = caseC; start = startC; moves = 17; entries = 7; answers = 5 }
 
--- start 0 of model A is marked yes, so its guided run arrives, whatever cells and trace are lent
+-- start 0 of model A is marked yes, so its guided run arrives, whatever tables, cells and trace are lent
 pub marked-A : MarkedYes inputA 0
 unfolding computed inputA
 marked-A = record { judged = refl; start-there = lit< tt; yes = refl }
 
-pub guided-A : GuidedRun inputA 0
+pub guided-A : GuidedRun caseA startA 0
+unfolding inputA
 guided-A = demand3 inputA 0 marked-A
 
 -- start 2 of model A is marked no, so there is no run
 pub no-run-A : Runs caseA startA 2 → ⊥
 unfolding computed inputA
-no-run-A = demand2 inputA refl 2 (lit< tt) .no-run .0 refl
+no-run-A = judge-marks inputA refl 2 (lit< tt) .no-run .0 refl
 
 -- start 0 of model C is marked yes, so there is a run of the published system, and its guided run arrives
 pub marked-C : MarkedYes inputC 0
@@ -37,7 +38,8 @@ marked-C = record { judged = refl; start-there = lit< tt; yes = refl }
 
 pub run-C : Runs caseC startC 0
 unfolding computed inputC
-run-C = demand2 inputC refl 0 (lit< tt) .yes .0 refl
+run-C = judge-marks inputC refl 0 (lit< tt) .yes .0 refl
 
-pub guided-C : GuidedRun inputC 0
+pub guided-C : GuidedRun caseC startC 0
+unfolding inputC
 guided-C = demand3 inputC 0 marked-C

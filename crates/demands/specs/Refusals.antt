@@ -1,0 +1,109 @@
+-- Document 01's table of refusals: each number with the sentence that says when it applies, in the order of the tests.
+-- Assumes nothing.
+pub mod Laws
+use Prim.Native.Nat.{ℕ, _≤_, _<_}
+use mathlib.Core.Bool.{Bool, false}
+use mathlib.Core.Path.{_≡_}
+use mathlib.Core.Logic.{_⊎_}
+use mathlib.Core.List.{List, [], _∷_, _++_, List·Memᴰ}
+use lib.ListN.{length, getD}
+use Rattle.words.specs.Order.{rising}
+use Rattle.files.specs.Bytes.{placed}
+use Rattle.files.specs.Case.{caseBodies, head, headRight, ruleRight, ruleRecords, edgeRight, edgeKey, edgeRecords, moveRight, moveKey, moveRecords, states1}
+use Rattle.files.specs.Start.{Files, startBodies, startsOf, startRight, CellBytes, cellRecords, cellRight}
+use Rattle.services.specs.Saturate.{Lent}
+use Rattle.services.specs.Judge.{JudgeInput, judgeLent, judgeFiles}
+use Rattle.services.specs.Guide.{GuideInput, guideLent, guideFiles}
+use Rattle.demands.specs.Size.{Exceeds}
+
+-- a line of the table: a number, and when it applies to an input
+pub record Refusal (X : Type 0) : Type 1 where
+  pub number : ℕ
+  pub applies : X → Type 0
+
+abbrev pub refusal : {X : Type 0} → ℕ → (X → Type 0) → Refusal X
+refusal n when = record { number = n; applies = when }
+
+-- "The lowest number that applies is returned": n is the number of the first line that applies to x, or 0 where none does.
+unfoldable pub Returned : {X : Type 0} → List (Refusal X) → X → ℕ → Type 0
+Returned [] x n = n ≡ 0
+Returned (r ∷ rs) x n = (r .applies x × (n ≡ r .number)) ⊎ ((r .applies x → ⊥) × Returned rs x n)
+
+-- ---- when each number applies
+
+-- one of these records fails the test
+pub record SomeFails {X : Type 0} (test : X → Bool) (records : List X) : Type 0 where
+  pub record-is : X
+  pub among : List·Memᴰ record-is records
+  pub fails : test record-is ≡ false
+
+-- 1: "The case's first byte, contents table, a count or the length is wrong."
+abbrev pub CaseWrong : List ℕ → Type 0
+CaseWrong case = placed caseBodies case ≡ false
+
+-- 2: "A field of case body 1 is out of range."
+abbrev pub FieldWrong : List ℕ → Type 0
+FieldWrong case = headRight (head case) ≡ false
+
+-- 3: "A rule, edge or move breaks a bound of its body (b, or B against its order, included), or entries are too many."
+abbrev pub BoundBroken : List ℕ → Type 0
+BoundBroken case =
+    SomeFails (ruleRight (head case)) (ruleRecords case)
+    ⊎ (SomeFails (edgeRight (head case)) (edgeRecords case)
+    ⊎ (SomeFails (moveRight (head case) (states1 case)) (moveRecords case) ⊎ (64 < states1 case)))
+
+-- 4: "Edges or moves are not strictly increasing."
+abbrev pub NotIncreasing : List ℕ → Type 0
+NotIncreasing case = (rising edgeKey (edgeRecords case) ≡ false) ⊎ (rising moveKey (moveRecords case) ≡ false)
+
+-- 5: "The start file's first byte, contents table, a count or the length is wrong."
+abbrev pub StartFileWrong : Files → Type 0
+StartFileWrong f = placed startBodies (f .start) ≡ false
+
+-- cell n of a start file is out of range, refers to a cell of the wrong order, or fills an unused field
+pub record CellWrong (symbols : ℕ) (cells : List CellBytes) : Type 0 where
+  pub number : ℕ
+  pub there : number < length cells
+  pub fails : cellRight symbols cells number (getD cells number (record { kind = 0; symbol = 0; first = 0; second = 0 })) ≡ false
+
+-- 6: "A start or cell is out of range, refers to a cell of the wrong order, or fills an unused field."
+abbrev pub StartOrCellWrong : Files → Type 0
+StartOrCellWrong f =
+    SomeFails (startRight (head (f .case) .P) (cellRecords (f .start))) (startsOf (f .start))
+    ⊎ CellWrong (head (f .case) .A) (cellRecords (f .start))
+
+-- 7: "Guide: the start named is not in the file."
+abbrev pub StartMissing : GuideInput → Type 0
+StartMissing x = length (startsOf (x .start)) ≤ x .number
+
+-- 8: "Judge: fewer answer bytes than starts."
+abbrev pub AnswersShort : JudgeInput → Type 0
+AnswersShort x = x .answers < length (startsOf (x .start))
+
+-- 9 is `Exceeds` in Size.antt.
+
+-- ---- the numbers of each service, in the order of the tests
+
+abbrev pub caseRefusals : {X : Type 0} → (X → List ℕ) → List (Refusal X)
+caseRefusals case =
+    refusal 1 (λ x. CaseWrong (case x))
+    ∷ refusal 2 (λ x. FieldWrong (case x))
+    ∷ refusal 3 (λ x. BoundBroken (case x))
+    ∷ refusal 4 (λ x. NotIncreasing (case x))
+    ∷ []
+
+abbrev pub startRefusals : {X : Type 0} → (X → Files) → List (Refusal X)
+startRefusals files = refusal 5 (λ x. StartFileWrong (files x)) ∷ refusal 6 (λ x. StartOrCellWrong (files x)) ∷ []
+
+abbrev pub saturateRefusals : List (Refusal Lent)
+saturateRefusals = caseRefusals (λ x. x .case) ++ (refusal 9 Exceeds ∷ [])
+
+abbrev pub judgeRefusals : List (Refusal JudgeInput)
+judgeRefusals =
+    caseRefusals (λ x. x .case)
+    ++ (startRefusals judgeFiles ++ (refusal 8 AnswersShort ∷ refusal 9 (λ x. Exceeds (judgeLent x)) ∷ []))
+
+abbrev pub guideRefusals : List (Refusal GuideInput)
+guideRefusals =
+    caseRefusals (λ x. x .case)
+    ++ (startRefusals guideFiles ++ (refusal 7 StartMissing ∷ refusal 9 (λ x. Exceeds (guideLent x)) ∷ []))

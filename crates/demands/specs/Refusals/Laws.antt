@@ -1,0 +1,230 @@
+-- The first number of document 01's table that applies: there is only one, and the tests of the files find it.
+-- Assumes nothing.
+use Prim.Native.Nat.{ℕ, zero, suc, _+_, _≤_, _<_}
+use mathlib.Core.Bool.{Bool, true, false, not, _&&_, false≢true}
+use mathlib.Core.Path.{_≡_, refl, sym, _∙_, subst}
+use mathlib.Core.Logic.{_↔_, _⊎_, inl, inr, ⊎-elim}
+use mathlib.Core.List.{List, [], _∷_, _++_, List·Memᴰ, List·Memᴰ·head, List·Memᴰ·tail}
+use native.Mathlib.Nat.{zero-add}
+use native.Mathlib.Omega.{arith}
+use lib.ListN.{length, getD}
+use lib.Dec.{leb}
+use borrow.Author.Tests.{leb-false, lt-leb}
+use Rattle.words.specs.Lists.{every}
+use Rattle.words.specs.Lists.Laws.{every-in}
+use Rattle.words.specs.Laws.Tests.{by-test}
+use Rattle.words.specs.Order.{rising}
+use Rattle.files.specs.Bytes.{Test, firstHit, testsOn, placed}
+use Rattle.files.specs.Bytes.Laws.{numbered, numbered-cons, numbered-testsOn, unrefused, firstHit-fails, firstHit-passes, firstHit-testsOn}
+use Rattle.files.specs.Case.{caseBodies, head, headRight, ruleRight, ruleRecords, edgeRight, edgeKey, edgeRecords, moveRight, moveKey, moveRecords, states1}
+use Rattle.files.specs.Case.{recordsRight, caseTests, caseRefusal}
+use Rattle.files.specs.Start.{Files, startBodies, startsOf, startRight, CellBytes, cellRecords, cellRight, cellsRight, startFileRight, startTests, startRefusal}
+use Rattle.services.specs.Saturate.Laws.{case-numbered}
+use Rattle.services.specs.Judge.Laws.{start-numbered}
+use Rattle.demands.specs.Refusals.{Refusal, Returned, SomeFails, BoundBroken, CellWrong, StartOrCellWrong, caseRefusals, startRefusals}
+
+-- ---- the first number that applies
+
+module _ {X : Type 0} where
+  -- there is only one
+  pub returned-one : (rs : List (Refusal X)) (x : X) {n m : ℕ} → Returned rs x n → Returned rs x m → n ≡ m
+  unfolding Returned
+  returned-one [] x e f = e ∙ sym f
+  returned-one (r ∷ rs) x (inl (a, e)) (inl (b, f)) = e ∙ sym f
+  returned-one (r ∷ rs) x (inl (a, e)) (inr (b, f)) = absurd (b a)
+  returned-one (r ∷ rs) x (inr (a, e)) (inl (b, f)) = absurd (a b)
+  returned-one (r ∷ rs) x (inr (a, e)) (inr (b, f)) = returned-one rs x e f
+
+  -- A list of tests and a list of refusals say the same of x: each test has the number of its refusal and fails exactly if that applies, where
+  -- the tests before it have passed.
+  unfoldable pub Agree : List (Test X) → List (Refusal X) → X → Type 0
+  Agree [] [] x = Unit {0}
+  Agree [] (r ∷ rs) x = ⊥
+  Agree (t ∷ ts) [] x = ⊥
+  Agree (t ∷ ts) (r ∷ rs) x =
+      (t .refusal ≡ r .number) × ((t .fails x ≡ true) ↔ r .applies x) × (t .fails x ≡ false → Agree ts rs x)
+
+  -- where a test fails, the number of the first is returned, whatever lines follow
+  returned-stays : (ts : List (Test X)) (rs more : List (Refusal X)) (x : X) → Agree ts rs x → (firstHit ts x ≡ 0 → ⊥)
+      → Returned (rs ++ more) x (firstHit ts x)
+  unfolding Returned Agree firstHit
+  returned-stays [] [] more x a h = absurd (h refl)
+  returned-stays [] (r ∷ rs) more x a h = absurd a
+  returned-stays (t ∷ ts) [] more x a h = absurd a
+  returned-stays (t ∷ ts) (r ∷ rs) more x (e, (f, g), k) h =
+      by-test (t .fails x)
+      (λ y. rw (firstHit-fails t ts x y) (inl (f y, e)))
+      (λ y.
+      rw (firstHit-passes t ts x y)
+      (inr (λ a. false≢true (sym y ∙ g a), returned-stays ts rs more x (k y) (λ z. h (firstHit-passes t ts x y ∙ z)))))
+
+  -- where no test fails, the lines that follow count
+  returned-past : (ts : List (Test X)) (rs more : List (Refusal X)) (x : X) (n : ℕ) → Agree ts rs x → numbered ts ≡ true → firstHit ts x ≡ 0
+      → Returned more x n → Returned (rs ++ more) x n
+  unfolding Returned Agree
+  returned-past [] [] more x n a d h b = b
+  returned-past [] (r ∷ rs) more x n a d h b = absurd a
+  returned-past (t ∷ ts) [] more x n a d h b = absurd a
+  returned-past (t ∷ ts) (r ∷ rs) more x n (e, (f, g), k) d h b =
+      let y = unrefused x d h (List·Memᴰ·head {x = t} {xs = ts} refl) in
+      inr (λ a. false≢true (sym y ∙ g a), returned-past ts rs more x n (k y) (numbered-cons t ts d .1) (sym (firstHit-passes t ts x y) ∙ h) b)
+
+-- ---- tests that fail
+
+not-true : (b : Bool) → (not b ≡ true) ↔ (b ≡ false)
+not-true true = (λ e. absurd (false≢true e), λ e. sym e)
+not-true false = (λ _. refl, λ _. refl)
+
+-- one of two tests fails
+and-fails : (a b : Bool) → (a && b ≡ false) ↔ ((a ≡ false) ⊎ (b ≡ false))
+and-fails true b = (λ e. inr e, λ z. ⊎-elim (λ e. absurd (false≢true (sym e))) (λ e. e) z)
+and-fails false b = (λ _. inl refl, λ _. refl)
+
+every-fails : {X : Type 0} (test : X → Bool) (l : List X) → every test l ≡ false → SomeFails test l
+unfolding every
+every-fails test [] e = absurd (false≢true (sym e))
+every-fails test (x ∷ xs) e = by-test (test x)
+    (λ t. let s = every-fails test xs (rw (every, t) at e) in record { record-is = s .record-is; among = List·Memᴰ·tail (s .among); fails = s .fails })
+    (λ t. record { record-is = x; among = List·Memᴰ·head refl; fails = t })
+
+some-fails : {X : Type 0} (test : X → Bool) (l : List X) → SomeFails test l → every test l ≡ false
+some-fails test l s = by-test (every test l) (λ t. absurd (false≢true (sym (s .fails) ∙ every-in test t (s .among)))) (λ t. t)
+
+-- ---- 3 and 6: a record that breaks a bound
+
+-- of four tests that are asked in this order, one fails
+four-fail : (a b c d : Bool) → (a && b && c && d ≡ false) ↔ ((a ≡ false) ⊎ ((b ≡ false) ⊎ ((d ≡ false) ⊎ (c ≡ false))))
+four-fail true true true d = (λ e. inr (inr (inl e)), λ z. ⊎-elim (λ e. absurd (false≢true (sym e))) (λ y. ⊎-elim (λ e. absurd (false≢true (sym e))) (λ w. ⊎-elim (λ e. e) (λ e. absurd (false≢true (sym e))) w) y) z)
+four-fail true true false d = (λ e. inr (inr (inr refl)), λ _. refl)
+four-fail true false c d = (λ e. inr (inl refl), λ _. refl)
+four-fail false b c d = (λ e. inl refl, λ _. refl)
+
+bound-broken : (case : List ℕ) → (recordsRight case ≡ false) ↔ BoundBroken case
+unfolding recordsRight
+bound-broken case =
+    let rules : Bool = every (ruleRight (head case)) (ruleRecords case) in
+    let edges : Bool = every (edgeRight (head case)) (edgeRecords case) in
+    let few : Bool = leb (states1 case) 64 in
+    let moves : Bool = every (moveRight (head case) (states1 case)) (moveRecords case) in
+    let (f, g) = four-fail rules edges few moves in (
+      λ e. ⊎-elim (λ h. inl (every-fails _ _ h)) (λ y. inr (⊎-elim (λ h. inl (every-fails _ _ h)) (λ z. inr (⊎-elim (λ h. inl (every-fails _ _ h)) (λ h. inr (leb-false (states1 case) 64 h)) z)) y)) (f e),
+      λ e. g (⊎-elim (λ h. inl (some-fails _ _ h)) (λ y. inr (⊎-elim (λ h. inl (some-fails _ _ h)) (λ z. inr (⊎-elim (λ h. inl (some-fails _ _ h)) (λ h. inr (lt-leb (states1 case) 64 h)) z)) y)) e),
+    )
+
+abbrev noCell : CellBytes
+noCell = record { kind = 0; symbol = 0; first = 0; second = 0 }
+
+-- of the cells from number n on, one is wrong
+cells-fail : (A : ℕ) (cells : List CellBytes) (n : ℕ) (xs : List CellBytes) → cellsRight A cells n xs ≡ false
+    → (k : ℕ) × (k < length xs) × (cellRight A cells (n + k) (getD xs k noCell) ≡ false)
+unfolding cellsRight
+cells-fail A cells n [] e = absurd (false≢true (sym e))
+cells-fail A cells n (x ∷ xs) e = by-test (cellRight A cells n x)
+    (λ t.
+    let (k, l, f) = cells-fail A cells (suc n) xs (rw (cellsRight, t) at e) in
+    let z : suc n + k ≡ n + suc k = omega arith in
+    (suc k, omega arith, rw z at f))
+    (λ t. (0, omega arith, let z : n ≡ n + 0 = omega arith in rw z at t))
+
+cell-right : (A : ℕ) (cells : List CellBytes) (n : ℕ) (xs : List CellBytes) → cellsRight A cells n xs ≡ true → (k : ℕ) → k < length xs
+    → cellRight A cells (n + k) (getD xs k noCell) ≡ true
+unfolding cellsRight
+cell-right A cells n [] e zero l = absurd (omega arith)
+cell-right A cells n [] e (suc k) l = absurd (omega arith)
+cell-right A cells n (x ∷ xs) e zero l = by-test (cellRight A cells n x)
+    (λ t. let z : n ≡ n + 0 = omega arith in rw z at t)
+    (λ t. absurd (false≢true (rw (cellsRight, t) at e)))
+cell-right A cells n (x ∷ xs) e (suc k) l = by-test (cellRight A cells n x)
+    (λ t.
+    let z : suc n + k ≡ n + suc k = omega arith in
+    rw z at (cell-right A cells (suc n) xs (rw (cellsRight, t) at e) k (omega arith)))
+    (λ t. absurd (false≢true (rw (cellsRight, t) at e)))
+
+cell-wrong : (A : ℕ) (cells : List CellBytes) → (cellsRight A cells 0 cells ≡ false) ↔ CellWrong A cells
+cell-wrong A cells = (
+  λ e. let (k, l, f) = cells-fail A cells 0 cells e in record { number = k; there = l; fails = rw (zero-add k) at f },
+  λ w.
+      by-test (cellsRight A cells 0 cells)
+      (λ t.
+      let h : cellRight A cells (w .number) (getD cells (w .number) noCell) ≡ true = rw (zero-add (w .number)) at (cell-right A cells 0 cells t (w .number) (w .there)) in
+      absurd (false≢true (sym (w .fails) ∙ h)))
+      (λ t. t),
+)
+
+start-wrong : (f : Files) → (startFileRight f ≡ false) ↔ StartOrCellWrong f
+unfolding startFileRight
+start-wrong f =
+    let starts : Bool = every (startRight (head (f .case) .P) (cellRecords (f .start))) (startsOf (f .start)) in
+    let cells : Bool = cellsRight (head (f .case) .A) (cellRecords (f .start)) 0 (cellRecords (f .start)) in
+    let (p, q) = and-fails starts cells in
+    let (c, d) = cell-wrong (head (f .case) .A) (cellRecords (f .start)) in (
+      λ e. ⊎-elim (λ h. inl (every-fails _ _ h)) (λ h. inr (c h)) (p e),
+      λ e. q (⊎-elim (λ h. inl (some-fails _ _ h)) (λ h. inr (d h)) e),
+    )
+
+-- ---- the tests of the files
+
+-- one equivalence after another
+both : {A B C : Type 0} → A ↔ B → B ↔ C → A ↔ C
+both (f, g) (h, k) = (λ a. h (f a), λ c. g (k c))
+
+module _ {X : Type 0} (x : X) where
+  case-agrees : (part : X → List ℕ) → Agree (testsOn part caseTests) (caseRefusals part) x
+  unfolding Agree testsOn caseTests
+  case-agrees part =
+      let edges : Bool = rising edgeKey (edgeRecords (part x)) in
+      let moves : Bool = rising moveKey (moveRecords (part x)) in
+      let rise = both (not-true (edges && moves)) (and-fails edges moves) in
+      let bounds = both (not-true (recordsRight (part x))) (bound-broken (part x)) in
+      (refl, not-true (placed caseBodies (part x)), λ e. (refl, not-true (headRight (head (part x))), λ f. (refl, bounds, λ g. (refl, rise, λ h. tt))))
+
+  start-agrees : (part : X → Files) → Agree (testsOn part startTests) (startRefusals part) x
+  unfolding Agree testsOn startTests
+  start-agrees part =
+      let wrong = both (not-true (startFileRight (part x))) (start-wrong (part x)) in
+      (refl, not-true (placed startBodies (part x .start)), λ e. (refl, wrong, λ f. tt))
+
+  -- ---- the lines of the case and of the start file, and then more
+
+  pub case-returned : (part : X → List ℕ) (more : List (Refusal X)) → (caseRefusal (part x) ≡ 0 → ⊥)
+      → Returned (caseRefusals part ++ more) x (caseRefusal (part x))
+  unfolding caseRefusal
+  case-returned part more h =
+      let e = firstHit-testsOn part caseTests x in
+      subst (Returned (caseRefusals part ++ more) x) e (returned-stays (testsOn part caseTests) (caseRefusals part) more x (case-agrees part) (λ z. h (sym e ∙ z)))
+
+  pub past-case : (part : X → List ℕ) (more : List (Refusal X)) (n : ℕ) → caseRefusal (part x) ≡ 0 → Returned more x n
+      → Returned (caseRefusals part ++ more) x n
+  unfolding caseRefusal
+  past-case part more n h =
+      returned-past (testsOn part caseTests) (caseRefusals part) more x n (case-agrees part) (numbered-testsOn part caseTests ∙ case-numbered)
+      (firstHit-testsOn part caseTests x ∙ h)
+
+  pub start-returned : (part : X → Files) (more : List (Refusal X)) → (startRefusal (part x) ≡ 0 → ⊥)
+      → Returned (startRefusals part ++ more) x (startRefusal (part x))
+  unfolding startRefusal
+  start-returned part more h =
+      let e = firstHit-testsOn part startTests x in
+      subst (Returned (startRefusals part ++ more) x) e (returned-stays (testsOn part startTests) (startRefusals part) more x (start-agrees part) (λ z. h (sym e ∙ z)))
+
+  pub past-start : (part : X → Files) (more : List (Refusal X)) (n : ℕ) → startRefusal (part x) ≡ 0 → Returned more x n
+      → Returned (startRefusals part ++ more) x n
+  unfolding startRefusal
+  past-start part more n h =
+      returned-past (testsOn part startTests) (startRefusals part) more x n (start-agrees part) (numbered-testsOn part startTests ∙ start-numbered)
+      (firstHit-testsOn part startTests x ∙ h)
+
+-- ---- one line
+
+module _ {X : Type 0} (r : Refusal X) (more : List (Refusal X)) (x : X) where
+  pub applies-here : r .applies x → Returned (r ∷ more) x (r .number)
+  unfolding Returned
+  applies-here a = inl (a, refl)
+
+  pub applies-not : (n : ℕ) → (r .applies x → ⊥) → Returned more x n → Returned (r ∷ more) x n
+  unfolding Returned
+  applies-not n a b = inr (a, b)
+
+pub none-applies : {X : Type 0} (x : X) → Returned [] x 0
+unfolding Returned
+none-applies x = refl

@@ -1,0 +1,25 @@
+-- The saturated table of a case file, and when it passes a limit.
+-- Assumes nothing.
+pub mod Laws
+use Prim.Native.Nat.{ℕ}
+use mathlib.Core.Bool.{false}
+use mathlib.Core.Path.{_≡_}
+use mathlib.Core.List.{List}
+use Rattle.automata.specs.Automaton.{Automaton}
+use Rattle.automata.specs.Saturation.{tableAfter, within}
+use Rattle.rounds.specs.SaturatedTable.{LeastClosed}
+use Rattle.files.specs.Case.{ownOf, rulesOf}
+use Rattle.services.specs.Memory.{lent}
+use Rattle.services.specs.Saturate.{Lent}
+
+-- "The least closed set is the *saturated table*", its entries and moves numbered as rounds add them.
+pub record SaturatedTable (case : List ℕ) (A : Automaton) : Type 0 where
+  pub least-closed : LeastClosed (rulesOf case) (ownOf case) A
+  pub rounds : ℕ
+  pub table-is : A ≡ tableAfter (rulesOf case) (ownOf case) rounds
+
+-- "The saturated table has more moves than lent or than 1,024, more entries than lent, or more than 64 order-1 states."
+pub record Exceeds (x : Lent) : Type 0 where
+  pub table : Automaton
+  pub saturated : SaturatedTable (x .case) table
+  pub passes : within (lent (x .moves) (x .entries)) table ≡ false

@@ -1,0 +1,41 @@
+-- How long the words of lent memory are.
+-- Assumes nothing.
+use Prim.Native.Nat.{ℕ, suc, _+_, _-_, _*_, _≤_}
+use mathlib.Core.Path.{_≡_, refl, ap, sym, _∙_}
+use mathlib.Core.List.{List, [], _∷_, _++_}
+use native.Mathlib.Nat.{zero-mul, suc-mul, sub-zero}
+use native.Mathlib.Omega.{arith}
+use lib.ListN.{length, length-append}
+use Rattle.words.specs.Lists.{each, zeros}
+use Rattle.words.specs.Lists.Laws.{length-zeros}
+use Rattle.automata.specs.Automaton.{Automaton}
+use Rattle.services.specs.Memory.{padded, moveWords, entryWords, moveTable, entryTable}
+
+pub padded-none : (n : ℕ) → padded n [] ≡ zeros n
+unfolding padded
+padded-none n = ap zeros (sub-zero n)
+
+pub length-padded : (n : ℕ) (ws : List ℕ) → length ws ≤ n → length (padded n ws) ≡ n
+unfolding padded
+length-padded n ws h =
+    let e : length (padded n ws) ≡ length ws + (n - length ws) = length-append ws (zeros (n - length ws)) ∙ ap (λ (k : ℕ). length ws + k) (length-zeros (n - length ws)) in
+    omega arith
+
+-- records of one size, one after another
+length-each : {A : Type 0} (k : ℕ) (f : A → List ℕ) (l : List A) → ((x : A) → length (f x) ≡ k) → length (each l f) ≡ length l * k
+unfolding each
+length-each k f [] h = sym (zero-mul k)
+length-each k f (x ∷ xs) h =
+    let e : length (f x ++ each xs f) ≡ length (f x) + length (each xs f) = length-append (f x) (each xs f) in
+    let r : length (each xs f) ≡ length xs * k = length-each k f xs h in
+    let m : suc (length xs) * k ≡ length xs * k + k = suc-mul (length xs) k in
+    let w : length (f x) ≡ k = h x in
+    omega arith
+
+pub length-moveTable : (A : Automaton) → length (moveTable A) ≡ length (A .moves) * 5
+unfolding moveTable moveWords
+length-moveTable A = length-each 5 moveWords (A .moves) (λ m. refl)
+
+pub length-entryTable : (A : Automaton) → length (entryTable A) ≡ length (A .entries) * 2
+unfolding entryTable entryWords
+length-entryTable A = length-each 2 entryWords (A .entries) (λ e. refl)
