@@ -17,25 +17,30 @@ use Rattle.services.specs.Judge.{JudgeInput, JudgeDone, judgeLent, judgeFiles, 
 use Rattle.services.specs.Guide.{GuideInput, guideLent, guideFiles, guideService}
 use Rattle.demands.specs.Reach.{Runs, Marks}
 use Rattle.demands.specs.Size.{Exceeds}
+use Rattle.demands.specs.Refusals.{Returned, judgeRefusals, guideRefusals}
 
 -- ---- marks
 
--- Where judge does not refuse, the byte of each start is its mark.
+-- Where no number of document 01's table applies to x, judge answers 0 and the byte of each start is its mark.
+pub record MarksAll (x : JudgeInput) (d : JudgeDone) : Type 0 where
+  pub judged : d .code ≡ 0
+  pub each-mark : (n : ℕ) → n < length (startsOf (x .start)) → Marks (x .case) (x .start) n (getD (d .answers) n 0)
+
 abbrev pub JudgeMarks : JudgeInput → JudgeDone → Type 0
-JudgeMarks x d = d .code ≡ 0 → (n : ℕ) → n < length (startsOf (x .start)) → Marks (x .case) (x .start) n (getD (d .answers) n 0)
+JudgeMarks x d = Returned judgeRefusals x 0 → MarksAll x d
 
 -- judge's input with the files and tables of guide's, and so many answers
 unfoldable pub judgeFor : GuideInput → ℕ → JudgeInput
 judgeFor x answers = record { case = x .case; start = x .start; moves = x .moves; entries = x .entries; answers = answers }
 
--- Where guide does not refuse, it answers no run exactly if there is none, and exactly if judge marks the start 0.
+-- Where no number applies, guide answers no run exactly if there is none, and exactly if judge marks the start 0.
 pub record NoRunExactly (x : GuideInput) (reply : Reply) : Type 0 where
   pub none : (reply ≡ NoRun) ↔ (Runs (x .case) (x .start) (x .number) → ⊥)
   pub marked : (answers : ℕ) → judgeService (judgeFor x answers) .code ≡ 0
       → (reply ≡ NoRun) ↔ (getD (judgeService (judgeFor x answers) .answers) (x .number) 0 ≡ 0)
 
 abbrev pub GuideRuns : GuideInput → Reply → Type 0
-GuideRuns x reply = refusalOf reply ≡ 0 → NoRunExactly x reply
+GuideRuns x reply = Returned guideRefusals x 0 → NoRunExactly x reply
 
 -- for every input of judge and guide
 abbrev pub Demand2 : Type 0

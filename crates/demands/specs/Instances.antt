@@ -6,6 +6,8 @@ use Rattle.services.specs.Judge.{JudgeInput}
 use Rattle.models.specs.Computing.{computed}
 use Rattle.models.specs.Files.{caseA, startA, caseC, startC}
 use Rattle.demands.specs.Reach.{Runs}
+use Rattle.demands.specs.Refusals.{Returned, judgeRefusals}
+use Rattle.demands.specs.Demand1.Proof.{demand1-judge}
 use Rattle.demands.specs.Demand2.Proof.{judge-marks}
 use Rattle.demands.specs.Demand3.{MarkedYes, GuidedRun}
 use Rattle.demands.specs.Demand3.Proof.{demand3}
@@ -26,10 +28,15 @@ pub guided-A : GuidedRun caseA startA 0
 unfolding inputA
 guided-A = demand3 inputA 0 marked-A
 
+-- no number of the table applies to model A
+pub unrefused-A : Returned judgeRefusals inputA 0
+unfolding computed inputA
+unrefused-A = demand1-judge inputA .number
+
 -- start 2 of model A is marked no, so there is no run
 pub no-run-A : Runs caseA startA 2 → ⊥
 unfolding computed inputA
-no-run-A = judge-marks inputA refl 2 (lit< tt) .no-run .0 refl
+no-run-A = judge-marks inputA unrefused-A .each-mark 2 (lit< tt) .no-run .0 refl
 
 -- start 0 of model C is marked yes, so there is a run of the published system, and its guided run arrives
 pub marked-C : MarkedYes inputC 0
@@ -38,7 +45,7 @@ marked-C = record { judged = refl; start-there = lit< tt; yes = refl }
 
 pub run-C : Runs caseC startC 0
 unfolding computed inputC
-run-C = judge-marks inputC refl 0 (lit< tt) .yes .0 refl
+run-C = judge-marks inputC (demand1-judge inputC .number) .each-mark 0 (lit< tt) .yes .0 refl
 
 pub guided-C : GuidedRun caseC startC 0
 unfolding inputC

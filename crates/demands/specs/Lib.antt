@@ -5,5 +5,7 @@ pub mod FullRun
 pub mod Demand1
 pub mod Demand2
 pub mod Demand3
+pub mod Determined
 pub mod Instances
+pub mod Idle
 pub mod Laws

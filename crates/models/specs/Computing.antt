@@ -53,7 +53,7 @@ unfolding Saturate.saturated Saturate.tooLarge Saturate.sizeTests Saturate.satur
 open-saturate = 0
 
 unfoldable pub open-files : ℕ
-unfolding Files.two Files.line Files.head Files.rule Files.entry Files.plain Files.start Files.empty1 Files.symbol Files.empty2 Files.above Files.caseA Files.startA Files.caseB Files.startB Files.caseC Files.startC Files.startCC Files.times Files.startsA Files.rulesA Files.itselfA
+unfolding Files.two Files.line Files.head Files.rule Files.entry Files.plain Files.start Files.empty1 Files.symbol Files.empty2 Files.above Files.caseA Files.startA Files.caseB Files.startB Files.caseC Files.startC Files.startCC Files.caseCircle Files.times Files.startsA Files.rulesA Files.itselfA
 open-files = 0
 
 unfoldable pub computed : ℕ

@@ -117,6 +117,20 @@ startC = (2 ∷ []) ++ line 1 1 17 ++ line 2 4 20 ++ start 0 3 ++ empty1 ++ symb
 unfoldable pub startCC : List ℕ
 startCC = (2 ∷ []) ++ line 1 1 17 ++ line 2 5 20 ++ start 0 4 ++ empty1 ++ symbol 0 0 0 ++ empty2 ++ above 1 2 ++ above 1 3
 
+-- ---- the circle model
+
+-- Model C with entry [0,empty] in its file, numbered before [0,{1}]: a guide that takes the least move afresh after each step copies for
+-- ever ("Readings to rule out"). Start file: startC.
+unfoldable pub caseCircle : List ℕ
+caseCircle =
+    (4 ∷ []) ++ line 1 1 33 ++ line 2 2 47 ++ line 3 2 57 ++ line 4 1 65
+    ++ head 2 0 0 1
+    ++ rule 0 0 4 0 0
+    ++ rule 0 0 6 0 1
+    ++ entry 0 0
+    ++ entry 1 0
+    ++ plain 1 0
+
 -- ---- at the edges
 
 -- n times the same bytes

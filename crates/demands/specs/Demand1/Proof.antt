@@ -34,7 +34,7 @@ use Rattle.demands.specs.Refusals.Laws.{case-returned, past-case, start-
 use Rattle.demands.specs.FullRun.{fullTrace}
 use Rattle.demands.specs.FullRun.Laws.{full-short}
 use Rattle.demands.specs.Demand1.{Filled, Emptied, SaturateStates, Marked, JudgeStates, Answered, GuideStates, Demand1}
-use Rattle.demands.specs.Demand2.Proof.{table-marks, mark-at, started-runs, started-none}
+use Rattle.demands.specs.Laws.Accepted.{table-marks, mark-at, started-runs, started-none}
 use Rattle.demands.specs.Demand3.Answer.{walk-report}
 
 -- ---- 9, the last number

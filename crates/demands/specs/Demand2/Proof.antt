@@ -1,149 +1,95 @@
--- Demand 2, proved: marks and runs by the saturated table, which accepts exactly what has a run; and 9 by the size of that table.
+-- Demand 2, proved: marks and runs by what demand 1 says of each answer, and 9 by the size of the saturated table.
 -- Assumes nothing.
 use Prim.Native.Nat.{ℕ, _<_}
-use mathlib.Core.Bool.{Bool, true, false, false≢true}
-use mathlib.Core.Path.{_≡_, refl, ap, sym, _∙_}
+use mathlib.Core.Path.{_≡_, refl, ap, sym, _∙_, subst}
 use mathlib.Core.Logic.{_↔_}
 use mathlib.Core.Option.{Option, none, some, Option·none-ne-some}
 use native.Mathlib.Nat.{lt-irrefl, lt-of-lt-of-le}
 use native.Mathlib.Omega.{arith}
-use mathlib.Core.List.{List, map}
-use lib.ListN.{length, getD, List·getD-append, length-map}
-use borrow.Author.Tests.{eqb-false}
-use Rattle.stacks.specs.System.{Configuration}
-use Rattle.automata.specs.Automaton.{Automaton}
+use mathlib.Core.Bool.{true}
+use mathlib.Core.List.{List}
+use lib.ListN.{length, getD, List·getD-append}
+use lib.Dec.{leb}
+use borrow.Author.Tests.{eqb-false, leb-true, leb-false}
+use Rattle.words.specs.Laws.Tests.{by-test}
 use Rattle.automata.specs.Saturation.{Saturated}
-use Rattle.rounds.specs.Limits.{saturate-some}
 use Rattle.replies.specs.declared.Halt.{Halt}
 use Rattle.replies.specs.declared.Reply.{Reply}
-use Rattle.replies.specs.declared.Reply.the-variants.{NoRun, Walked}
+use Rattle.replies.specs.declared.Reply.the-variants.{Refused, NoRun, Walked}
 use Rattle.replies.specs.Numbers.{refusalOf}
-use Rattle.walks.specs.Cell.Values.{getD-map-below}
 use Rattle.walks.specs.Guide.{Report, walkedBy, noRun}
-use Rattle.files.specs.Case.Laws.{case-rules, case-table, case-own}
-use Rattle.files.specs.Case.{ownOf, rulesOf, caseRefusal}
-use Rattle.files.specs.Start.{Start, startsOf, configurationOf}
-use Rattle.services.specs.Memory.{lent, padded}
+use Rattle.files.specs.Start.{startsOf}
+use Rattle.services.specs.Memory.{padded}
 use Rattle.services.specs.Saturate.{Lent, SaturateDone, saturated, saturateRefused, saturateFilled, saturateService}
 use Rattle.services.specs.Saturate.Laws.{SaturateCase, case-refused, size-exceeded, filled, saturate-cases}
-use Rattle.services.specs.Judge.{JudgeInput, JudgeDone, judgeLent, accepted, mark, judgeLeft, judgeService}
+use Rattle.services.specs.Judge.{JudgeInput, JudgeDone, judgeLent, accepted, judgeLeft, judgeService}
 use Rattle.services.specs.Judge.Laws.{JudgeCase, start-refused, answers-short, judged, judge-cases}
 use Rattle.services.specs.Guide.{GuideInput, GuideDone, guideLent, startNamed, guideWalk, guideLeft, refused, guideService}
-use Rattle.services.specs.Guide.Laws.{GuideCase, Started, start-missing, no-run, cells-short, walked, guide-cases, walk-goes, walk-short}
-use Rattle.demands.specs.Reach.{startAt, configurationAt, Runs, Marks}
-use Rattle.demands.specs.Reach.Laws.{reaches-published, accepted-reaches, reaches-accepted}
+use Rattle.services.specs.Guide.Laws.{GuideCase, Started, start-missing, no-run, cells-short, walked, guide-cases, walk-goes}
+use Rattle.demands.specs.Reach.{Runs, Marks}
 use Rattle.demands.specs.Size.{Exceeds}
 use Rattle.demands.specs.Size.Laws.{none-exceeds, exceeds-none}
-use Rattle.demands.specs.Demand2.{judgeFor, JudgeMarks, NoRunExactly, GuideRuns, Demand2, SaturateSize, JudgeSize, GuideSize, Demand2Size}
+use Rattle.demands.specs.Refusals.{Returned, refusal, StartMissing, judgeRefusals, guideRefusals}
+use Rattle.demands.specs.Refusals.Laws.{returned-one, unreturned}
+use Rattle.demands.specs.Demand1.{JudgeStates, Answered}
+use Rattle.demands.specs.Demand1.Proof.{demand1-judge, demand1-guide}
+use Rattle.demands.specs.Demand2.{judgeFor, MarksAll, JudgeMarks, NoRunExactly, GuideRuns, Demand2, SaturateSize, JudgeSize, GuideSize, Demand2Size}
 use Rattle.demands.specs.Demand3.Answer.{walk-report}
-
--- ---- what the saturated table accepts
-
--- a saturated table of a sound case accepts a start exactly if there is a run from it
-pub accepted-runs : (x : Lent) (start : List ℕ) {T : Saturated} → caseRefusal (x .case) ≡ 0 → saturated x ≡ some T → (n : ℕ)
-    → (accepted (T .table) start (startAt start n) ≡ true) ↔ Runs (x .case) start n
-unfolding accepted saturated configurationAt configurationOf
-accepted-runs x start {T} sound e n =
-    let c : Configuration = configurationAt start n in
-    let s = saturate-some (rulesOf (x .case)) (lent (x .moves) (x .entries)) (ownOf (x .case)) e in
-    let table = case-table (x .case) sound in
-    let own = case-own (x .case) sound in (
-      λ h. reaches-published .0 (accepted-reaches table own (λ ρ j. case-rules (x .case) sound j) (s .after) c h),
-      λ r. reaches-accepted table own (λ ρ j. case-rules (x .case) sound j) s c (reaches-published .1 r),
-    )
 
 -- ---- judge
 
--- what a table that is right about a configuration gives as its mark
-marks-by : (case start : List ℕ) (n : ℕ) (b : Bool) → (b ≡ true) ↔ Runs case start n → Marks case start n (elim b [ true ↦ 1 | false ↦ 0 ])
-marks-by case start n true (f, g) =
-    record { yes = (λ _. f refl, λ _. refl); no-run = (λ z. absurd (eqb-false 1 0 refl z), λ h. absurd (h (f refl))) }
-marks-by case start n false (f, g) =
-    record { yes = (λ z. absurd (eqb-false 0 1 refl z), λ r. absurd (false≢true (g r))); no-run = (λ _ r. false≢true (g r), λ _. refl) }
-
--- the mark that a saturated table of a sound case gives to a start
-pub table-marks : (x : JudgeInput) (T : Saturated) → caseRefusal (x .case) ≡ 0 → saturated (judgeLent x) ≡ some T → (n : ℕ)
-    → Marks (x .case) (x .start) n (mark (T .table) (x .start) (startAt (x .start) n))
-unfolding mark judgeLent
-table-marks x T sound e n =
-    marks-by (x .case) (x .start) n (accepted (T .table) (x .start) (startAt (x .start) n)) (accepted-runs (judgeLent x) (x .start) sound e n)
-
--- the marks of all starts
-pub mark-at : (A : Automaton) (file : List ℕ) (n : ℕ) → n < length (startsOf file) → getD (map (mark A file) (startsOf file)) n 0 ≡ mark A file (startAt file n)
-unfolding startAt
-mark-at A file n l = getD-map-below (mark A file) (startsOf file) n (record { control = 0; root = 0 }) 0 l
-
--- the answers of judge hold the marks
-pub answer-at : (x : JudgeInput) (A : Automaton) (n : ℕ) → n < length (startsOf (x .start))
-    → getD (padded (x .answers) (map (mark A (x .start)) (startsOf (x .start)))) n 0 ≡ mark A (x .start) (startAt (x .start) n)
+-- what demand 1 says of an answer gives the marks
+states-marks : (x : JudgeInput) (d : JudgeDone) → JudgeStates x d → JudgeMarks x d
 unfolding padded
-answer-at x A n l =
-    let f : Start → ℕ = mark A (x .start) in
-    List·getD-append (map f (startsOf (x .start))) _ 0 n (rw (length-map (startsOf (x .start)) f) l) ∙ mark-at A (x .start) n l
+states-marks x d s r =
+    let z : d .code ≡ 0 = returned-one judgeRefusals x (s .number) r in
+    let m = s .done z in
+    record {
+      judged = z;
+      each-mark = λ n l.
+          let e : getD (d .answers) n 0 ≡ getD (m .marks) n 0 =
+          ap (λ (w : List ℕ). getD w n 0) (m .answers-are) ∙ List·getD-append (m .marks) _ 0 n (rw (m .one-a-start) l) in
+          rw e (m .each-mark n l);
+    }
 
 pub judge-marks : (x : JudgeInput) → JudgeMarks x (judgeService x)
-unfolding judgeLeft
-judge-marks x e n l = go (judgeService x) (judge-cases x) e
-  where
-    go : (d : JudgeDone) → JudgeCase x d → d .code ≡ 0 → Marks (x .case) (x .start) n (getD (d .answers) n 0)
-    go d (JudgeCase.case-refused bad) z = absurd (bad z)
-    go d (start-refused sound bad) z = absurd (bad z)
-    go d (answers-short sound s h) z = absurd (eqb-false 8 0 refl z)
-    go d (JudgeCase.size-exceeded sound s h o) z = absurd (eqb-false 9 0 refl z)
-    go d (judged T sound s h o) z = rw (answer-at x (T .table) n l) (table-marks x T sound o n)
+judge-marks x = states-marks x (judgeService x) (demand1-judge x)
 
 -- ---- guide
 
 -- a walk is not the answer that there is no run
-pub walked-not : {h : Halt} → Walked h ≡ NoRun → ⊥
+walked-not : {h : Halt} → Walked h ≡ NoRun → ⊥
 walked-not e = let z : _≡_ {A = ℕ} 0 1 = cc in absurd (omega arith)
 
--- an accepted start has a run, and one that is not has none
-pub started-runs : (x : GuideInput) (T : Saturated) → Started x T → accepted (T .table) (x .start) (startNamed x) ≡ true
-    → Runs (x .case) (x .start) (x .number)
-unfolding startNamed startAt guideLent
-started-runs x T s a = accepted-runs (guideLent x) (x .start) (s .sound-case) (s .table-is) (x .number) .0 a
+-- where no number applies, the start is in the file
+start-there : (x : GuideInput) → Returned guideRefusals x 0 → x .number < length (startsOf (x .start))
+start-there x r =
+    let after-1 = unreturned _ _ x (eqb-false 0 1 refl) r .1 in
+    let after-2 = unreturned _ _ x (eqb-false 0 2 refl) after-1 .1 in
+    let after-3 = unreturned _ _ x (eqb-false 0 3 refl) after-2 .1 in
+    let after-4 = unreturned _ _ x (eqb-false 0 4 refl) after-3 .1 in
+    let after-5 = unreturned _ _ x (eqb-false 0 5 refl) after-4 .1 in
+    let after-6 = unreturned _ _ x (eqb-false 0 6 refl) after-5 .1 in
+    let there = unreturned (refusal 7 StartMissing) _ x (eqb-false 0 7 refl) after-6 .0 in
+    by-test (leb (length (startsOf (x .start))) (x .number)) (λ t. absurd (there (leb-true _ _ t))) (λ t. leb-false _ _ t)
 
-pub started-none : (x : GuideInput) (T : Saturated) → Started x T → accepted (T .table) (x .start) (startNamed x) ≡ false
-    → Runs (x .case) (x .start) (x .number) → ⊥
-unfolding startNamed startAt guideLent
-started-none x T s a r = false≢true (sym a ∙ accepted-runs (guideLent x) (x .start) (s .sound-case) (s .table-is) (x .number) .1 r)
-
--- an accepted start is not answered with no run
-accepted-not : (x : GuideInput) (T : Saturated) → Started x T → accepted (T .table) (x .start) (startNamed x) ≡ true → guideWalk x T .reply ≡ NoRun → ⊥
-unfolding walkedBy
-accepted-not x T s a e = let (h, k, _) = walk-report x T s a in walked-not (sym (ap (λ (o : Report). o .reply) k) ∙ e)
-
--- where guide does not refuse: no run exactly if there is none
-no-run-exactly : (x : GuideInput) → refusalOf (guideService x .reply) ≡ 0
-    → (x .number < length (startsOf (x .start))) × ((guideService x .reply ≡ NoRun) ↔ (Runs (x .case) (x .start) (x .number) → ⊥))
-unfolding guideLeft refused refusalOf noRun
-no-run-exactly x e = go (guideService x) (guide-cases x) e
-  where
-    walks : (T : Saturated) → Started x T → accepted (T .table) (x .start) (startNamed x) ≡ true → {o : Report} → guideWalk x T ≡ o
-        → (x .number < length (startsOf (x .start))) × ((o .reply ≡ NoRun) ↔ (Runs (x .case) (x .start) (x .number) → ⊥))
-    walks T s a k = (
-      s .start-there,
-      (λ z. absurd (accepted-not x T s a (ap (λ (o : Report). o .reply) k ∙ z)), λ h. absurd (h (started-runs x T s a))),
-    )
-
-    go : (d : GuideDone) → GuideCase x d → refusalOf (d .reply) ≡ 0
-        → (x .number < length (startsOf (x .start))) × ((d .reply ≡ NoRun) ↔ (Runs (x .case) (x .start) (x .number) → ⊥))
-    go d (GuideCase.case-refused bad) z = absurd (bad z)
-    go d (GuideCase.start-refused s bad) z = absurd (bad z)
-    go d (start-missing s f h) z = absurd (eqb-false 7 0 refl z)
-    go d (GuideCase.size-exceeded s f h o) z = absurd (eqb-false 9 0 refl z)
-    go d (no-run T s a) z = (s .start-there, (λ _. started-none x T s a, λ _. refl))
-    go d (cells-short T s a l) z = walks T s a (walk-short x T l)
-    go d (walked T s a l) z = walks T s a (walk-goes x T l)
+-- what demand 1 says of an answer gives: no run exactly if there is none
+answered-runs : (x : GuideInput) (reply : Reply) (trace : List ℕ) → Answered x reply trace → Returned guideRefusals x 0
+    → (reply ≡ NoRun) ↔ (Runs (x .case) (x .start) (x .number) → ⊥)
+answered-runs x (Refused n) trace (r, bad, _) e = absurd (bad (returned-one guideRefusals x r e))
+answered-runs x NoRun trace (_, h, _) e = (λ _. h, λ _. refl)
+answered-runs x (Walked h) trace (_, runs, _) e = (λ z. absurd (walked-not z), λ f. absurd (f runs))
 
 pub guide-runs : (x : GuideInput) → GuideRuns x (guideService x .reply)
 unfolding judgeFor
-guide-runs x e =
-    let (l, (f, g)) = no-run-exactly x e in
+guide-runs x r =
+    let (f, g) = answered-runs x (guideService x .reply) (guideService x .trace) (demand1-guide x .answered) r in
     record {
       none = (f, g);
-      marked = λ answers c. let m = judge-marks (judgeFor x answers) c (x .number) l .no-run in (λ z. m .1 (f z), λ z. g (m .0 z));
+      marked = λ answers c.
+          let s = demand1-judge (judgeFor x answers) in
+          let m = judge-marks (judgeFor x answers) (subst (Returned judgeRefusals (judgeFor x answers)) c (s .number)) .each-mark (x .number) (start-there x r) .no-run in
+          (λ z. m .1 (f z), λ z. g (m .0 z));
     }
 
 pub demand2 : Demand2

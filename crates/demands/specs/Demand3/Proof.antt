@@ -21,11 +21,16 @@ use Rattle.services.specs.Judge.{JudgeInput, JudgeDone, judgeLent, judgeFiles, 
 use Rattle.services.specs.Judge.Laws.{JudgeCase, case-refused, start-refused, answers-short, size-exceeded, judged, judge-cases}
 use Rattle.services.specs.Guide.{GuideInput, GuideDone, guideFiles, guideLent, startNamed, guideWalk, guideLeft, refused, guideService}
 use Rattle.services.specs.Guide.Laws.{GuideCase, Started, start-missing, no-run, cells-short, walked, guide-cases, walk-goes, walk-short}
-use Rattle.demands.specs.Reach.{startAt}
+use Rattle.demands.specs.Reach.{startAt, Runs}
+use Rattle.demands.specs.Refusals.{Returned, guideRefusals}
 use Rattle.demands.specs.FullRun.{saturatedTable}
 use Rattle.demands.specs.FullRun.Laws.{saturated-is, one-full-run}
+use Rattle.demands.specs.Refusals.Laws.{returned-one}
+use Rattle.demands.specs.Demand1.{Answered}
+use Rattle.demands.specs.Demand1.Proof.{demand1-guide}
 use Rattle.demands.specs.Demand2.{judgeFor}
-use Rattle.demands.specs.Demand2.Proof.{answer-at, unrefused}
+use Rattle.demands.specs.Demand2.Proof.{unrefused}
+use Rattle.demands.specs.Laws.Accepted.{answer-at}
 use Rattle.demands.specs.Demand3.{MarkedYes, RunArrives, AnswersRun, guideFor, GuidedRun, Demand3, Guides}
 use Rattle.demands.specs.Demand3.Answer.{run-arrives, answers-run}
 
@@ -145,3 +150,46 @@ unfolding judgeFor guideFor
 guides x answers y =
     let r = demand3 (judgeFor x answers) (x .number) y in
     (r .arrives, r .answers (x .moves) (x .entries) (x .cells) (x .trace) (yes-unrefused x answers (basis (judgeFor x answers) (x .number) y)))
+
+-- ---- a start with a run
+
+-- what is accepted is given a mark of 1
+accepted-mark : (A : Automaton) (file : List ℕ) (s : Start) → accepted A file s ≡ true → mark A file s ≡ 1
+unfolding mark
+accepted-mark A file s e = rw (mark, e)
+
+-- judge with as many answers as starts marks an accepted start yes
+accepted-marked : (x : GuideInput) (T : Saturated) → Started x T → accepted (T .table) (x .start) (startNamed x) ≡ true
+    → MarkedYes (judgeFor x (length (startsOf (x .start)))) (x .number)
+unfolding judgeFor judgeFiles guideFiles judgeLent guideLent judgeLeft startNamed startAt
+accepted-marked x T s a =
+    let (c, m) = go (judgeService y) (judge-cases y) in
+    record { judged = c; start-there = s .start-there; yes = m }
+  where
+    y : JudgeInput
+    y = judgeFor x (length (startsOf (x .start)))
+
+    go : (d : JudgeDone) → JudgeCase y d → (d .code ≡ 0) × (getD (d .answers) (x .number) 0 ≡ 1)
+    go d (case-refused bad) = absurd (bad (s .sound-case))
+    go d (start-refused _ bad) = absurd (bad (s .sound-start))
+    go d (answers-short _ _ h) = absurd (lt-irrefl _ h)
+    go d (size-exceeded _ _ _ o) = absurd (Option·none-ne-some T (sym o ∙ s .table-is))
+    go d (judged U _ _ _ o) =
+        let e : T ≡ U = Option·some-injective T U (sym (s .table-is) ∙ o) in
+        let b = ap (λ (z : Saturated). accepted (z .table) (x .start) (startAt (x .start) (x .number))) (sym e) ∙ a in
+        (refl, answer-at y (U .table) (x .number) (s .start-there) ∙ accepted-mark (U .table) (x .start) (startAt (x .start) (x .number)) b)
+
+-- Where no number applies to guide's input and there is a run, judge with as many answers as starts marks the start yes.
+pub runs-marked : (x : GuideInput) → Returned guideRefusals x 0 → Runs (x .case) (x .start) (x .number)
+    → MarkedYes (judgeFor x (length (startsOf (x .start)))) (x .number)
+unfolding guideLeft refused noRun
+runs-marked x r runs = go (guideService x) (guide-cases x) (demand1-guide x .answered)
+  where
+    go : (d : GuideDone) → GuideCase x d → Answered x (d .reply) (d .trace) → MarkedYes (judgeFor x (length (startsOf (x .start)))) (x .number)
+    go d (GuideCase.case-refused bad) (n, _, _) = absurd (bad (returned-one guideRefusals x n r))
+    go d (GuideCase.start-refused s bad) (n, _, _) = absurd (bad (returned-one guideRefusals x n r))
+    go d (start-missing s f h) (n, bad, _) = absurd (bad (returned-one guideRefusals x n r))
+    go d (GuideCase.size-exceeded s f h o) (n, bad, _) = absurd (bad (returned-one guideRefusals x n r))
+    go d (no-run T s a) (_, none, _) = absurd (none runs)
+    go d (cells-short T s a l) _ = accepted-marked x T s a
+    go d (walked T s a l) _ = accepted-marked x T s a

@@ -35,6 +35,12 @@ module _ {X : Type 0} where
   returned-one (r ∷ rs) x (inr (a, e)) (inl (b, f)) = absurd (a b)
   returned-one (r ∷ rs) x (inr (a, e)) (inr (b, f)) = returned-one rs x e f
 
+  -- where no number is returned, the first line does not apply, and none of the others is returned
+  pub unreturned : (r : Refusal X) (rs : List (Refusal X)) (x : X) → (0 ≡ r .number → ⊥) → Returned (r ∷ rs) x 0 → (r .applies x → ⊥) × Returned rs x 0
+  unfolding Returned
+  unreturned r rs x bad (inl (a, e)) = absurd (bad e)
+  unreturned r rs x bad (inr (a, e)) = (a, e)
+
   -- A list of tests and a list of refusals say the same of x: each test has the number of its refusal and fails exactly if that applies, where
   -- the tests before it have passed.
   unfoldable pub Agree : List (Test X) → List (Refusal X) → X → Type 0

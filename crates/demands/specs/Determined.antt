@@ -1,0 +1,177 @@
+-- The demands leave nothing open: demand 1 leaves saturate and judge one answer to each input, and demands 1 and 3 leave guide one.
+-- Assumes nothing.
+use Prim.Native.Nat.{ℕ, _≤_, _<_}
+use mathlib.Core.Bool.{true, false}
+use mathlib.Core.Path.{_≡_, refl, ap, ap₂, sym, _∙_, subst}
+use mathlib.Core.List.{List}
+use mathlib.Core.Option.{some, Option·some-injective, Option·none-ne-some}
+use native.Mathlib.Nat.{lt-irrefl, lt-of-lt-of-le}
+use native.Mathlib.Omega.{arith}
+use lib.ListN.{length, getD, take}
+use lib.Seq.{ext-getD}
+use lib.Dec.{eqb, leb}
+use borrow.Author.Tests.{eqb-true, eqb-false, leb-true, leb-false}
+use Rattle.words.specs.Laws.Tests.{by-test}
+use Rattle.stacks.specs.System.{Rule}
+use Rattle.automata.specs.Automaton.{Automaton}
+use Rattle.automata.specs.Saturation.{Saturated}
+use Rattle.replies.specs.declared.Saturation.{Saturation}
+use Rattle.replies.specs.declared.Counts.{Counts}
+use Rattle.replies.specs.declared.Halt.{Halt}
+use Rattle.replies.specs.declared.Reply.{Reply}
+use Rattle.replies.specs.declared.Reply.the-variants.{Refused, NoRun, Walked}
+use Rattle.files.specs.Case.{rulesOf}
+use Rattle.files.specs.Start.{startsOf, cellsOf}
+use Rattle.services.specs.Memory.{padded, moveTable, entryTable}
+use Rattle.services.specs.Saturate.{Lent, SaturateDone, saturateService}
+use Rattle.services.specs.Judge.{JudgeInput, JudgeDone, judgeLeft, judgeService}
+use Rattle.services.specs.Guide.{GuideInput, GuideDone, cellsLent, guideService}
+use Rattle.guidance.specs.Prefix.{Reason, haltBy}
+use Rattle.demands.specs.Reach.{Runs, Marks}
+use Rattle.demands.specs.Size.Laws.{one-saturated}
+use Rattle.demands.specs.Refusals.{Returned, saturateRefusals, judgeRefusals, guideRefusals}
+use Rattle.demands.specs.Refusals.Laws.{returned-one}
+use Rattle.demands.specs.FullRun.{used, HaltsAfter, has-arrived, is-full, is-short, Stops}
+use Rattle.demands.specs.FullRun.Laws.{one-full-run}
+use Rattle.demands.specs.Demand1.{Filled, SaturateStates, Marked, JudgeStates, Answered, GuideStates}
+use Rattle.demands.specs.Demand1.Proof.{demand1-saturate, demand1-judge, demand1-guide}
+use Rattle.demands.specs.Demand2.{judgeFor}
+use Rattle.demands.specs.Demand3.{MarkedYes, Walks, TooShort, AnswersRun, Guides}
+use Rattle.demands.specs.Demand3.Proof.{guides, runs-marked}
+
+-- ---- saturate
+
+saturate-done : {d e : SaturateDone} → d .reply .code ≡ e .reply .code → d .reply .moves ≡ e .reply .moves → d .reply .entries ≡ e .reply .entries
+    → d .moves ≡ e .moves → d .entries ≡ e .entries → d ≡ e
+saturate-done c m n ms es = λ i. record { reply = record { code = c i; moves = m i; entries = n i }; moves = ms i; entries = es i }
+
+-- two answers of which demand 1 holds are one
+saturate-one : (x : Lent) {d e : SaturateDone} → SaturateStates x d → SaturateStates x e → d ≡ e
+saturate-one x {d} {e} s t =
+    let c : d .reply .code ≡ e .reply .code = returned-one saturateRefusals x (s .number) (t .number) in
+    by-test (eqb (d .reply .code) 0)
+    (λ z.
+    let f = s .done (eqb-true _ 0 z) in
+    let g = t .done (sym c ∙ eqb-true _ 0 z) in
+    let a : f .table ≡ g .table = one-saturated (x .case) (f .saturated) (g .saturated) in
+    saturate-done c
+    (f .move-count ∙ ap (λ (A : Automaton). length (A .moves)) a ∙ sym (g .move-count))
+    (f .entry-count ∙ ap (λ (A : Automaton). length (A .entries)) a ∙ sym (g .entry-count))
+    (f .moves-are ∙ ap (λ (A : Automaton). padded (x .moves) (moveTable A)) a ∙ sym (g .moves-are))
+    (f .entries-are ∙ ap (λ (A : Automaton). padded (x .entries) (entryTable A)) a ∙ sym (g .entries-are)))
+    (λ z.
+    let bad = eqb-false _ 0 z in
+    let f = s .refused bad in
+    let g = t .refused (λ q. bad (c ∙ q)) in
+    saturate-done c
+    (f .move-count ∙ sym (g .move-count))
+    (f .entry-count ∙ sym (g .entry-count))
+    (f .moves-zero ∙ sym (g .moves-zero))
+    (f .entries-zero ∙ sym (g .entries-zero)))
+
+-- Demand 1 leaves saturate one answer.
+pub saturate-only : (x : Lent) (d : SaturateDone) → SaturateStates x d → d ≡ saturateService x
+saturate-only x d s = saturate-one x s (demand1-saturate x)
+
+-- ---- judge
+
+-- a start has one mark
+mark-one : (case start : List ℕ) (n a b : ℕ) → Marks case start n a → Marks case start n b → a ≡ b
+mark-one case start n a b m k = by-test (eqb a 1)
+    (λ z. eqb-true a 1 z ∙ sym (k .yes .1 (m .yes .0 (eqb-true a 1 z))))
+    (λ z. let none : Runs case start n → ⊥ = λ r. eqb-false a 1 z (m .yes .1 r) in m .no-run .1 none ∙ sym (k .no-run .1 none))
+
+judge-done : {d e : JudgeDone} → d .code ≡ e .code → d .moves ≡ e .moves → d .entries ≡ e .entries → d .answers ≡ e .answers → d ≡ e
+judge-done c ms es bs = λ i. record { code = c i; moves = ms i; entries = es i; answers = bs i }
+
+judge-one : (x : JudgeInput) {d e : JudgeDone} → JudgeStates x d → JudgeStates x e → d ≡ e
+judge-one x {d} {e} s t =
+    let c : d .code ≡ e .code = returned-one judgeRefusals x (s .number) (t .number) in
+    judge-done c (s .moves-zero ∙ sym (t .moves-zero)) (s .entries-zero ∙ sym (t .entries-zero))
+    (by-test (eqb (d .code) 0)
+    (λ z.
+    let f = s .done (eqb-true _ 0 z) in
+    let g = t .done (sym c ∙ eqb-true _ 0 z) in
+    let m : f .marks ≡ g .marks = ext-getD 0 (f .marks) (g .marks) (f .one-a-start ∙ sym (g .one-a-start)) (λ n l.
+    let k : n < length (startsOf (x .start)) = rw (f .one-a-start) at l in
+    mark-one (x .case) (x .start) n _ _ (f .each-mark n k) (g .each-mark n k)) in
+    f .answers-are ∙ ap (padded (x .answers)) m ∙ sym (g .answers-are))
+    (λ z.
+    let bad = eqb-false _ 0 z in
+    s .refused bad ∙ sym (t .refused (λ q. bad (c ∙ q)))))
+
+-- Demand 1 leaves judge one answer.
+pub judge-only : (x : JudgeInput) (d : JudgeDone) → JudgeStates x d → d ≡ judgeService x
+judge-only x d s = judge-one x s (demand1-judge x)
+
+-- ---- guide
+
+-- a run halts after one number of steps, for one reason
+reason-one : {rules : List Rule} {first : ℕ} {ns : List ℕ} {c t m : ℕ} {r q : Reason} → HaltsAfter rules first ns c t m r → HaltsAfter rules first ns c t m q → r ≡ q
+reason-one (has-arrived e) (has-arrived f) = refl
+reason-one (has-arrived e) (is-full l f) = absurd (omega arith)
+reason-one (has-arrived e) (is-short l f g) = absurd (omega arith)
+reason-one (is-full l e) (has-arrived f) = absurd (omega arith)
+reason-one (is-full l e) (is-full k f) = refl
+reason-one (is-full l e) (is-short k f g) = absurd (f e)
+reason-one (is-short l e h) (has-arrived f) = absurd (omega arith)
+reason-one (is-short l e h) (is-full k f) = absurd (e f)
+reason-one (is-short l e h) (is-short k f g) = refl
+
+stops-one : {rules : List Rule} {first : ℕ} {ns : List ℕ} {c t : ℕ} (s q : Stops rules first ns c t) → (s .steps ≡ q .steps) × (s .reason ≡ q .reason)
+stops-one {rules} {first} {ns} {c} {t} s q =
+    let l : q .steps ≤ s .steps = by-test (leb (q .steps) (s .steps)) (λ z. leb-true _ _ z) (λ z. absurd (q .least (s .steps) (s .reason) (leb-false _ _ z) (s .halts))) in
+    let k : s .steps ≤ q .steps = by-test (leb (s .steps) (q .steps)) (λ z. leb-true _ _ z) (λ z. absurd (s .least (q .steps) (q .reason) (leb-false _ _ z) (q .halts))) in
+    let e : s .steps ≡ q .steps = omega arith in
+    (e, reason-one (subst (λ (m : ℕ). HaltsAfter rules first ns c t m (s .reason)) e (s .halts)) (q .halts))
+
+-- two answers by one full run are one
+answers-one : (x : GuideInput) (ns : List ℕ) {d e : GuideDone} → AnswersRun x ns d → AnswersRun x ns e → (d .reply ≡ e .reply) × (d .trace ≡ e .trace)
+answers-one x ns {d} {e} a b =
+    by-test (leb (length (cellsOf (x .start))) (cellsLent x))
+    (λ z.
+    let l = leb-true _ _ z in
+    let v = a .walks l in
+    let w = b .walks l in
+    let (k, r) = stops-one (v .stops) (w .stops) in (
+      v .reply-is
+          ∙ ap₂ (λ (q : Reason) (m : ℕ). Walked (haltBy q (record { steps = m; cells = used (rulesOf (x .case)) (length (cellsOf (x .start))) ns m }))) r k
+          ∙ sym (w .reply-is),
+      v .trace-is ∙ ap (λ (m : ℕ). padded (x .trace) (take m ns)) k ∙ sym (w .trace-is),
+    ))
+    (λ z.
+    let l = leb-false _ _ z in
+    let v = a .too-short l in
+    let w = b .too-short l in
+    (v .reply-is ∙ sym (w .reply-is), v .trace-is ∙ sym (w .trace-is)))
+
+-- Demand 3 leaves one reply and one trace for a start marked yes.
+pub run-only : (x : GuideInput) (d : GuideDone) (answers : ℕ) → MarkedYes (judgeFor x answers) (x .number) → Guides x d
+    → (d .reply ≡ guideService x .reply) × (d .trace ≡ guideService x .trace)
+run-only x d answers y g =
+    let (p, a) = g answers y in
+    let (q, b) = guides x answers y in
+    answers-one x (q .trace) (subst (λ (ns : List ℕ). AnswersRun x ns d) (one-full-run (p .full) (q .full) .0) a) b
+
+guide-done : {d e : GuideDone} → d .reply ≡ e .reply → d .moves ≡ e .moves → d .entries ≡ e .entries → d .cells ≡ e .cells → d .trace ≡ e .trace → d ≡ e
+guide-done r ms es cs ts = λ i. record { reply = r i; moves = ms i; entries = es i; cells = cs i; trace = ts i }
+
+-- Demands 1 and 3 leave guide one answer.
+pub guide-only : (x : GuideInput) (d : GuideDone) → GuideStates x d → Guides x d → d ≡ guideService x
+guide-only x d s g =
+    let t = demand1-guide x in
+    let (r, k) = same (d .reply) (d .trace) (guideService x .reply) (guideService x .trace) (s .answered) (t .answered) (λ n runs.
+    run-only x d (length (startsOf (x .start))) (runs-marked x n runs) g) in
+    guide-done r (s .moves-zero ∙ sym (t .moves-zero)) (s .entries-zero ∙ sym (t .entries-zero)) (s .cells-zero ∙ sym (t .cells-zero)) k
+  where
+    same : (u : Reply) (v : List ℕ) (w : Reply) (z : List ℕ) → Answered x u v → Answered x w z
+        → (Returned guideRefusals x 0 → Runs (x .case) (x .start) (x .number) → (u ≡ w) × (v ≡ z)) → (u ≡ w) × (v ≡ z)
+    same (Refused n) v (Refused m) z (a, _, b) (c, _, f) k = (ap Refused (returned-one guideRefusals x a c), b ∙ sym f)
+    same (Refused n) v NoRun z (a, bad, b) (c, _, f) k = absurd (bad (returned-one guideRefusals x a c))
+    same (Refused n) v (Walked j) z (a, bad, b) (c, _, f) k = absurd (bad (returned-one guideRefusals x a c))
+    same NoRun v (Refused m) z (a, _, b) (c, bad, f) k = absurd (bad (returned-one guideRefusals x c a))
+    same NoRun v NoRun z (a, _, b) (c, _, f) k = (refl, b ∙ sym f)
+    same NoRun v (Walked j) z (a, none, b) (c, runs, f) k = absurd (none runs)
+    same (Walked i) v (Refused m) z (a, _, b) (c, bad, f) k = absurd (bad (returned-one guideRefusals x c a))
+    same (Walked i) v NoRun z (a, runs, b) (c, none, f) k = absurd (none runs)
+    same (Walked i) v (Walked j) z (a, runs, b) (c, _, f) k = k a runs

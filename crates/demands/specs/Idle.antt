@@ -1,0 +1,151 @@
+-- Document 01's idle programs. The answer that each gives at a worked model contradicts the demand's statement, read alone.
+-- Assumes nothing.
+use Prim.Native.Nat.{ℕ, _*_}
+use mathlib.Core.Bool.{false≢true}
+use mathlib.Core.Path.{_≡_, refl, ap, sym, _∙_, subst}
+use mathlib.Core.Option.{none, some}
+use mathlib.Core.List.{List, [], _∷_, map}
+use lib.ListN.{getD}
+use lib.Dec.{lit<}
+use borrow.Author.Tests.{eqb-false}
+use Rattle.automata.specs.Saturation.{tableAfter}
+use Rattle.replies.specs.declared.Counts.{Counts}
+use Rattle.replies.specs.declared.Halt.the-variants.{Arrived, CellsShort}
+use Rattle.replies.specs.declared.Reply.{Reply}
+use Rattle.replies.specs.declared.Reply.the-variants.{NoRun, Walked}
+use Rattle.replies.specs.Numbers.{replyCounts}
+use Rattle.walks.specs.Guide.{Walk}
+use Rattle.words.specs.Lists.{zeros}
+use Rattle.files.specs.Case.{ownOf, rulesOf}
+use Rattle.files.specs.Start.{startsOf}
+use Rattle.services.specs.Memory.{padded, moveTable}
+use Rattle.services.specs.Saturate.{Lent, SaturateDone}
+use Rattle.services.specs.Judge.{JudgeDone, mark}
+use Rattle.services.specs.Guide.{GuideInput, GuideDone}
+use Rattle.guidance.specs.Prefix.{isArrival}
+use Rattle.models.specs.Computing.{computed}
+use Rattle.models.specs.Files.{caseA, startA, startC, caseCircle}
+use Rattle.demands.specs.Reach.{startAt, Runs}
+use Rattle.demands.specs.FullRun.{saturatedTable, walkFrom, fullWalk, fullTrace, fullNext, FullRun}
+use Rattle.demands.specs.FullRun.Laws.{one-full-run}
+use Rattle.demands.specs.Demand1.{SaturateStates, JudgeStates, Answered, GuideStates}
+use Rattle.demands.specs.Demand2.{judgeFor, JudgeMarks}
+use Rattle.demands.specs.Demand2.Proof.{judge-marks}
+use Rattle.demands.specs.Demand3.{MarkedYes, Guides}
+use Rattle.demands.specs.Determined.{saturate-only, judge-only, run-only}
+use Rattle.demands.specs.Instances.{inputA, unrefused-A}
+
+-- ---- the inputs: model A with tables of 17 and 7 words, 10 cells and three trace words
+
+unfoldable pub lentA : Lent
+lentA = record { case = caseA; moves = 17; entries = 7 }
+
+-- "with two moves lent", and four words more
+unfoldable pub lentTwo : Lent
+lentTwo = record { case = caseA; moves = 14; entries = 7 }
+
+unfoldable pub guideA : ℕ → GuideInput
+guideA n = record { case = caseA; start = startA; number = n; moves = 17; entries = 7; cells = 10 * 68; trace = 3 }
+
+-- the circle model, with as many
+unfoldable pub guideCircle : GuideInput
+guideCircle = record { case = caseCircle; start = startC; number = 0; moves = 17; entries = 7; cells = 10 * 68; trace = 3 }
+
+-- ---- "Refusing every file"
+
+pub refuses-saturate : (d : SaturateDone) → (d .reply .code ≡ 0 → ⊥) → SaturateStates lentA d → ⊥
+unfolding computed lentA
+refuses-saturate d bad s = bad (ap (λ (e : SaturateDone). e .reply .code) (saturate-only lentA d s))
+
+pub refuses-judge : (d : JudgeDone) → (d .code ≡ 0 → ⊥) → JudgeMarks inputA d → ⊥
+refuses-judge d bad m = bad (m unrefused-A .judged)
+
+-- ---- "or marking every start no"
+
+-- start 0 of model A has a run
+run-A : Runs caseA startA 0
+unfolding computed inputA
+run-A = judge-marks inputA unrefused-A .each-mark 0 (lit< tt) .yes .0 refl
+
+pub marks-no : (d : JudgeDone) → getD (d .answers) 0 0 ≡ 0 → JudgeMarks inputA d → ⊥
+unfolding computed inputA
+marks-no d z m = m unrefused-A .each-mark 0 (lit< tt) .no-run .0 z run-A
+
+-- ---- "Returning with tables untouched": a word of the memory column is another
+
+pub untouched-refused : (d : SaturateDone) → (d .moves ≡ zeros 14 → ⊥) → SaturateStates lentTwo d → ⊥
+unfolding computed lentTwo
+untouched-refused d h s = h (ap (λ (e : SaturateDone). e .moves) (saturate-only lentTwo d s))
+
+pub untouched-done : (d : SaturateDone)
+    → (d .moves ≡ 0 ∷ 1 ∷ 0 ∷ 0 ∷ 0 ∷ 1 ∷ 1 ∷ 2 ∷ 2 ∷ 0 ∷ 2 ∷ 0 ∷ 0 ∷ 0 ∷ 0 ∷ 0 ∷ 0 ∷ [] → ⊥) → SaturateStates lentA d → ⊥
+unfolding computed lentA
+untouched-done d h s = h (ap (λ (e : SaturateDone). e .moves) (saturate-only lentA d s))
+
+pub untouched-answers : (d : JudgeDone) → (d .answers ≡ 1 ∷ 1 ∷ 0 ∷ 0 ∷ 0 ∷ [] → ⊥) → JudgeStates inputA d → ⊥
+unfolding computed inputA
+untouched-answers d h s = h (ap (λ (e : JudgeDone). e .answers) (judge-only inputA d s))
+
+-- ---- "Saturating one round only"
+
+pub one-round-saturate : (d : SaturateDone) → d .moves ≡ padded 17 (moveTable (tableAfter (rulesOf caseA) (ownOf caseA) 1)) → SaturateStates lentA d → ⊥
+unfolding computed lentA
+one-round-saturate d e s =
+    let z : getD (d .moves) 10 0 ≡ 2 = ap (λ (x : SaturateDone). getD (x .moves) 10 0) (saturate-only lentA d s) in
+    eqb-false 0 2 refl (sym (ap (λ (l : List ℕ). getD l 10 0) e) ∙ z)
+
+pub one-round-judge : (d : JudgeDone)
+    → d .answers ≡ padded 5 (map (mark (tableAfter (rulesOf caseA) (ownOf caseA) 1) startA) (startsOf startA)) → JudgeMarks inputA d → ⊥
+unfolding computed
+one-round-judge d e m = marks-no d (ap (λ (l : List ℕ). getD l 0 0) e) m
+
+-- ---- "Invented steps or cells"
+
+pub marked-A0 : MarkedYes (judgeFor (guideA 0) 3) 0
+unfolding computed guideA judgeFor
+marked-A0 = record { judged = refl; start-there = lit< tt; yes = refl }
+
+pub invents-steps : (d : GuideDone) → (d .trace ≡ 0 ∷ 1 ∷ 0 ∷ [] → ⊥) → Guides (guideA 0) d → ⊥
+unfolding computed guideA
+invents-steps d h g = h (run-only (guideA 0) d 3 marked-A0 g .1)
+
+pub invents-cells : (d : GuideDone) (k : ℕ) → (k ≡ 9 → ⊥) → d .reply ≡ Walked (Arrived (record { steps = 2; cells = k })) → Guides (guideA 0) d → ⊥
+unfolding computed guideA
+invents-cells d k h e g = h (ap (λ (r : Reply). replyCounts r .cells) (sym e ∙ run-only (guideA 0) d 3 marked-A0 g .0))
+
+-- ---- "Cells short before any step"
+
+pub short-before : (d : GuideDone) → d .reply ≡ Walked (CellsShort (record { steps = 0; cells = 0 })) → Guides (guideA 0) d → ⊥
+unfolding computed guideA isArrival
+short-before d e g = false≢true (ap isArrival (sym e ∙ run-only (guideA 0) d 3 marked-A0 g .0))
+
+-- ---- "Circling until cells run out"
+
+pub marked-circle : MarkedYes (judgeFor guideCircle 1) 0
+unfolding computed guideCircle judgeFor
+marked-circle = record { judged = refl; start-there = lit< tt; yes = refl }
+
+pub circles : (d : GuideDone) (z : Counts) → d .reply ≡ Walked (CellsShort z) → Guides guideCircle d → ⊥
+unfolding computed guideCircle isArrival
+circles d z e g = false≢true (ap isArrival (sym e ∙ run-only guideCircle d 1 marked-circle g .0))
+
+-- A run that copies more often before it pops leads into the target too, but is not the full run, however many cells it takes.
+pub circle-run : (ns : List ℕ) (w : Walk) → FullRun caseCircle startC 0 ns w → ns ≡ 0 ∷ 1 ∷ []
+unfolding computed startAt saturatedTable walkFrom fullWalk fullTrace fullNext
+circle-run ns w r = one-full-run r run .0
+  where
+    last : Walk
+    last = elim (fullWalk caseCircle startC 0 2) [ none ↦ record { control = 0; root = 0; cells = [] } | some v ↦ v ]
+
+    run : FullRun caseCircle startC 0 (0 ∷ 1 ∷ []) last
+    run = record { walk-is = refl; trace-is = refl; arrives = refl }
+
+-- ---- no run for every start, and a trace left as it was where there is none
+
+pub no-run-always : (d : GuideDone) → d .reply ≡ NoRun → GuideStates (guideA 0) d → ⊥
+unfolding guideA
+no-run-always d e s = let (_, no, _) = subst (λ (r : Reply). Answered (guideA 0) r (d .trace)) e (s .answered) in no run-A
+
+pub untouched-trace : (d : GuideDone) → d .reply ≡ NoRun → (d .trace ≡ zeros 3 → ⊥) → GuideStates (guideA 2) d → ⊥
+unfolding guideA
+untouched-trace d e h s = let (_, _, z) = subst (λ (r : Reply). Answered (guideA 2) r (d .trace)) e (s .answered) in h z
