@@ -144,7 +144,7 @@ circle-run ns w r = one-full-run r run .0
 
 pub no-run-always : (d : GuideDone) → d .reply ≡ NoRun → GuideStates (guideA 0) d → ⊥
 unfolding guideA
-no-run-always d e s = let (_, no, _) = subst (λ (r : Reply). Answered (guideA 0) r (d .trace)) e (s .answered) in no run-A
+no-run-always d e s = let (_, h, _) = subst (λ (r : Reply). Answered (guideA 0) r (d .trace)) e (s .answered) in h run-A
 
 pub untouched-trace : (d : GuideDone) → d .reply ≡ NoRun → (d .trace ≡ zeros 3 → ⊥) → GuideStates (guideA 2) d → ⊥
 unfolding guideA
