@@ -12,7 +12,7 @@ use Rattle.automata.specs.Saturation.{tableAfter}
 use Rattle.replies.specs.declared.Counts.{Counts}
 use Rattle.replies.specs.declared.Halt.the-variants.{Arrived, CellsShort}
 use Rattle.replies.specs.declared.Reply.{Reply}
-use Rattle.replies.specs.declared.Reply.the-variants.{NoRun, Walked}
+use Rattle.replies.specs.declared.Reply.the-variants.{Refused, NoRun, Walked}
 use Rattle.replies.specs.Numbers.{replyCounts}
 use Rattle.walks.specs.Guide.{Walk}
 use Rattle.words.specs.Lists.{zeros}
@@ -26,9 +26,12 @@ use Rattle.guidance.specs.Prefix.{isArrival}
 use Rattle.models.specs.Computing.{computed}
 use Rattle.models.specs.Files.{caseA, startA, startC, caseCircle}
 use Rattle.demands.specs.Reach.{startAt, Runs}
+use Rattle.demands.specs.Refusals.{guideRefusals}
+use Rattle.demands.specs.Refusals.Laws.{returned-one}
 use Rattle.demands.specs.FullRun.{saturatedTable, walkFrom, fullWalk, fullTrace, fullNext, FullRun}
 use Rattle.demands.specs.FullRun.Laws.{one-full-run}
 use Rattle.demands.specs.Demand1.{SaturateStates, JudgeStates, Answered, GuideStates}
+use Rattle.demands.specs.Demand1.Proof.{demand1-guide}
 use Rattle.demands.specs.Demand2.{judgeFor, JudgeMarks}
 use Rattle.demands.specs.Demand2.Proof.{judge-marks}
 use Rattle.demands.specs.Demand3.{MarkedYes, Guides}
@@ -59,6 +62,13 @@ refuses-saturate d bad s = bad (ap (λ (e : SaturateDone). e .reply .code) (satu
 
 pub refuses-judge : (d : JudgeDone) → (d .code ≡ 0 → ⊥) → JudgeMarks inputA d → ⊥
 refuses-judge d bad m = bad (m unrefused-A .judged)
+
+pub refuses-guide : (d : GuideDone) (n : ℕ) → d .reply ≡ Refused n → GuideStates (guideA 0) d → ⊥
+unfolding computed guideA
+refuses-guide d n e s =
+    let (a, bad, _) = subst (λ (r : Reply). Answered (guideA 0) r (d .trace)) e (s .answered) in
+    let (b, _, _) = demand1-guide (guideA 0) .answered in
+    bad (returned-one guideRefusals (guideA 0) a b)
 
 -- ---- "or marking every start no"
 

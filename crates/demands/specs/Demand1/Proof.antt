@@ -70,9 +70,9 @@ module _ (x : Lent) where
 
   refused-states : (n : ℕ) → (n ≡ 0 → ⊥) → Returned saturateRefusals x n → SaturateStates x (saturateRefused x n)
   unfolding saturateRefused
-  refused-states n bad r =
+  refused-states n bad first =
       record {
-        number = r;
+        number = first;
         moves-length = length-zeros (x .moves);
         entries-length = length-zeros (x .entries);
         done = λ z. absurd (bad z);

@@ -14,12 +14,14 @@ use Rattle.automata.specs.Facts.{states}
 use Rattle.automata.specs.Saturation.{Size, Saturated, within}
 use Rattle.rounds.specs.Limits.{KeepsLimits, within-keeps, keeps-within, saturate-some, held-table}
 use Rattle.walks.specs.Guide.{Walk, arrived, to, next, walkAfter, traceAfter}
-use Rattle.files.specs.Case.{ownOf, rulesOf}
+use Rattle.files.specs.Case.{caseRefusal, ownOf, rulesOf}
 use Rattle.services.specs.Memory.{lent}
 use Rattle.services.specs.Saturate.{Lent, saturated}
 use Rattle.guidance.specs.Run.{trace-short, run-first, run-trace, run-join, run-split, trace-take, cellsOfSteps, run-cells-used, walkAfter-to}
 use Rattle.guidance.specs.Prefix.{Reason, ArrivesAfter, FirstHalt, arrives-last}
 use Rattle.guidance.specs.Prefix
+use Rattle.demands.specs.Size.{SaturatedTable}
+use Rattle.demands.specs.Size.Laws.{saturated-table}
 use Rattle.demands.specs.FullRun.{saturatedTable, walkFrom, fullWalk, fullTrace, fullNext, FullRun, used, HaltsAfter, has-arrived, is-full, is-short}
 
 -- ---- the table
@@ -39,6 +41,27 @@ saturated-is x {T} e =
     let z : Size = lent (x .moves) (x .entries) in
     let s = saturate-some (rulesOf (x .case)) z (ownOf (x .case)) e in
     held-table (rulesOf (x .case)) z (record { moves = 1024; entries = 64 }) (ownOf (x .case)) e (within-most z (T .table) (s .limits-kept))
+
+-- It is the saturated table of a sound case.
+pub full-saturated : (case : List ℕ) {T : Saturated} → caseRefusal case ≡ 0 → saturatedTable case ≡ some T → SaturatedTable case (T .table)
+unfolding saturated saturatedTable lent
+full-saturated case sound e = saturated-table (record { case = case; moves = 5120; entries = 128 }) sound e
+
+-- Tables of 5,120 and 128 words, 1,024 moves and 64 entries, are enough: with them and with longer ones a case is refused for size exactly
+-- if its saturated table has more than 1,024 moves or 64 order-1 states.
+pub enough-lent : (x : Lent) → 5120 ≤ x .moves → 128 ≤ x .entries → saturated x ≡ saturatedTable (x .case)
+unfolding saturated saturatedTable lent
+enough-lent x h k =
+    by-option (saturatedTable (x .case))
+    (λ o. by-option (saturated x) (λ q. q ∙ sym o) (λ T q. absurd (Option·none-ne-some T (sym o ∙ saturated-is x q))))
+    (λ T o.
+    let z : Size = record { moves = 1024; entries = 64 } in
+    let s = saturate-some (rulesOf (x .case)) z (ownOf (x .case)) o in
+    let f : KeepsLimits z (T .table) = within-keeps z (T .table) (s .limits-kept) in
+    let m : length (T .table .moves) ≤ min 1024 1024 = f .moves-fit in
+    let n : length (T .table .entries) ≤ 64 = f .entries-fit in
+    let w = keeps-within (lent (x .moves) (x .entries)) (T .table) (record { moves-fit = omega arith; entries-fit = omega arith; states-fit = f .states-fit }) in
+    held-table (rulesOf (x .case)) z (lent (x .moves) (x .entries)) (ownOf (x .case)) o w ∙ sym o)
 
 -- ---- the full run
 
@@ -66,7 +89,9 @@ full-short case start n m =
 -- the table on which a full run goes
 pub full-table : {case start : List ℕ} {n : ℕ} {ns : List ℕ} {w : Walk} → FullRun case start n ns w → (T : Saturated) × (saturatedTable case ≡ some T)
 unfolding fullWalk
-full-table {case} {w = w} r = by-option (saturatedTable case) (λ o. absurd (Option·none-ne-some w (rw (fullWalk, o) at (r .walk-is)))) (λ T o. (T, o))
+full-table {case} {start} {n} {ns} {w} r =
+    let e : fullWalk case start n (length ns) ≡ some w = r .walk-is in
+    by-option (saturatedTable case) (λ o. absurd (Option·none-ne-some w (rw (fullWalk, o) at e))) (λ T o. (T, o))
 
 module _ {case start : List ℕ} {n : ℕ} where
   -- it arrives after as many steps as it has rule numbers

@@ -4,7 +4,7 @@ use Prim.Native.Nat.{ℕ, zero, suc, _+_, _≤_, _<_}
 use mathlib.Core.Bool.{Bool, true, false, not, _&&_, false≢true}
 use mathlib.Core.Path.{_≡_, refl, sym, _∙_, subst}
 use mathlib.Core.Logic.{_↔_, _⊎_, inl, inr, ⊎-elim}
-use mathlib.Core.List.{List, [], _∷_, _++_, List·Memᴰ, List·Memᴰ·head, List·Memᴰ·tail}
+use mathlib.Core.List.{List, [], _∷_, _++_, map, List·Memᴰ, List·Memᴰ·head, List·Memᴰ·tail}
 use native.Mathlib.Nat.{zero-add}
 use native.Mathlib.Omega.{arith}
 use lib.ListN.{length, getD}
@@ -34,6 +34,17 @@ module _ {X : Type 0} where
   returned-one (r ∷ rs) x (inl (a, e)) (inr (b, f)) = absurd (b a)
   returned-one (r ∷ rs) x (inr (a, e)) (inl (b, f)) = absurd (a b)
   returned-one (r ∷ rs) x (inr (a, e)) (inr (b, f)) = returned-one rs x e f
+
+  -- it is 0 or a number of the table
+  pub returned-listed : (rs : List (Refusal X)) (x : X) (n : ℕ) → Returned rs x n → List·Memᴰ n (0 ∷ map (λ r. r .number) rs)
+  unfolding Returned
+  returned-listed [] x n e = List·Memᴰ·head e
+  returned-listed (r ∷ rs) x n (inl (a, e)) = List·Memᴰ·tail (List·Memᴰ·head e)
+  returned-listed (r ∷ rs) x n (inr (a, e)) = later (returned-listed rs x n e)
+    where
+      later : List·Memᴰ n (0 ∷ map (λ s. s .number) rs) → List·Memᴰ n (0 ∷ map (λ s. s .number) (r ∷ rs))
+      later (List·Memᴰ·head z) = List·Memᴰ·head z
+      later (List·Memᴰ·tail j) = List·Memᴰ·tail (List·Memᴰ·tail j)
 
   -- where no number is returned, the first line does not apply, and none of the others is returned
   pub unreturned : (r : Refusal X) (rs : List (Refusal X)) (x : X) → (0 ≡ r .number → ⊥) → Returned (r ∷ rs) x 0 → (r .applies x → ⊥) × Returned rs x 0
