@@ -1,30 +1,23 @@
 -- The demands leave nothing open: demand 1 leaves saturate and judge one answer to each input, and demands 1 and 3 leave guide one.
 -- Assumes nothing.
 use Prim.Native.Nat.{ℕ, _≤_, _<_}
-use mathlib.Core.Bool.{true, false}
 use mathlib.Core.Path.{_≡_, refl, ap, ap₂, sym, _∙_, subst}
 use mathlib.Core.List.{List}
-use mathlib.Core.Option.{some, Option·some-injective, Option·none-ne-some}
-use native.Mathlib.Nat.{lt-irrefl, lt-of-lt-of-le}
 use native.Mathlib.Omega.{arith}
-use lib.ListN.{length, getD, take}
+use lib.ListN.{length, take}
 use lib.Seq.{ext-getD}
 use lib.Dec.{eqb, leb}
 use borrow.Author.Tests.{eqb-true, eqb-false, leb-true, leb-false}
 use Rattle.words.specs.Laws.Tests.{by-test}
 use Rattle.stacks.specs.System.{Rule}
 use Rattle.automata.specs.Automaton.{Automaton}
-use Rattle.automata.specs.Saturation.{Saturated}
-use Rattle.replies.specs.declared.Saturation.{Saturation}
-use Rattle.replies.specs.declared.Counts.{Counts}
-use Rattle.replies.specs.declared.Halt.{Halt}
 use Rattle.replies.specs.declared.Reply.{Reply}
 use Rattle.replies.specs.declared.Reply.the-variants.{Refused, NoRun, Walked}
 use Rattle.files.specs.Case.{rulesOf}
 use Rattle.files.specs.Start.{startsOf, cellsOf}
 use Rattle.services.specs.Memory.{padded, moveTable, entryTable}
 use Rattle.services.specs.Saturate.{Lent, SaturateDone, saturateService}
-use Rattle.services.specs.Judge.{JudgeInput, JudgeDone, judgeLeft, judgeService}
+use Rattle.services.specs.Judge.{JudgeInput, JudgeDone, judgeService}
 use Rattle.services.specs.Guide.{GuideInput, GuideDone, cellsLent, guideService}
 use Rattle.guidance.specs.Prefix.{Reason, haltBy}
 use Rattle.demands.specs.Reach.{Runs, Marks}
@@ -33,10 +26,10 @@ use Rattle.demands.specs.Refusals.{Returned, saturateRefusals, judgeRefu
 use Rattle.demands.specs.Refusals.Laws.{returned-one}
 use Rattle.demands.specs.FullRun.{used, HaltsAfter, has-arrived, is-full, is-short, Stops}
 use Rattle.demands.specs.FullRun.Laws.{one-full-run}
-use Rattle.demands.specs.Demand1.{Filled, SaturateStates, Marked, JudgeStates, Answered, GuideStates}
+use Rattle.demands.specs.Demand1.{SaturateStates, JudgeStates, Answered, GuideStates}
 use Rattle.demands.specs.Demand1.Proof.{demand1-saturate, demand1-judge, demand1-guide}
 use Rattle.demands.specs.Demand2.{judgeFor}
-use Rattle.demands.specs.Demand3.{MarkedYes, Walks, TooShort, AnswersRun, Guides}
+use Rattle.demands.specs.Demand3.{MarkedYes, AnswersRun, Guides}
 use Rattle.demands.specs.Demand3.Proof.{guides, runs-marked}
 
 -- ---- saturate

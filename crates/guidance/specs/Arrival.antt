@@ -19,7 +19,7 @@ use Rattle.soundness.specs.Facts.{SaturatedFacts}
 use Rattle.soundness.specs.Theorem.{Arrival, guided-arrives as decorated-run-arrives}
 use Rattle.guidance.specs.Run.{walkAfter-to, traceAfter-to}
 use Rattle.guidance.specs.Prefix.{ArrivesAfter}
-use Rattle.guidance.specs.Decoration.{bare, decoratedOf, WalkFormed, erase-walk, start-decorated, start-bare, start-formed}
+use Rattle.guidance.specs.Decoration.{decoratedOf, WalkFormed, erase-walk, start-decorated, start-bare, start-formed}
 use Rattle.guidance.specs.Simulation.{SameNext, both-arrive, both-go, both-stuck, wrong-order, same-next}
 
 -- ---- the answers of a decorated step differ

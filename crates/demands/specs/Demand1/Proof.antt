@@ -9,11 +9,9 @@ use native.Mathlib.Nat.{le-trans, lt-irrefl, lt-of-lt-of-le}
 use native.Mathlib.Omega.{arith}
 use lib.ListN.{length, length-map}
 use borrow.Author.Tests.{eqb-false}
-use Rattle.words.specs.Lists.{zeros}
 use Rattle.words.specs.Lists.Laws.{length-zeros}
 use Rattle.automata.specs.Saturation.{Saturated}
 use Rattle.rounds.specs.Limits.{KeepsLimits, saturate-some, within-keeps}
-use Rattle.replies.specs.declared.Halt.{Halt}
 use Rattle.replies.specs.Numbers.{countsOf}
 use Rattle.walks.specs.Guide.{Report, walkedBy, noRun}
 use Rattle.files.specs.Case.{caseRefusal, ownOf, rulesOf}
@@ -26,14 +24,13 @@ use Rattle.services.specs.Judge.{JudgeInput, JudgeDone, judgeFiles, judgeLent, 
 use Rattle.services.specs.Judge.Laws.{JudgeCase, start-refused, answers-short, judged, judge-cases}
 use Rattle.services.specs.Guide.{GuideInput, GuideDone, guideFiles, guideLent, startNamed, guideWalk, guideLeft, refused, guideService}
 use Rattle.services.specs.Guide.Laws.{GuideCase, Started, start-missing, no-run, cells-short, walked, guide-cases, walk-goes, walk-short}
-use Rattle.demands.specs.Reach.{Marks}
 use Rattle.demands.specs.Size.{Exceeds}
 use Rattle.demands.specs.Size.Laws.{saturated-table, none-exceeds, exceeds-none}
-use Rattle.demands.specs.Refusals.{Refusal, refusal, Returned, AnswersShort, StartMissing, saturateRefusals, judgeRefusals, guideRefusals, caseRefusals, startRefusals}
+use Rattle.demands.specs.Refusals.{Refusal, refusal, Returned, AnswersShort, StartMissing, saturateRefusals, judgeRefusals, guideRefusals, startRefusals}
 use Rattle.demands.specs.Refusals.Laws.{case-returned, past-case, start-returned, past-start, applies-here, applies-not, none-applies}
 use Rattle.demands.specs.FullRun.{fullTrace}
 use Rattle.demands.specs.FullRun.Laws.{full-short}
-use Rattle.demands.specs.Demand1.{Filled, Emptied, SaturateStates, Marked, JudgeStates, Answered, GuideStates, Demand1}
+use Rattle.demands.specs.Demand1.{SaturateStates, JudgeStates, Answered, GuideStates, Demand1}
 use Rattle.demands.specs.Laws.Accepted.{table-marks, mark-at, started-runs, started-none}
 use Rattle.demands.specs.Demand3.Answer.{walk-report}
 

@@ -26,14 +26,14 @@ use Rattle.services.specs.Judge.{JudgeInput, JudgeDone, judgeLent, accepted, ju
 use Rattle.services.specs.Judge.Laws.{JudgeCase, start-refused, answers-short, judged, judge-cases}
 use Rattle.services.specs.Guide.{GuideInput, GuideDone, guideLent, startNamed, guideWalk, guideLeft, refused, guideService}
 use Rattle.services.specs.Guide.Laws.{GuideCase, Started, start-missing, no-run, cells-short, walked, guide-cases, walk-goes}
-use Rattle.demands.specs.Reach.{Runs, Marks}
+use Rattle.demands.specs.Reach.{Runs}
 use Rattle.demands.specs.Size.{Exceeds}
 use Rattle.demands.specs.Size.Laws.{none-exceeds, exceeds-none}
 use Rattle.demands.specs.Refusals.{Returned, refusal, StartMissing, judgeRefusals, guideRefusals}
 use Rattle.demands.specs.Refusals.Laws.{returned-one, unreturned}
 use Rattle.demands.specs.Demand1.{JudgeStates, Answered}
 use Rattle.demands.specs.Demand1.Proof.{demand1-judge, demand1-guide}
-use Rattle.demands.specs.Demand2.{judgeFor, MarksAll, JudgeMarks, NoRunExactly, GuideRuns, Demand2, SaturateSize, JudgeSize, GuideSize, Demand2Size}
+use Rattle.demands.specs.Demand2.{judgeFor, JudgeMarks, GuideRuns, Demand2, SaturateSize, JudgeSize, GuideSize, Demand2Size}
 use Rattle.demands.specs.Demand3.Answer.{walk-report}
 
 -- ---- judge

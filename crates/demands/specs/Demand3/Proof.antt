@@ -11,7 +11,6 @@ use borrow.Author.Tests.{eqb-false}
 use Rattle.words.specs.Laws.Tests.{by-test}
 use Rattle.automata.specs.Automaton.{Automaton}
 use Rattle.automata.specs.Saturation.{Saturated}
-use Rattle.replies.specs.declared.Reply.{Reply}
 use Rattle.replies.specs.Numbers.{refusalOf}
 use Rattle.walks.specs.Guide.{Report, walkedBy, noRun}
 use Rattle.files.specs.Case.{caseRefusal}
@@ -31,7 +30,7 @@ use Rattle.demands.specs.Demand1.Proof.{demand1-guide}
 use Rattle.demands.specs.Demand2.{judgeFor}
 use Rattle.demands.specs.Demand2.Proof.{unrefused}
 use Rattle.demands.specs.Laws.Accepted.{answer-at}
-use Rattle.demands.specs.Demand3.{MarkedYes, RunArrives, AnswersRun, guideFor, GuidedRun, Demand3, Guides}
+use Rattle.demands.specs.Demand3.{MarkedYes, RunArrives, AnswersRun, guideFor, Demand3, Guides}
 use Rattle.demands.specs.Demand3.Answer.{run-arrives, answers-run}
 
 -- ---- the table that judge and guide share

@@ -1,5 +1,5 @@
--- The table after rounds is the least closed set where it is closed. Any two least closed sets keep the same limits, and where the table
--- after some number of rounds passes a limit, each of them passes it.
+-- The table after rounds is the least closed set where it is closed. Any two least closed sets keep the same limits, and where no
+-- saturated table keeps them, the closed table passes one.
 -- Assumes nothing.
 use Prim.Native.Nat.{ℕ}
 use mathlib.Core.Bool.{false, false≢true}
@@ -53,15 +53,6 @@ module _ {P : ℕ} (rules : List Rule) (rule-facts : (ρ : Rule) → List·Mem�
   pub saturated-least : OwnFacts P own → {lent : Size} {T : Saturated} → IsSaturated rules lent own T → LeastClosed rules own (T .table)
   saturated-least O s =
       subst (LeastClosed rules own) (sym (s .after .table-is)) (closed-least O (s .after .rounds) (subst (Closed rules) (s .after .table-is) (s .closed)))
-
-  -- what passes a limit after some number of rounds is contained in the least closed set, which passes it too
-  pub after-passes : (lent : Size) (n : ℕ) → within lent (tableAfter rules own n) ≡ false → {A : Automaton} → LeastClosed rules own A → within lent A ≡ false
-  after-passes lent n h {A} a =
-      by-test (within lent A)
-      (λ t.
-      let c : Contains (tableAfter rules own n) A = closed-contains rules rule-facts F (a .contains-own) (a .entries-once) (a .closed) n in
-      absurd (false≢true (sym h ∙ within-contained (after-facts rules rule-facts F n .entry-once) lent (after-moves-once rules rule-facts F once n) c t)))
-      (λ t. t)
 
 -- where no saturated table keeps the limits, the closed table passes one
 pub closed-exceeds : (rules : List Rule) (lent : Size) (own : Automaton) (n : ℕ) → Closed rules (tableAfter rules own n) → saturate rules lent own ≡ none
