@@ -1,15 +1,17 @@
 /*
  * The script analyser for the bench host: target/staticlib/libexports.a, which
  * `rt staticlib exports` writes. Document 01 says what the three services do;
- * this page says the same for a caller in C. Every sentence on a result or on
- * lent memory is proved (crates/exports).
+ * this page says the same for a caller in C. crates/exports proves each call
+ * equal to its definition; what this page says of numbers, words, marks and runs
+ * are the theorems of crates/demands about these definitions (docs/PROMISES.md).
  *
  * What is asked of the caller: each pointer points to as many elements as the
  * length beside it says, aligned for their type, and is not null even if that
  * length is 0; what a call writes overlaps nothing else that it is lent.
  * Nothing else is asked of files and memory: files may hold any bytes, lengths
  * may be any, and lent memory may hold anything before a call. No call keeps a
- * pointer, allocates or fails to return.
+ * pointer or allocates, as the language has neither, and each returns, as the
+ * checker asks of every loop and recursion.
  *
  * A call runs on the caller's stack and takes 1.26 MB of it, the listing 1.37 MB.
  * This is measured (host/stack.c) and not proved: call from a thread that has 2 MB.
@@ -18,10 +20,10 @@
  * words after the last whole record are written too, with zero.
  *
  *   moves    5 words a move: order-1 state, symbol, annotation order, annotation
- *            set, rest set. A saturated table has at most 1,024 moves, so 5,120
- *            words are always enough.
- *   entries  2 words an entry: control, set of order-2 states. At most 64
- *            entries, so 128 words are always enough.
+ *            set, rest set. A saturated table with more than 1,024 moves is
+ *            refused with 9 whatever is lent; every other fits 5,120 words.
+ *   entries  2 words an entry: control, set of order-2 states. A table with more
+ *            than 64 order-1 states is refused with 9; every other fits 128 words.
  *   answers  a byte a start. At most 64 starts.
  *   cells    68 words of 16 bits a cell, of which at most 4,096 cells count.
  *   trace    a word of 16 bits a step.
@@ -29,8 +31,9 @@
  * A set is a word with bit n for state n. A missing file is one of length 0.
  *
  * A refusal is a number from 1 to 255 (ANALYSER_REFUSALS says what each means);
- * no other answer is. The lowest number that applies is returned. After a refusal
- * every lent word is zero, and so is every count.
+ * no other answer is. The first of a service's numbers that applies, in rising
+ * order, is returned. After a refusal every lent word is zero, and so is every
+ * count.
  */
 #ifndef ANALYSER_H
 #define ANALYSER_H
@@ -108,7 +111,8 @@ uint64_t analyser_judge(
  *   ANALYSER_TRACE_FULL   the next step needs one more trace word than lent
  *   ANALYSER_CELLS_SHORT  the start file's cells, or those used and the next
  *                         step's together, are more than lent
- *   ANALYSER_NO_RUN       judge marks the start 0
+ *   ANALYSER_NO_RUN       no run leads from the start into the target: judge,
+ *                         with the same files and tables, marks it 0
  *
  * After the first three, trace begins with the numbers of the *steps rules that
  * the run applies first, one a step, and *cells_used is the number of the start
@@ -117,8 +121,9 @@ uint64_t analyser_judge(
  * both counts are 0. All trace words from *steps on are zero. moves, entries and
  * cells are working memory, zero after every call.
  *
- * The run of a start is always the same one: with more cells or a longer trace,
- * the guide writes more of its steps, and it arrives as soon as they suffice.
+ * The run of a start is always the same one, whatever tables, cells and trace are
+ * lent: with more cells or a longer trace the guide writes no fewer of its steps,
+ * and it arrives exactly when they suffice.
  */
 uint64_t analyser_guide(
     const uint8_t *case_file, size_t case_length,
@@ -133,7 +138,7 @@ uint64_t analyser_guide(
 /*
  * Listing: the text that the printing program prints for two files, with the
  * memory that document 01 lends to it. text points to ANALYSER_LISTING_BYTES
- * bytes, which are always enough.
+ * bytes; no listing is longer.
  *
  * Returns the length of the text. The bytes after it are zero.
  */

@@ -2,11 +2,15 @@
 -- Assumes nothing.
 use Prim.Native.Nat.{ℕ, suc, _+_, _-_, _≤_, _<_, min}
 use mathlib.Core.Bool.{true}
-use mathlib.Core.Path.{_≡_, ap, sym, _∙_}
+use mathlib.Core.Path.{_≡_, refl, ap, sym, _∙_}
 use mathlib.Core.Option.{some, Option·some-injective, Option·none-ne-some}
 use mathlib.Core.List.{List}
+use native.Mathlib.Nat.{lt-trans, lt-of-le-of-lt}
 use native.Mathlib.Omega.{arith}
 use lib.ListN.{length}
+use lib.Dec.{eqb, leb}
+use borrow.Author.Tests.{eqb-true, eqb-false, leb-true, leb-false}
+use Rattle.words.specs.Laws.Tests.{by-test}
 use Rattle.words.specs.Laws.Options.{by-option}
 use Rattle.stacks.specs.System.{Rule}
 use Rattle.automata.specs.Automaton.{Automaton}
@@ -18,11 +22,11 @@ use Rattle.files.specs.Case.{caseRefusal, ownOf, rulesOf}
 use Rattle.services.specs.Memory.{lent}
 use Rattle.services.specs.Saturate.{Lent, saturated}
 use Rattle.guidance.specs.Run.{trace-short, run-first, run-trace, run-join, run-split, trace-take, cellsOfSteps, run-cells-used, walkAfter-to}
-use Rattle.guidance.specs.Prefix.{Reason, ArrivesAfter, FirstHalt, arrives-last}
+use Rattle.guidance.specs.Prefix.{Reason, arrival, trace-full, cells-short, ArrivesAfter, FirstHalt, arrives-last}
 use Rattle.guidance.specs.Prefix
 use Rattle.demands.specs.Size.{SaturatedTable}
 use Rattle.demands.specs.Size.Laws.{saturated-table}
-use Rattle.demands.specs.FullRun.{saturatedTable, walkFrom, fullWalk, fullTrace, fullNext, FullRun, used, HaltsAfter, has-arrived, is-full, is-short}
+use Rattle.demands.specs.FullRun.{saturatedTable, walkFrom, fullWalk, fullTrace, fullNext, FullRun, used, HaltsAfter, has-arrived, is-full, is-short, Stops}
 
 -- ---- the table
 
@@ -117,6 +121,25 @@ module _ {case start : List ℕ} {n : ℕ} where
       )
 
 -- ---- the halt
+
+-- with more cells and a longer trace a guide halts after no fewer steps
+pub stops-later : {rules : List Rule} {first : ℕ} {ns : List ℕ} {c c′ t t′ : ℕ} (s : Stops rules first ns c t) (q : Stops rules first ns c′ t′) → c ≤ c′ → t ≤ t′
+    → s .steps ≤ q .steps
+stops-later {rules} {first} {ns} {c} {c′} {t} {t′} s q h k =
+    by-test (leb (s .steps) (q .steps)) (λ z. leb-true _ _ z) (λ z. absurd (sooner (leb-false _ _ z) (q .halts)))
+  where
+    -- a trace that is full before that halts s there
+    full : t < q .steps → q .steps < s .steps → q .steps < length ns → ⊥
+    full l m n = s .least t trace-full (lt-trans l m) (is-full (lt-trans l n) refl)
+
+    sooner : q .steps < s .steps → {r : Reason} → HaltsAfter rules first ns c′ t′ (q .steps) r → ⊥
+    sooner l (has-arrived e) = s .least (q .steps) arrival l (has-arrived e)
+    sooner l (is-full m e) = by-test (eqb (q .steps) t)
+        (λ z. s .least (q .steps) trace-full l (is-full m (eqb-true _ _ z)))
+        (λ z. let d : q .steps ≡ t → ⊥ = eqb-false _ _ z in full (omega arith) l m)
+    sooner l (is-short m e g) = by-test (eqb (q .steps) t)
+        (λ z. s .least (q .steps) trace-full l (is-full m (eqb-true _ _ z)))
+        (λ z. s .least (q .steps) cells-short l (is-short m (eqb-false _ _ z) (lt-of-le-of-lt h g)))
 
 module _ (rules : List Rule) (T : Saturated) (M : ℕ) (w : Walk) {v : Walk} (a : ArrivesAfter rules T M w v) where
   pub length-trace : length (traceAfter rules T M w) ≡ M
