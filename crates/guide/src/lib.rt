@@ -57,8 +57,7 @@ fn guide_sound(
 }
 
 // Writes into the trace the rule numbers of a run from start `number` into the case's target, as many as the trace and the cells hold. Answers
-// how the walk halted, that there is no run, or the number of a refusal. Demands 1, 2 and 3 hold of what it answers and
-// leaves.
+// how the walk halted, that there is no run, or the number of a refusal. Demands 1, 2 and 3 hold of its answer.
 pub fn guide(
     case: &[u8],
     start: &[u8],

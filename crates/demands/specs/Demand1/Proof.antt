@@ -4,7 +4,7 @@ use Prim.Native.Nat.{ℕ, _≤_, _<_}
 use mathlib.Core.Path.{_≡_, refl, ap, sym, _∙_, subst}
 use mathlib.Core.Option.{none, some, Option·none-ne-some}
 use mathlib.Core.Bool.{true, false}
-use mathlib.Core.List.{List, [], _∷_, _++_, map}
+use mathlib.Core.List.{List, [], _∷_, map}
 use native.Mathlib.Nat.{le-trans, lt-irrefl, lt-of-lt-of-le}
 use native.Mathlib.Omega.{arith}
 use lib.ListN.{length, length-map}
@@ -15,7 +15,7 @@ use Rattle.rounds.specs.Limits.{KeepsLimits, saturate-some, within-keeps}
 use Rattle.replies.specs.Numbers.{countsOf}
 use Rattle.walks.specs.Guide.{Report, walkedBy, noRun}
 use Rattle.files.specs.Case.{caseRefusal, ownOf, rulesOf}
-use Rattle.files.specs.Start.{startRefusal, startsOf}
+use Rattle.files.specs.Start.{startsOf}
 use Rattle.services.specs.Memory.{padded, moveTable, entryTable, lent}
 use Rattle.services.specs.Memory.Laws.{padded-none, length-padded, length-moveTable, length-entryTable}
 use Rattle.services.specs.Saturate.{Lent, saturated, SaturateDone, saturateRefused, saturateFilled, saturateService}
@@ -26,8 +26,8 @@ use Rattle.services.specs.Guide.{GuideInput, GuideDone, guideFiles, guideLent, 
 use Rattle.services.specs.Guide.Laws.{GuideCase, Started, start-missing, no-run, cells-short, walked, guide-cases, walk-goes, walk-short}
 use Rattle.demands.specs.Size.{Exceeds}
 use Rattle.demands.specs.Size.Laws.{saturated-table, none-exceeds, exceeds-none}
-use Rattle.demands.specs.Refusals.{Refusal, refusal, Returned, AnswersShort, StartMissing, saturateRefusals, judgeRefusals, guideRefusals, startRefusals}
-use Rattle.demands.specs.Refusals.Laws.{case-returned, past-case, start-returned, past-start, applies-here, applies-not, none-applies}
+use Rattle.demands.specs.Refusals.{Refusal, refusal, Returned, AnswersShort, StartMissing, saturateRefusals, judgeRefusals, guideRefusals}
+use Rattle.demands.specs.Refusals.Laws.{case-returned, past-case, files-case, files-start, past-files, applies-here, applies-not, none-applies}
 use Rattle.demands.specs.FullRun.{fullTrace}
 use Rattle.demands.specs.FullRun.Laws.{full-short}
 use Rattle.demands.specs.Demand1.{SaturateStates, JudgeStates, Answered, GuideStates, Demand1}
@@ -106,10 +106,6 @@ module _ (x : JudgeInput) where
   abbrev answerLines : List (Refusal JudgeInput)
   answerLines = refusal 8 AnswersShort ∷ refusal 9 (λ y. Exceeds (judgeLent y)) ∷ []
 
-  past-judge : (n : ℕ) → caseRefusal (x .case) ≡ 0 → startRefusal (judgeFiles x) ≡ 0 → Returned answerLines x n → Returned judgeRefusals x n
-  past-judge n sound start r =
-      past-case x (λ y. y .case) (startRefusals judgeFiles ++ answerLines) n sound (past-start x judgeFiles answerLines n start r)
-
   enough-judge : (n : ℕ) → length (startsOf (x .start)) ≤ x .answers → Returned (refusal 9 (λ y. Exceeds (judgeLent y)) ∷ []) x n → Returned answerLines x n
   enough-judge n h r = applies-not (refusal 8 AnswersShort) _ x n (λ l. lt-irrefl _ (lt-of-lt-of-le l h)) r
 
@@ -130,16 +126,15 @@ module _ (x : JudgeInput) where
   demand1-judge = go (judgeService x) (judge-cases x)
     where
       go : (d : JudgeDone) → JudgeCase x d → JudgeStates x d
-      go d (JudgeCase.case-refused bad) = judge-refused _ bad (case-returned x (λ y. y .case) (startRefusals judgeFiles ++ answerLines) bad)
-      go d (start-refused s bad) =
-          judge-refused _ bad (past-case x (λ y. y .case) (startRefusals judgeFiles ++ answerLines) _ s (start-returned x judgeFiles answerLines bad))
-      go d (answers-short s f h) = judge-refused 8 (eqb-false 8 0 refl) (past-judge 8 s f (applies-here (refusal 8 AnswersShort) _ x h))
+      go d (JudgeCase.case-refused bad) = judge-refused _ bad (files-case x (λ y. y .case) judgeFiles answerLines bad)
+      go d (start-refused s bad) = judge-refused _ bad (files-start x (λ y. y .case) judgeFiles answerLines s bad)
+      go d (answers-short s f h) = judge-refused 8 (eqb-false 8 0 refl) (past-files x (λ y. y .case) judgeFiles answerLines 8 s f (applies-here (refusal 8 AnswersShort) _ x h))
       go d (JudgeCase.size-exceeded s f h o) =
-          judge-refused 9 (eqb-false 9 0 refl) (past-judge 9 s f (enough-judge 9 h (size-applies judgeLent x s o)))
+          judge-refused 9 (eqb-false 9 0 refl) (past-files x (λ y. y .case) judgeFiles answerLines 9 s f (enough-judge 9 h (size-applies judgeLent x s o)))
       go d (judged T s f h o) =
           let starts = length-map (startsOf (x .start)) (mark (T .table) (x .start)) in
           record {
-            number = past-judge 0 s f (enough-judge 0 h (size-passes judgeLent x s o));
+            number = past-files x (λ y. y .case) judgeFiles answerLines 0 s f (enough-judge 0 h (size-passes judgeLent x s o));
             moves-zero = refl;
             entries-zero = refl;
             answers-length = length-padded (x .answers) _ (rw starts h);
@@ -158,17 +153,13 @@ module _ (x : GuideInput) where
   abbrev numberLines : List (Refusal GuideInput)
   numberLines = refusal 7 StartMissing ∷ refusal 9 (λ y. Exceeds (guideLent y)) ∷ []
 
-  past-guide : (n : ℕ) → caseRefusal (x .case) ≡ 0 → startRefusal (guideFiles x) ≡ 0 → Returned numberLines x n → Returned guideRefusals x n
-  past-guide n sound start r =
-      past-case x (λ y. y .case) (startRefusals guideFiles ++ numberLines) n sound (past-start x guideFiles numberLines n start r)
-
   there-guide : (n : ℕ) → x .number < length (startsOf (x .start)) → Returned (refusal 9 (λ y. Exceeds (guideLent y)) ∷ []) x n → Returned numberLines x n
   there-guide n h r = applies-not (refusal 7 StartMissing) _ x n (λ l. lt-irrefl _ (lt-of-lt-of-le h l)) r
 
   -- where guide does not refuse
   started-returned : (T : Saturated) → Started x T → Returned guideRefusals x 0
   unfolding guideLent
-  started-returned T s = past-guide 0 (s .sound-case) (s .sound-start) (there-guide 0 (s .start-there) (size-passes guideLent x (s .sound-case) (s .table-is)))
+  started-returned T s = past-files x (λ y. y .case) guideFiles numberLines 0 (s .sound-case) (s .sound-start) (there-guide 0 (s .start-there) (size-passes guideLent x (s .sound-case) (s .table-is)))
 
   left-states : (o : Report) → Answered x (o .reply) (padded (x .trace) (o .trace)) → length (o .trace) ≤ x .trace → GuideStates x (guideLeft x o)
   unfolding guideLeft
@@ -198,12 +189,11 @@ module _ (x : GuideInput) where
   demand1-guide = go (guideService x) (guide-cases x)
     where
       go : (d : GuideDone) → GuideCase x d → GuideStates x d
-      go d (GuideCase.case-refused bad) = guide-refused _ bad (case-returned x (λ y. y .case) (startRefusals guideFiles ++ numberLines) bad)
-      go d (GuideCase.start-refused s bad) =
-          guide-refused _ bad (past-case x (λ y. y .case) (startRefusals guideFiles ++ numberLines) _ s (start-returned x guideFiles numberLines bad))
-      go d (start-missing s f h) = guide-refused 7 (eqb-false 7 0 refl) (past-guide 7 s f (applies-here (refusal 7 StartMissing) _ x h))
+      go d (GuideCase.case-refused bad) = guide-refused _ bad (files-case x (λ y. y .case) guideFiles numberLines bad)
+      go d (GuideCase.start-refused s bad) = guide-refused _ bad (files-start x (λ y. y .case) guideFiles numberLines s bad)
+      go d (start-missing s f h) = guide-refused 7 (eqb-false 7 0 refl) (past-files x (λ y. y .case) guideFiles numberLines 7 s f (applies-here (refusal 7 StartMissing) _ x h))
       go d (GuideCase.size-exceeded s f h o) =
-          guide-refused 9 (eqb-false 9 0 refl) (past-guide 9 s f (there-guide 9 h (size-applies guideLent x s o)))
+          guide-refused 9 (eqb-false 9 0 refl) (past-files x (λ y. y .case) guideFiles numberLines 9 s f (there-guide 9 h (size-applies guideLent x s o)))
       go d (no-run T s a) = guide-none T s a
       go d (cells-short T s a l) = guide-walks T s a (walk-short x T l)
       go d (walked T s a l) = guide-walks T s a (walk-goes x T l)

@@ -217,19 +217,33 @@ module _ {X : Type 0} (x : X) where
       returned-past (testsOn part caseTests) (caseRefusals part) more x n (case-agrees part) (numbered-testsOn part caseTests ∙ case-numbered)
       (firstHit-testsOn part caseTests x ∙ h)
 
-  pub start-returned : (part : X → Files) (more : List (Refusal X)) → (startRefusal (part x) ≡ 0 → ⊥)
+  start-returned : (part : X → Files) (more : List (Refusal X)) → (startRefusal (part x) ≡ 0 → ⊥)
       → Returned (startRefusals part ++ more) x (startRefusal (part x))
   unfolding startRefusal
   start-returned part more h =
       let e = firstHit-testsOn part startTests x in
       subst (Returned (startRefusals part ++ more) x) e (returned-stays (testsOn part startTests) (startRefusals part) more x (start-agrees part) (λ z. h (sym e ∙ z)))
 
-  pub past-start : (part : X → Files) (more : List (Refusal X)) (n : ℕ) → startRefusal (part x) ≡ 0 → Returned more x n
+  past-start : (part : X → Files) (more : List (Refusal X)) (n : ℕ) → startRefusal (part x) ≡ 0 → Returned more x n
       → Returned (startRefusals part ++ more) x n
   unfolding startRefusal
   past-start part more n h =
       returned-past (testsOn part startTests) (startRefusals part) more x n (start-agrees part) (numbered-testsOn part startTests ∙ start-numbered)
       (firstHit-testsOn part startTests x ∙ h)
+
+  -- ---- the lines of both files, and then more
+
+  pub files-case : (case : X → List ℕ) (files : X → Files) (more : List (Refusal X)) → (caseRefusal (case x) ≡ 0 → ⊥)
+      → Returned (caseRefusals case ++ (startRefusals files ++ more)) x (caseRefusal (case x))
+  files-case case files more bad = case-returned case (startRefusals files ++ more) bad
+
+  pub files-start : (case : X → List ℕ) (files : X → Files) (more : List (Refusal X)) → caseRefusal (case x) ≡ 0 → (startRefusal (files x) ≡ 0 → ⊥)
+      → Returned (caseRefusals case ++ (startRefusals files ++ more)) x (startRefusal (files x))
+  files-start case files more sound bad = past-case case (startRefusals files ++ more) _ sound (start-returned files more bad)
+
+  pub past-files : (case : X → List ℕ) (files : X → Files) (more : List (Refusal X)) (n : ℕ) → caseRefusal (case x) ≡ 0 → startRefusal (files x) ≡ 0
+      → Returned more x n → Returned (caseRefusals case ++ (startRefusals files ++ more)) x n
+  past-files case files more n sound start r = past-case case (startRefusals files ++ more) n sound (past-start files more n start r)
 
 -- ---- one line
 
