@@ -23,7 +23,7 @@ use Rattle.services.specs.Memory.{padded}
 use Rattle.words.specs.Lists.{zeros}
 use Rattle.services.specs.Judge.{JudgeInput, judgeService}
 use Rattle.services.specs.Guide.{GuideInput, GuideDone, cellsLent, guideService}
-use Rattle.guidance.specs.Prefix.{haltBy, isArrival}
+use Rattle.guidance.specs.Halt.{haltBy, isArrival}
 use Rattle.demands.specs.Reach.{configurationAt}
 use Rattle.demands.specs.FullRun.{FullRun, used, Stops}
 use Rattle.demands.specs.Demand2.{judgeFor}

@@ -19,7 +19,7 @@ use Rattle.services.specs.Memory.{padded, moveTable, entryTable}
 use Rattle.services.specs.Saturate.{Lent, SaturateDone, saturateService}
 use Rattle.services.specs.Judge.{JudgeInput, JudgeDone, judgeService}
 use Rattle.services.specs.Guide.{GuideInput, GuideDone, cellsLent, guideService}
-use Rattle.guidance.specs.Prefix.{Reason, haltBy}
+use Rattle.guidance.specs.Halt.{Reason, haltBy}
 use Rattle.demands.specs.Reach.{Runs, Marks}
 use Rattle.demands.specs.Size.Laws.{one-saturated}
 use Rattle.demands.specs.Refusals.{Returned, saturateRefusals, judgeRefusals, guideRefusals}

@@ -22,7 +22,7 @@ use Rattle.services.specs.Memory.{padded, moveTable}
 use Rattle.services.specs.Saturate.{Lent, SaturateDone}
 use Rattle.services.specs.Judge.{JudgeDone, mark}
 use Rattle.services.specs.Guide.{GuideInput, GuideDone}
-use Rattle.guidance.specs.Prefix.{isArrival}
+use Rattle.guidance.specs.Halt.{isArrival}
 use Rattle.models.specs.Computing.{computed}
 use Rattle.models.specs.Files.{caseA, startA, startC, caseCircle}
 use Rattle.demands.specs.Reach.{startAt, Runs}

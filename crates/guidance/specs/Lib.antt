@@ -1,3 +1,4 @@
+pub mod Halt
 pub mod Run
 pub mod Prefix
 pub mod Decoration

@@ -1,7 +1,7 @@
 -- What guide writes for c cells and t trace words is a prefix of the full run, and it arrives exactly if c and t suffice.
 -- Assumes nothing.
 use Prim.Native.Nat.{ℕ, zero, suc, _+_, _-_, _<_, _≤_}
-use mathlib.Core.Bool.{Bool, true, false, false≢true}
+use mathlib.Core.Bool.{true, false≢true}
 use mathlib.Core.Path.{_≡_, refl, ap, sym, _∙_, subst}
 use mathlib.Core.Option.{some, Option·some-injective, Option·none-ne-some}
 use mathlib.Core.List.{List, [], _∷_, _++_, append-nil, append-assoc}
@@ -15,29 +15,11 @@ use Rattle.words.specs.Laws.Tests.{by-test}
 use Rattle.stacks.specs.System.{Rule}
 use Rattle.automata.specs.Saturation.{Saturated}
 use Rattle.replies.specs.declared.Counts.{Counts}
-use Rattle.replies.specs.declared.Halt.{Halt}
-use Rattle.replies.specs.declared.Halt.the-variants.{Arrived, TraceFull, CellsShort}
-use Rattle.replies.specs.declared.Reply.{Reply}
-use Rattle.replies.specs.declared.Reply.the-variants.{Refused, NoRun, Walked}
+use Rattle.replies.specs.declared.Halt.the-variants.{Arrived}
+use Rattle.replies.specs.declared.Reply.the-variants.{Walked}
 use Rattle.walks.specs.Guide.{Walk, arrived, to, stuck, next, walkAfter, traceAfter, Report, counts, walkedBy, guided}
+use Rattle.guidance.specs.Halt.{Reason, arrival, trace-full, cells-short, haltBy, isArrival}
 use Rattle.guidance.specs.Run.{to-arrived, stuck-arrived, to-walk, by-next, walkAfter-to, traceAfter-to, run-first, run-cells, run-join, run-split, trace-take}
-
--- why a walk halts, in the order in which it is tested
-pub data Reason : Type 0 where
-  arrival trace-full cells-short : Reason
-
-unfoldable pub haltBy : Reason → Counts → Halt
-haltBy arrival z = Arrived z
-haltBy trace-full z = TraceFull z
-haltBy cells-short z = CellsShort z
-
--- the reply is an arrival
-unfoldable pub isArrival : Reply → Bool
-isArrival (Refused n) = false
-isArrival NoRun = false
-isArrival (Walked (Arrived z)) = true
-isArrival (Walked (TraceFull z)) = false
-isArrival (Walked (CellsShort z)) = false
 
 arrival-only : (r : Reason) (z : Counts) → isArrival (Walked (haltBy r z)) ≡ true → r ≡ arrival
 unfolding isArrival haltBy

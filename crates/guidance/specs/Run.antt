@@ -3,7 +3,7 @@
 use Prim.Native.Nat.{ℕ, zero, suc, _+_, _≤_}
 use mathlib.Core.Path.{_≡_, refl, ap, sym, _∙_}
 use mathlib.Core.Option.{Option, none, some, Option·some-injective, Option·none-ne-some}
-use mathlib.Core.List.{List, [], _∷_, _++_, zipWith}
+use mathlib.Core.List.{List, _∷_, _++_, zipWith}
 use native.Mathlib.Nat.{le-of-eq, zero-add, suc-add, not-suc-le-zero, le-of-suc-le-suc}
 use native.Mathlib.Omega.{arith}
 use lib.ListN.{length, getElem?, take, length-append}
@@ -17,6 +17,7 @@ use Rattle.automata.specs.Derivation.{Derivation, resultOf, firstDerivation}
 use Rattle.automata.specs.Saturation.{Saturated, before, ownMoves}
 use Rattle.walks.specs.Cell.{cellsAfter}
 use Rattle.walks.specs.Guide.{Guided, Walk, Top, guidedAt, topOf, choicesAfter, Next, arrived, to, stuck, moved, byDerivation, atTop, next, walkAfter, traceAfter}
+use Rattle.guidance.specs.Halt.{cellsOfSteps}
 
 -- ---- the three answers of a step differ
 
@@ -221,11 +222,6 @@ module _ (rules : List Rule) (T : Saturated) where
       (q .0, walkAfter-to w (r .2) k ∙ q .1, q .2)
 
 -- ---- the cells used
-
--- the new cells of the steps by these rules
-unfoldable pub cellsOfSteps : List Rule → List ℕ → ℕ
-cellsOfSteps rules [] = 0
-cellsOfSteps rules (n ∷ ns) = elim (getElem? rules n) [ none ↦ 0 | some ρ ↦ newCells (ρ .operation) ] + cellsOfSteps rules ns
 
 -- "After m steps the cells used are the start file's cells and the new cells of those steps."
 pub run-cells-used : (rules : List Rule) (T : Saturated) (m : ℕ) (w : Walk) {v : Walk} → walkAfter rules T m w ≡ some v

@@ -21,7 +21,8 @@ use Rattle.rounds.specs.Added.{newMove, added, added-out, add-extends, a
 use Rattle.rounds.specs.Rounds.{round-extends, round-holds}
 use Rattle.rounds.specs.Limits.{IsSaturated}
 use Rattle.rounds.specs.Kept.{after-facts}
-use Rattle.rounds.specs.Contains.{Same, SameMove, Contains, matched-map, same-kept, sameIn-kept, sameMove-kept, contains-kept, contains-self}
+use Rattle.rounds.specs.Contains.{Same, SameMove, Contains}
+use Rattle.rounds.specs.Contains.Laws.{matched-map, same-kept, sameIn-kept, sameMove-kept, contains-kept, contains-self}
 use Rattle.rounds.specs.Monotone.{SameResult, results-same}
 
 -- D holds the like of result x of A

@@ -14,7 +14,8 @@ use Rattle.automata.specs.Derivation.{Result, Derivation, derivations, Joins, j
 use Rattle.automata.specs.Derivation.Joining.{Fits}
 use Rattle.automata.specs.Derivation.Laws.{conclusion, Concludes, concludes, ByRewrite, ByPush, ByCopy, ByEntry, Says, derivations-out, derivations-in}
 use Rattle.automata.specs.Facts.{TableFacts, Once}
-use Rattle.rounds.specs.Contains.{Matched, Same, SameIn, SameMove, Contains, matched-empty, matched-single, matched-map, matched-equal, equal-matched}
+use Rattle.rounds.specs.Contains.{Matched, Same, SameIn, SameMove, Contains}
+use Rattle.rounds.specs.Contains.Laws.{matched-empty, matched-single, matched-map, matched-equal, equal-matched}
 use Rattle.rounds.specs.Joining.{SameJoins, joinsOf-same, joins-same, sameIn-fits}
 use Rattle.rounds.specs.Readings.{entry-same, entryMove-same, reading-same, edges-same}
 

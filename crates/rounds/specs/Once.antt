@@ -27,7 +27,8 @@ use Rattle.automata.specs.Facts.Laws.{moveAt-facts, moveAt-kept, entryIs-own}
 use Rattle.rounds.specs.Added.{added, added-out, add-length, add-stands, addAll-extends, addAll-length}
 use Rattle.rounds.specs.Kept.{after-facts}
 use Rattle.rounds.specs.Limits.{KeepsLimits, within-keeps, keeps-within}
-use Rattle.rounds.specs.Contains.{Matched, SameIn, SameMove, Contains, same-injective}
+use Rattle.rounds.specs.Contains.{Matched, SameIn, SameMove, Contains}
+use Rattle.rounds.specs.Contains.Laws.{same-injective}
 use Rattle.rounds.specs.SaturatedTable.{MovesOnce}
 
 -- ---- rounds

@@ -14,7 +14,8 @@ use Rattle.automata.specs.Automaton.Laws.{MoveOf, EdgeOf, EntryIs, EntryMove, m
 use Rattle.automata.specs.Derivation.{named, edgeSets}
 use Rattle.automata.specs.Derivation.Numbers.{Paired, empty, also, paired-map, paired-of, paired-state, paired-number, paired-once}
 use Rattle.automata.specs.Facts.{TableFacts, Once}
-use Rattle.rounds.specs.Contains.{Matched, Same, inner, entry, matched-empty, matched-single, matched-join, SameMove, Contains, same-function, same-injective}
+use Rattle.rounds.specs.Contains.{Matched, Same, inner, entry, SameMove, Contains}
+use Rattle.rounds.specs.Contains.Laws.{matched-empty, matched-single, matched-join, same-function, same-injective}
 use Rattle.rounds.specs.Joining.{SameMoves}
 
 -- ---- readings

@@ -32,8 +32,9 @@ use Rattle.services.specs.Judge.{accepted}
 use Rattle.services.specs.Guide.{GuideInput, GuideDone, guideFiles, guideLent, cellsLent, startNamed, guideWalk, guideLeft}
 use Rattle.services.specs.Guide.Laws.{Started, walk-goes, walk-short}
 use Rattle.guidance.specs.Run.{trace-take}
-use Rattle.guidance.specs.Prefix
-use Rattle.guidance.specs.Prefix.{Reason, trace-full, cells-short, haltBy, isArrival, FirstHalt, guided-prefix, guided-arrives, arrival-fits}
+use Rattle.guidance.specs.Halt
+use Rattle.guidance.specs.Halt.{Reason, trace-full, cells-short, haltBy, isArrival}
+use Rattle.guidance.specs.Prefix.{FirstHalt, guided-prefix, guided-arrives, arrival-fits}
 use Rattle.guidance.specs.Decoration.{start-bare}
 use Rattle.guidance.specs.Arrival.{GuidedArrival, start-arrival, start-configuration}
 use Rattle.demands.specs.Laws.FromBytes.{case-saturated}
@@ -44,7 +45,7 @@ use Rattle.demands.specs.Demand3.{Walks, TooShort, AnswersRun, RunArrive
 
 countsOf-haltBy : (r : Reason) (z : Counts) → countsOf (haltBy r z) ≡ z
 unfolding countsOf haltBy
-countsOf-haltBy Prefix.arrival z = refl
+countsOf-haltBy Halt.arrival z = refl
 countsOf-haltBy trace-full z = refl
 countsOf-haltBy cells-short z = refl
 

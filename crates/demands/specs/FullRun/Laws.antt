@@ -21,8 +21,9 @@ use Rattle.walks.specs.Guide.{Walk, arrived, to, next, walkAfter, traceAfter}
 use Rattle.files.specs.Case.{caseRefusal, ownOf, rulesOf}
 use Rattle.services.specs.Memory.{lent}
 use Rattle.services.specs.Saturate.{Lent, saturated}
-use Rattle.guidance.specs.Run.{trace-short, run-first, run-trace, run-join, run-split, trace-take, cellsOfSteps, run-cells-used, walkAfter-to}
-use Rattle.guidance.specs.Prefix.{Reason, arrival, trace-full, cells-short, ArrivesAfter, FirstHalt, arrives-last}
+use Rattle.guidance.specs.Halt.{Reason, arrival, trace-full, cells-short, cellsOfSteps}
+use Rattle.guidance.specs.Run.{trace-short, run-first, run-trace, run-join, run-split, trace-take, run-cells-used, walkAfter-to}
+use Rattle.guidance.specs.Prefix.{ArrivesAfter, FirstHalt, arrives-last}
 use Rattle.guidance.specs.Prefix
 use Rattle.demands.specs.Size.{SaturatedTable}
 use Rattle.demands.specs.Size.Laws.{saturated-table}

@@ -17,7 +17,8 @@ use Rattle.automata.specs.Facts.{RuleFacts, TableFacts, OwnFacts, Closed}
 use Rattle.rounds.specs.Rounds.{own-extends, after-extends, after-closed}
 use Rattle.rounds.specs.Kept.{after-facts}
 use Rattle.rounds.specs.Limits.{IsSaturated, within-part, saturate-none}
-use Rattle.rounds.specs.Contains.{Contains, contains-kept, contains-self}
+use Rattle.rounds.specs.Contains.{Contains}
+use Rattle.rounds.specs.Contains.Laws.{contains-kept, contains-self}
 use Rattle.rounds.specs.Least.{closed-contains}
 use Rattle.rounds.specs.Once.{after-moves-once, within-contained}
 use Rattle.rounds.specs.SaturatedTable.{MovesOnce, LeastClosed}
