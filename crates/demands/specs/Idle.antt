@@ -96,6 +96,14 @@ pub untouched-answers : (d : JudgeDone) → (d .answers ≡ 1 ∷ 1 ∷ 0 ∷ 0 
 unfolding computed inputA
 untouched-answers d h s = h (ap (λ (e : JudgeDone). e .answers) (judge-only inputA d s))
 
+pub untouched-tables : (d : JudgeDone) → (d .moves ≡ zeros 17 → ⊥) → JudgeStates inputA d → ⊥
+unfolding inputA
+untouched-tables d h s = h (s .moves-zero)
+
+pub untouched-cells : (d : GuideDone) → (d .cells ≡ zeros (10 * 68) → ⊥) → GuideStates (guideA 0) d → ⊥
+unfolding guideA
+untouched-cells d h s = h (s .cells-zero)
+
 -- ---- "Saturating one round only"
 
 pub one-round-saturate : (d : SaturateDone) → d .moves ≡ padded 17 (moveTable (tableAfter (rulesOf caseA) (ownOf caseA) 1)) → SaturateStates lentA d → ⊥
