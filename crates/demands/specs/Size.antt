@@ -7,7 +7,7 @@ use mathlib.Core.Path.{_≡_}
 use mathlib.Core.List.{List}
 use Rattle.automata.specs.Automaton.{Automaton}
 use Rattle.automata.specs.Saturation.{tableAfter, within}
-use Rattle.rounds.specs.SaturatedTable.{LeastClosed}
+use Rattle.rounds.specs.LeastClosed.{LeastClosed}
 use Rattle.files.specs.Case.{ownOf, rulesOf}
 use Rattle.services.specs.Memory.{lent}
 use Rattle.services.specs.Saturate.{Lent}

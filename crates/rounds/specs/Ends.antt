@@ -19,7 +19,7 @@ use Rattle.rounds.specs.Bounded.{after-bounded}
 use Rattle.rounds.specs.Kept.{after-facts}
 use Rattle.rounds.specs.Once.{after-moves-once}
 use Rattle.rounds.specs.Rounds.{after-suc, after-next, own-extends, still-closed}
-use Rattle.rounds.specs.SaturatedTable.{MovesOnce}
+use Rattle.rounds.specs.LeastClosed.{MovesOnce}
 
 -- ---- entries
 

@@ -11,7 +11,7 @@ pub mod Contains
 pub mod Joining
 pub mod Readings
 pub mod Monotone
-pub mod SaturatedTable
+pub mod LeastClosed
 pub mod Once
 pub mod Ends
 pub mod Least

@@ -29,7 +29,7 @@ use Rattle.rounds.specs.Kept.{after-facts}
 use Rattle.rounds.specs.Limits.{KeepsLimits, within-keeps, keeps-within}
 use Rattle.rounds.specs.Contains.{Matched, SameIn, SameMove, Contains}
 use Rattle.rounds.specs.Contains.Laws.{same-injective}
-use Rattle.rounds.specs.SaturatedTable.{MovesOnce}
+use Rattle.rounds.specs.LeastClosed.{MovesOnce}
 
 -- ---- rounds
 

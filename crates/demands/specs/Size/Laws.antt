@@ -16,7 +16,7 @@ use Rattle.automata.specs.Saturation.{Saturated, tableAfter, within}
 use Rattle.rounds.specs.Rounds.{after-closed}
 use Rattle.rounds.specs.Limits.{saturate-some}
 use Rattle.rounds.specs.Ends.{work-ends}
-use Rattle.rounds.specs.SaturatedTable.Laws.{closed-least, closed-exceeds, saturated-least, least-within}
+use Rattle.rounds.specs.LeastClosed.Laws.{closed-least, closed-exceeds, saturated-least, least-within}
 use Rattle.files.specs.Case.{caseRefusal, ownOf, rulesOf}
 use Rattle.files.specs.Case.Laws.{case-rules, case-table, case-own, case-moves-once, case-rules-bounded, case-bounded}
 use Rattle.services.specs.Memory.{lent}

@@ -21,7 +21,7 @@ use Rattle.rounds.specs.Contains.{Contains}
 use Rattle.rounds.specs.Contains.Laws.{contains-kept, contains-self}
 use Rattle.rounds.specs.Least.{closed-contains}
 use Rattle.rounds.specs.Once.{after-moves-once, within-contained}
-use Rattle.rounds.specs.SaturatedTable.{MovesOnce, LeastClosed}
+use Rattle.rounds.specs.LeastClosed.{MovesOnce, LeastClosed}
 
 -- ---- two least closed sets
 
