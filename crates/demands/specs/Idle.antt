@@ -119,7 +119,7 @@ one-round-judge d e m = marks-no d (ap (λ (l : List ℕ). getD l 0 0) e) m
 
 -- ---- "Invented steps or cells"
 
-pub marked-A0 : MarkedYes (judgeFor (guideA 0) 3) 0
+marked-A0 : MarkedYes (judgeFor (guideA 0) 3) 0
 unfolding computed guideA judgeFor
 marked-A0 = record { judged = refl; start-there = lit< tt; yes = refl }
 
@@ -139,7 +139,7 @@ short-before d e g = false≢true (ap isArrival (sym e ∙ run-only (guideA 0) d
 
 -- ---- "Circling until cells run out"
 
-pub marked-circle : MarkedYes (judgeFor guideCircle 1) 0
+marked-circle : MarkedYes (judgeFor guideCircle 1) 0
 unfolding computed guideCircle judgeFor
 marked-circle = record { judged = refl; start-there = lit< tt; yes = refl }
 

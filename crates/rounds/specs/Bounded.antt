@@ -48,7 +48,7 @@ ofOrder-more Q zero h = omega arith
 ofOrder-more Q (suc zero) h = h
 ofOrder-more Q (suc (suc k)) h = omega arith
 
-pub moveBounded-more : {Q K n k : ℕ} {m : Move} → n ≤ k → MoveBounded Q K n m → MoveBounded Q K k m
+moveBounded-more : {Q K n k : ℕ} {m : Move} → n ≤ k → MoveBounded Q K n m → MoveBounded Q K k m
 moveBounded-more {Q} {m = m} h f =
     record {
       symbol-below = f .symbol-below;
@@ -76,7 +76,7 @@ module _ {Q K : ℕ} {A : Automaton} (F : Bounded Q K A) where
   -- ---- moves, entries and edges by number
 
   -- also of the move past the last
-  pub moveAt-bounded : (i : ℕ) → JoinsBounded Q (states A) (joinsOf (moveAt A i))
+  moveAt-bounded : (i : ℕ) → JoinsBounded Q (states A) (joinsOf (moveAt A i))
   unfolding moveAt
   moveAt-bounded i = by-test (ltb i (length (A .moves)))
       (λ t.
@@ -115,7 +115,7 @@ module _ {Q K : ℕ} {A : Automaton} (F : Bounded Q K A) where
   state-below : {p S e : ℕ} → EntryIs A p S e → A .J + e < states A
   state-below {e = e} h = let l : e < length (A .entries) = h .below in omega arith
 
-  pub says-bounded : (ρ : Rule) (op : Operation) (d : Derivation) → RuleBounded Q K ρ → Says A ρ op d → ResultBounded Q K (states A) (d .result)
+  says-bounded : (ρ : Rule) (op : Operation) (d : Derivation) → RuleBounded Q K ρ → Says A ρ op d → ResultBounded Q K (states A) (d .result)
   says-bounded ρ (rewrite b) d r h = concluded-bounded r (h .concluded) (entry-bounded (h .premise .entry-is)) (moveAt-bounded (h .move))
   says-bounded ρ (push1 b) d r h =
       let f = moveAt-bounded (h .move) in
@@ -139,7 +139,7 @@ module _ {Q K : ℕ} {A : Automaton} (F : Bounded Q K A) where
   says-bounded ρ collapse2 d r h =
       concluded-bounded r h (all-empty _) (record { annotation-below = all-single (λ q. q < Q) _ (r .next-below); rest-below = all-empty _ })
 
-  pub derivation-bounded : (rules : List Rule) → ((ρ : Rule) → List·Memᴰ ρ rules → RuleBounded Q K ρ) → {d : Derivation} → List·Memᴰ d (derivations A rules)
+  derivation-bounded : (rules : List Rule) → ((ρ : Rule) → List·Memᴰ ρ rules → RuleBounded Q K ρ) → {d : Derivation} → List·Memᴰ d (derivations A rules)
       → ResultBounded Q K (states A) (d .result)
   derivation-bounded rules f {d} j =
       let h : Derives A rules d = derivations-out A rules j in
@@ -148,7 +148,7 @@ module _ {Q K : ℕ} {A : Automaton} (F : Bounded Q K A) where
   -- ---- the table
 
   -- a result whose order-1 states were there before
-  pub add-bounded : {n : ℕ} (x : Result) → n ≤ states A → ResultBounded Q K n x → Bounded Q K (add A x)
+  add-bounded : {n : ℕ} (x : Result) → n ≤ states A → ResultBounded Q K n x → Bounded Q K (add A x)
   unfolding add newMove
   add-bounded {n} x l f =
       let g : states A ≤ states (add A x) = states-grow (add-extends A x) in
@@ -163,7 +163,7 @@ module _ {Q K : ℕ} {A : Automaton} (F : Bounded Q K A) where
             (List·Memᴰ·append-cases (A .moves) j);
       }
 
-pub addAll-bounded : {Q K n : ℕ} {A : Automaton} → Bounded Q K A → n ≤ states A → (xs : List Result) → ((x : Result) → List·Memᴰ x xs → ResultBounded Q K n x)
+addAll-bounded : {Q K n : ℕ} {A : Automaton} → Bounded Q K A → n ≤ states A → (xs : List Result) → ((x : Result) → List·Memᴰ x xs → ResultBounded Q K n x)
     → Bounded Q K (addAll A xs)
 unfolding addAll
 addAll-bounded F l [] f = F
@@ -171,7 +171,7 @@ addAll-bounded {A = A} F l (x ∷ xs) f =
     addAll-bounded (add-bounded F x l (f x (List·Memᴰ·head refl))) (le-trans l (states-grow (add-extends A x))) xs (λ y j. f y (List·Memᴰ·tail j))
 
 module _ {Q K : ℕ} (rules : List Rule) (rule-bounded : (ρ : Rule) → List·Memᴰ ρ rules → RuleBounded Q K ρ) where
-  pub round-bounded : {A : Automaton} → Bounded Q K A → Bounded Q K (round rules A)
+  round-bounded : {A : Automaton} → Bounded Q K A → Bounded Q K (round rules A)
   unfolding round extend
   round-bounded {A} F = addAll-bounded F (le-refl (states A)) (added A (results rules A)) (λ x j.
       let (d, i, e) = results-out rules A (added-out A (results rules A) j .0) in

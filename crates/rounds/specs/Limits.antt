@@ -165,7 +165,7 @@ module _ (rules : List Rule) (lent : Size) where
 
 module _ (rules : List Rule) (own : Automaton) where
   -- the rounds of a saturated table are no more than those after which the table is closed
-  pub rounds-least : {lent : Size} {T : Saturated} (s : IsSaturated rules lent own T) (n : ℕ) → Closed rules (tableAfter rules own n) → s .after .rounds ≤ n
+  rounds-least : {lent : Size} {T : Saturated} (s : IsSaturated rules lent own T) (n : ℕ) → Closed rules (tableAfter rules own n) → s .after .rounds ≤ n
   rounds-least s n c =
       let m : ℕ = s .after .rounds in
       by-test (leb m n)
@@ -177,7 +177,7 @@ module _ (rules : List Rule) (own : Automaton) where
       absurd (omega arith))
 
   -- there is one saturated table, whatever the lent sizes
-  pub saturated-same : {lent lent′ : Size} {T U : Saturated} → IsSaturated rules lent own T → IsSaturated rules lent′ own U → T ≡ U
+  saturated-same : {lent lent′ : Size} {T U : Saturated} → IsSaturated rules lent own T → IsSaturated rules lent′ own U → T ≡ U
   saturated-same {T = T} {U = U} s t =
       let n : ℕ = s .after .rounds in
       let m : ℕ = t .after .rounds in

@@ -34,7 +34,7 @@ use Rattle.rounds.specs.LeastClosed.{MovesOnce}
 -- ---- rounds
 
 -- the moves that are appended stand for the results in their order
-pub addAll-at : (A : Automaton) (xs : List Result) (d : Result) (k : ℕ) → k < length xs → StandsFor (addAll A xs) (length (A .moves) + k) (getD xs k d)
+addAll-at : (A : Automaton) (xs : List Result) (d : Result) (k : ℕ) → k < length xs → StandsFor (addAll A xs) (length (A .moves) + k) (getD xs k d)
 unfolding addAll
 addAll-at A [] d k h = absurd (omega arith)
 addAll-at A (x ∷ xs) d zero h =
@@ -45,7 +45,7 @@ addAll-at A (x ∷ xs) d (suc k) h =
     subst (λ (i : ℕ). StandsFor (addAll (add A x) xs) i (getD xs k d)) e (addAll-at (add A x) xs d k (le-of-suc-le-suc h))
 
 -- a move that stands for a result which was not held is none of the moves that were there
-pub new-apart : {P : ℕ} {A C : Automaton} → TableFacts P A → Extends A C → {x : Result} → held A x ≡ false → {i : ℕ} → StandsFor C i x
+new-apart : {P : ℕ} {A C : Automaton} → TableFacts P A → Extends A C → {x : Result} → held A x ≡ false → {i : ℕ} → StandsFor C i x
     → (j : ℕ) → j < length (A .moves) → moveAt C i ≡ moveAt C j → ⊥
 new-apart {A = A} {C = C} F y {x} n {i} s j l e =
     let k : moveAt C i ≡ moveAt A j = e ∙ moveAt-kept y j l in
@@ -68,7 +68,7 @@ new-apart {A = A} {C = C} F y {x} n {i} s j l e =
     false≢true (sym n ∙ stands-held A h)
 
 -- adding results that are not held, each once, keeps each move once
-pub addAll-moves-once : {P : ℕ} {A : Automaton} → TableFacts P A → MovesOnce A → (xs : List Result) → rising resultKey xs ≡ true
+addAll-moves-once : {P : ℕ} {A : Automaton} → TableFacts P A → MovesOnce A → (xs : List Result) → rising resultKey xs ≡ true
     → ((x : Result) → List·Memᴰ x xs → held A x ≡ false) → MovesOnce (addAll A xs)
 addAll-moves-once {P} {A} F once xs r new i j hi hj e =
     by-test (ltb i n)
@@ -110,7 +110,7 @@ addAll-moves-once {P} {A} F once xs r new i j hi hj e =
         omega arith
 
 -- a round adds only results that are not yet held, each once
-pub round-moves-once : (rules : List Rule) {P : ℕ} {A : Automaton} → TableFacts P A → MovesOnce A → MovesOnce (round rules A)
+round-moves-once : (rules : List Rule) {P : ℕ} {A : Automaton} → TableFacts P A → MovesOnce A → MovesOnce (round rules A)
 unfolding round extend
 round-moves-once rules {A = A} F once =
     addAll-moves-once F once (added A (results rules A)) (sorted-rising resultKey (only _ (results rules A))) (λ x j. added-out A (results rules A) j .1)
@@ -125,7 +125,7 @@ after-moves-once rules f F once (suc n) = round-moves-once rules (after-facts ru
 -- ---- no more moves and entries than what contains them
 
 -- sets whose members are matched with those of one set, by a relation that gives no member to two, are equal
-pub matched-injective : {X : ℕ → ℕ → Type 0} → ((n m k : ℕ) → X n k → X m k → n ≡ m) → {a b c : ℕ} → Matched X a c → Matched X b c → a ≡ b
+matched-injective : {X : ℕ → ℕ → Type 0} → ((n m k : ℕ) → X n k → X m k → n ≡ m) → {a b c : ℕ} → Matched X a c → Matched X b c → a ≡ b
 matched-injective {X} alone {a} {b} {c} x y =
     part-antisym a b
     (has-part (λ n h. let (k, i, z) = x .forth n h in let (m, j, w) = y .back k i in subst (Has b) (alone m n k w z) j))
@@ -133,13 +133,13 @@ matched-injective {X} alone {a} {b} {c} x y =
 
 module _ (A C : Automaton) (j : C .J ≡ A .J) (once : Once (A .entries)) where
   -- no member of an annotation set is the same as two
-  pub sameIn-injective : (o n m k : ℕ) → SameIn A C o n k → SameIn A C o m k → n ≡ m
+  sameIn-injective : (o n m k : ℕ) → SameIn A C o n k → SameIn A C o m k → n ≡ m
   sameIn-injective zero n m k x y = absurd x
   sameIn-injective (suc zero) n m k x y = same-injective j once x y
   sameIn-injective (suc (suc o)) n m k x y = x ∙ sym y
 
   -- no move is the same as two
-  pub sameMove-injective : (m n k : Move) → SameMove A C m k → SameMove A C n k → m ≡ n
+  sameMove-injective : (m n k : Move) → SameMove A C m k → SameMove A C n k → m ≡ n
   sameMove-injective m n k x y =
       let o : n .order ≡ m .order = sym (y .order-same) ∙ x .order-same in
       let e : m .state ≡ n .state = same-injective j once (x .state-same) (y .state-same) in

@@ -92,7 +92,7 @@ full-short case start n m =
     (λ T o. rw (full-trace case o start n m) (trace-short (rulesOf case) T m (walkFrom start n (T .table))))
 
 -- the table on which a full run goes
-pub full-table : {case start : List ℕ} {n : ℕ} {ns : List ℕ} {w : Walk} → FullRun case start n ns w → (T : Saturated) × (saturatedTable case ≡ some T)
+full-table : {case start : List ℕ} {n : ℕ} {ns : List ℕ} {w : Walk} → FullRun case start n ns w → (T : Saturated) × (saturatedTable case ≡ some T)
 unfolding fullWalk
 full-table {case} {start} {n} {ns} {w} r =
     let e : fullWalk case start n (length ns) ≡ some w = r .walk-is in
@@ -100,7 +100,7 @@ full-table {case} {start} {n} {ns} {w} r =
 
 module _ {case start : List ℕ} {n : ℕ} where
   -- it arrives after as many steps as it has rule numbers
-  pub full-arrives : {ns : List ℕ} {w : Walk} {T : Saturated} → saturatedTable case ≡ some T → FullRun case start n ns w
+  full-arrives : {ns : List ℕ} {w : Walk} {T : Saturated} → saturatedTable case ≡ some T → FullRun case start n ns w
       → ArrivesAfter (rulesOf case) T (length ns) (walkFrom start n (T .table)) w
   full-arrives {ns} {w} e r =
       record {

@@ -25,7 +25,7 @@ use Rattle.demands.specs.Reach.{startAt, configurationAt, Runs, Marks}
 use Rattle.demands.specs.Reach.Laws.{reaches-published, accepted-reaches, reaches-accepted}
 
 -- a saturated table of a sound case accepts a start exactly if there is a run from it
-pub accepted-runs : (x : Lent) (start : List ℕ) {T : Saturated} → caseRefusal (x .case) ≡ 0 → saturated x ≡ some T → (n : ℕ)
+accepted-runs : (x : Lent) (start : List ℕ) {T : Saturated} → caseRefusal (x .case) ≡ 0 → saturated x ≡ some T → (n : ℕ)
     → (accepted (T .table) start (startAt start n) ≡ true) ↔ Runs (x .case) start n
 unfolding accepted saturated configurationAt configurationOf
 accepted-runs x start {T} sound e n =

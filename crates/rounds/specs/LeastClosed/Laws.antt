@@ -26,7 +26,7 @@ use Rattle.rounds.specs.LeastClosed.{MovesOnce, LeastClosed}
 -- ---- two least closed sets
 
 -- each contains the other
-pub least-contains : {rules : List Rule} {own A C : Automaton} → LeastClosed rules own A → LeastClosed rules own C → Contains A C
+least-contains : {rules : List Rule} {own A C : Automaton} → LeastClosed rules own A → LeastClosed rules own C → Contains A C
 least-contains {C = C} a c = a .least C (c .contains-own) (c .entries-once) (c .closed)
 
 -- so they keep the same limits

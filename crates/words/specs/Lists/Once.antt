@@ -11,7 +11,7 @@ use Rattle.words.specs.Laws.Numbers.{below-suc}
 use Rattle.words.specs.Lists.Laws.{in-getD}
 
 -- a list without one of its elements has one element fewer and all others
-pub taken-out : {A : Type 0} {l : List A} {x : A} → List·Memᴰ x l
+taken-out : {A : Type 0} {l : List A} {x : A} → List·Memᴰ x l
     → (r : List A) × (length l ≡ suc (length r)) × ((y : A) → List·Memᴰ y l → (y ≡ x) ⊎ List·Memᴰ y r)
 taken-out (List·Memᴰ·head {xs = xs} e) = (xs, refl, λ y j. ⊎-elim (λ z. inl (z ∙ sym e)) (λ i. inr i) (List·Memᴰ·cases-cons j))
 taken-out (List·Memᴰ·tail {x = z} i) =
