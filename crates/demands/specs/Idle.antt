@@ -25,7 +25,7 @@ use Rattle.services.specs.Guide.{GuideInput, GuideDone}
 use Rattle.guidance.specs.Halt.{isArrival}
 use Rattle.models.specs.Computing.{computed}
 use Rattle.models.specs.Files.{caseA, startA, startC, caseCircle}
-use Rattle.demands.specs.Reach.{startAt, Runs}
+use Rattle.demands.specs.Reach.{startAt}
 use Rattle.demands.specs.Refusals.{guideRefusals}
 use Rattle.demands.specs.Refusals.Laws.{returned-one}
 use Rattle.demands.specs.FullRun.{saturatedTable, walkFrom, fullWalk, fullTrace, fullNext, FullRun}
@@ -33,10 +33,9 @@ use Rattle.demands.specs.FullRun.Laws.{one-full-run}
 use Rattle.demands.specs.Demand1.{SaturateStates, JudgeStates, Answered, GuideStates}
 use Rattle.demands.specs.Demand1.Proof.{demand1-guide}
 use Rattle.demands.specs.Demand2.{judgeFor, JudgeMarks}
-use Rattle.demands.specs.Demand2.Proof.{judge-marks}
 use Rattle.demands.specs.Demand3.{MarkedYes, Guides}
 use Rattle.demands.specs.Determined.{saturate-only, judge-only, run-only}
-use Rattle.demands.specs.Instances.{inputA, unrefused-A}
+use Rattle.demands.specs.Instances.{inputA, unrefused-A, run-A}
 
 -- ---- the inputs: model A with tables of 17 and 7 words, 10 cells and three trace words
 
@@ -71,11 +70,6 @@ refuses-guide d n e s =
     bad (returned-one guideRefusals (guideA 0) a b)
 
 -- ---- "or marking every start no"
-
--- start 0 of model A has a run
-run-A : Runs caseA startA 0
-unfolding computed inputA
-run-A = judge-marks inputA unrefused-A .each-mark 0 (lit< tt) .yes .0 refl
 
 pub marks-no : (d : JudgeDone) → getD (d .answers) 0 0 ≡ 0 → JudgeMarks inputA d → ⊥
 unfolding computed inputA

@@ -33,6 +33,11 @@ pub unrefused-A : Returned judgeRefusals inputA 0
 unfolding computed inputA
 unrefused-A = demand1-judge inputA .number
 
+-- start 0 is marked yes, so there is a run of the published system
+pub run-A : Runs caseA startA 0
+unfolding computed inputA
+run-A = judge-marks inputA unrefused-A .each-mark 0 (lit< tt) .yes .0 refl
+
 -- start 2 of model A is marked no, so there is no run
 pub no-run-A : Runs caseA startA 2 → ⊥
 unfolding computed inputA
