@@ -1,5 +1,8 @@
-// Reads a case file and a start file, and writes their listing, or the run from one start, to standard output.
+// Reads a case file and a start file into the text of their listing, or of the run from one start; and ends a program's output.
 ghost use Rattle.io.specs.Counts.{Counts};
+ghost use Rattle.services.specs.Listing.{listingText};
+ghost use Rattle.services.specs.Run.{runText};
+ghost use Rattle.printing.specs.Texts.{TextRead};
 use libc::STDOUT_FILENO;
 use limits::Limits;
 
@@ -16,27 +19,38 @@ fn read_file(path: &[u8], buffer: &mut [u8]) -> usize
     n
 }
 
-// Prints the listing of the files with these names, and answers whether all of it was written. Each buffer holds a byte more than the longest
+// Reads the files with these names and writes their listing into the text. Answers its length. Each buffer holds a byte more than the longest
 // sound file, so a longer file is refused for its length.
-pub fn print_listing(case_path: &[u8], start_path: &[u8]) -> bool {
+pub fn read_listing(
+    case_path: &[u8],
+    start_path: &[u8],
+    text: &mut [u8; Limits::LISTING_TEXT],
+) -> usize
+    ensures { λ r. ⌜ TextRead listingText r (now (text .exit)) ⌝ }
+    ensures counts { λ r. ⌜ Counts r (now (text .exit)) ⌝ }
+{
     let mut case = [0u8; Limits::CASE_FILE + 1];
     let mut start = [0u8; Limits::START_FILE + 1];
-    let mut text = [0u8; Limits::LISTING_TEXT];
     let c = read_file(case_path, &mut case);
     let s = read_file(start_path, &mut start);
-    let n = listing_text::listing(&case[..c], &start[..s], &mut text);
-    io::write_all(STDOUT_FILENO, &text[..n])
+    listing_text::listing(&case[..c], &start[..s], text)
 }
 
-// Prints the run from the start of this number, for the files with these names, and answers whether all of it was written.
-pub fn print_run(case_path: &[u8], start_path: &[u8], number: usize) -> bool {
+// Reads the files with these names and writes the run from the start of this number into the text. Answers its length.
+pub fn read_run(
+    case_path: &[u8],
+    start_path: &[u8],
+    number: usize,
+    text: &mut [u8; Limits::RUN_TEXT],
+) -> usize
+    ensures { λ r. ⌜ TextRead (λ f. runText f number) r (now (text .exit)) ⌝ }
+    ensures counts { λ r. ⌜ Counts r (now (text .exit)) ⌝ }
+{
     let mut case = [0u8; Limits::CASE_FILE + 1];
     let mut start = [0u8; Limits::START_FILE + 1];
-    let mut text = [0u8; Limits::RUN_TEXT];
     let c = read_file(case_path, &mut case);
     let s = read_file(start_path, &mut start);
-    let length = run_text::run_text(&case[..c], &start[..s], number, &mut text);
-    io::write_all(STDOUT_FILENO, &text[..length])
+    run_text::run_text(&case[..c], &start[..s], number, text)
 }
 
 // Ends standard output, and makes the file `written` in the working directory exactly if all was written and closing did not fail. A program

@@ -1,9 +1,10 @@
--- `printing::print_run` is safe and ends.
+-- `printing::read_run` meets its contract.
 -- Assumes nothing.
+use Rattle.services.specs.Run.{runText}
+use Rattle.printing.specs.Texts.Laws.{text-read}
 use borrow.Author.Needs.{needs}
-use Rattle.text.specs.Laws.Printed.{printed-counts}
-use Rattle.printing.proofs.print_run.Statement.{statement}
-use Rattle.printing.proofs.print_run.Tie as tie
+use Rattle.printing.proofs.read_run.Statement.{statement}
+use Rattle.printing.proofs.read_run.Tie as tie
 
 slice-aggregate-read-file : tie.Need-slice-aggregate-read-file
 slice-aggregate-read-file c = search needs
@@ -32,20 +33,11 @@ slice-aggregate-run-text-2 c = search needs
 run-text-requires : tie.Need-run-text-requires
 run-text-requires c κs = search needs
 
-array-share-prefix-text : tie.Need-array-share-prefix-text
-array-share-prefix-text c = let w = c .run-text .ensures in printed-counts _ _ (w .0) (w .1 .0) .0
-
-slice-aggregate-write-all : tie.Need-slice-aggregate-write-all
-slice-aggregate-write-all c = let w = c .before .run-text .ensures in printed-counts _ _ (w .0) (w .1 .0) .1
-
-write-all-requires : tie.Need-write-all-requires
-write-all-requires c κs = search needs
-
 returns : tie.Need-returns
-returns c = search needs
+returns c = let w = c .run-text .ensures in text-read (λ f. runText f _) _ _ (w .0) (w .1 .0) (w .1 .1)
 
-pub print-run-spec : {M : Type 1} → statement M
-print-run-spec =
+pub read-run-spec : {M : Type 1} → statement M
+read-run-spec =
     tie.close
     (tie.spec
     slice-aggregate-read-file
@@ -57,7 +49,4 @@ print-run-spec =
     array-share-prefix-start
     slice-aggregate-run-text-2
     run-text-requires
-    array-share-prefix-text
-    slice-aggregate-write-all
-    write-all-requires
     returns)

@@ -1,9 +1,10 @@
--- `printing::print_listing` is safe and ends.
+-- `printing::read_listing` meets its contract.
 -- Assumes nothing.
+use Rattle.services.specs.Listing.{listingText}
+use Rattle.printing.specs.Texts.Laws.{text-read}
 use borrow.Author.Needs.{needs}
-use Rattle.text.specs.Laws.Printed.{printed-counts}
-use Rattle.printing.proofs.print_listing.Statement.{statement}
-use Rattle.printing.proofs.print_listing.Tie as tie
+use Rattle.printing.proofs.read_listing.Statement.{statement}
+use Rattle.printing.proofs.read_listing.Tie as tie
 
 slice-aggregate-read-file : tie.Need-slice-aggregate-read-file
 slice-aggregate-read-file c = search needs
@@ -32,20 +33,11 @@ slice-aggregate-listing-2 c = search needs
 listing-requires : tie.Need-listing-requires
 listing-requires c κs = search needs
 
-array-share-prefix-text : tie.Need-array-share-prefix-text
-array-share-prefix-text c = let w = c .listing .ensures in printed-counts _ _ (w .0) (w .1 .0) .0
-
-slice-aggregate-write-all : tie.Need-slice-aggregate-write-all
-slice-aggregate-write-all c = let w = c .before .listing .ensures in printed-counts _ _ (w .0) (w .1 .0) .1
-
-write-all-requires : tie.Need-write-all-requires
-write-all-requires c κs = search needs
-
 returns : tie.Need-returns
-returns c = search needs
+returns c = let w = c .listing .ensures in text-read listingText _ _ (w .0) (w .1 .0) (w .1 .1)
 
-pub print-listing-spec : {M : Type 1} → statement M
-print-listing-spec =
+pub read-listing-spec : {M : Type 1} → statement M
+read-listing-spec =
     tie.close
     (tie.spec
     slice-aggregate-read-file
@@ -57,7 +49,4 @@ print-listing-spec =
     array-share-prefix-start
     slice-aggregate-listing-2
     listing-requires
-    array-share-prefix-text
-    slice-aggregate-write-all
-    write-all-requires
     returns)
