@@ -1,7 +1,7 @@
--- Saturation: one round, the table after n rounds, the saturated table within limits, and the table before a move's round.
+-- Saturation: one round, the table after n rounds, the saturated table within limits, a move's round and the table before it.
 -- Assumes nothing.
 pub mod Laws
-use Prim.Native.Nat.{ℕ, zero, suc, _+_, min}
+use Prim.Native.Nat.{ℕ, zero, suc, _+_, _-_, min}
 use mathlib.Core.Bool.{Bool, true, false, not, _&&_}
 use mathlib.Core.Option.{Option, none, some}
 use mathlib.Core.List.{List, [], _∷_, _++_, map}
@@ -117,6 +117,10 @@ module _ (rules : List Rule) (lent : Size) where
   unfoldable pub saturate : Automaton → Option Saturated
   saturate A = saturateFrom 1025 [] A
 
+-- the rounds that added a move
+unfoldable pub roundsAdded : Saturated → ℕ
+roundsAdded T = length (T .sizes) - 1
+
 -- ---- the table before a move's round
 
 -- the first so many moves and entries
@@ -139,6 +143,11 @@ lastUpTo z (y ∷ ys) i = elim (leb (y .moves) i) [ true ↦ lastUpTo y ys i | f
 -- "from earlier rounds": the table before the round of move i
 unfoldable pub before : Saturated → ℕ → Automaton
 before T i = upTo (lastUpTo (record { moves = 0; entries = 0 }) (T .sizes) i) (T .table)
+
+-- the round of move i, by the sizes after round 0, 1 and so on: as many of them, from the first, have no more than i moves
+unfoldable pub roundOf : List Size → ℕ → ℕ
+roundOf [] i = 0
+roundOf (z ∷ zs) i = elim (leb (z .moves) i) [ true ↦ suc (roundOf zs i) | false ↦ 0 ]
 
 -- the number of moves of round 0
 unfoldable pub ownMoves : List Size → ℕ

@@ -1,12 +1,19 @@
--- Document 01's number and values for each case of an answer.
+-- The papers' number and values for each case of an answer.
 -- Assumes nothing.
 pub mod Laws
-use Prim.Native.Nat.{ℕ}
+use Prim.Native.Nat.{ℕ, suc}
+use Rattle.replies.specs.declared.Acceptance.{Acceptance}
+use Rattle.replies.specs.declared.Acceptance.the-variants.{Never, Since}
 use Rattle.replies.specs.declared.Counts.{Counts}
 use Rattle.replies.specs.declared.Halt.{Halt}
 use Rattle.replies.specs.declared.Halt.the-variants.{Arrived, TraceFull, CellsShort}
 use Rattle.replies.specs.declared.Reply.{Reply}
 use Rattle.replies.specs.declared.Reply.the-variants.{Refused, NoRun, Walked}
+
+-- "0 for no, otherwise that round plus 1."
+unfoldable pub answerWord : Acceptance → ℕ
+answerWord Never = 0
+answerWord (Since r) = suc r
 
 -- the counts of a halt
 unfoldable pub countsOf : Halt → Counts

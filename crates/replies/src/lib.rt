@@ -1,10 +1,16 @@
-// The answers of the three services: types only. specs/ gives document 01's number and values for each of their cases.
+// The answers of the three services, and of acceptance: types only. specs/ gives the papers' number and values for each of their cases.
 
 // What saturate returns: 0 with its numbers of moves and entries, or a refusal's number with 0 and 0.
 pub struct Saturation {
     pub code: u64,
     pub moves: u64,
     pub entries: u64,
+}
+
+// Since when a stack is accepted from a state: from the table after this round on, or from no table.
+pub enum Acceptance {
+    Never,
+    Since(u64),
 }
 
 // The steps taken and the cells used by a walk.

@@ -7,11 +7,11 @@ use mathlib.Core.Logic.{⊎-elim}
 use mathlib.Core.List.{List, [], _∷_, _++_, append-nil, List·Memᴰ, List·Memᴰ·not-nil, List·Memᴰ·append-cases, List·Memᴰ·eq-of-singleton}
 use native.Mathlib.Nat.{add-zero, zero-add, le-trans}
 use native.Mathlib.Omega.{arith}
-use lib.ListN.{length}
+use lib.ListN.{length, length-append}
 use lib.Seq.{append-snoc}
 use Rattle.stacks.specs.System.{Rule}
 use Rattle.automata.specs.Automaton.{Automaton}
-use Rattle.automata.specs.Saturation.{Size, sizeOf, tableAfter, Saturated, upTo, lastUpTo, ownMoves}
+use Rattle.automata.specs.Saturation.{Size, sizeOf, tableAfter, Saturated, roundsAdded, upTo, lastUpTo, ownMoves}
 use Rattle.automata.specs.Saturation.Laws.{extends-upTo, lastUpTo-past, lastUpTo-no}
 use Rattle.automata.specs.Facts.Laws.{moves-grow}
 use Rattle.rounds.specs.Rounds.{after-extends}
@@ -36,6 +36,14 @@ module _ (rules : List Rule) (own : Automaton) where
   sizes-split n (suc k) =
       let e : n + suc k ≡ suc n + k = omega arith in
       ap sizesBefore e ∙ sizes-split (suc n) k ∙ append-snoc (sizesBefore n) (sizeOf (tableAfter rules own n)) (sizesFrom (suc n) k)
+
+  pub length-sizesBefore : (n : ℕ) → length (sizesBefore n) ≡ n
+  unfolding sizesBefore
+  length-sizesBefore zero = refl
+  length-sizesBefore (suc n) =
+      let e : length (sizesBefore n ++ sizeOf (tableAfter rules own n) ∷ []) ≡ length (sizesBefore n) + 1 = length-append (sizesBefore n) _ in
+      let h : length (sizesBefore n) ≡ n = length-sizesBefore n in
+      omega arith
 
   pub sizesBefore-small : (n : ℕ) {z : Size} → List·Memᴰ z (sizesBefore n) → z .moves ≤ length (tableAfter rules own n .moves)
   unfolding sizesBefore sizeOf
@@ -81,3 +89,11 @@ module _ (rules : List Rule) (own : Automaton) where
   -- there is one for each number of rounds
   unfoldable pub after-rounds : (n : ℕ) → AfterRounds (record { table = tableAfter rules own n; sizes = sizesBefore (suc n) })
   after-rounds n = record { rounds = n; table-is = refl; sizes-are = refl }
+
+-- their number is known from the sizes
+pub rounds-are : {rules : List Rule} {own : Automaton} {T : Saturated} (s : AfterRounds rules own T) → roundsAdded T ≡ s .rounds
+unfolding roundsAdded
+rounds-are {rules} {own} {T} s =
+    let e : length (T .sizes) ≡ length (sizesBefore rules own (suc (s .rounds))) = ap length (s .sizes-are) in
+    let h : length (sizesBefore rules own (suc (s .rounds))) ≡ suc (s .rounds) = length-sizesBefore rules own (suc (s .rounds)) in
+    omega arith

@@ -2,11 +2,13 @@
 -- Assumes nothing.
 pub mod Laws
 use Prim.Native.Nat.{ℕ, _/_, min}
-use mathlib.Core.Bool.{true, false}
+use mathlib.Core.Bool.{Bool, true, false}
 use mathlib.Core.Option.{none, some}
 use mathlib.Core.List.{List, [], _∷_, _++_}
 use lib.ListN.{length, getD}
 use lib.Dec.{eqb, leb}
+use Rattle.automata.specs.Automaton.{Automaton}
+use Rattle.automata.specs.Acceptance.{accepts2}
 use Rattle.automata.specs.Saturation.{Saturated}
 use Rattle.replies.specs.declared.Reply.{Reply}
 use Rattle.replies.specs.declared.Reply.the-variants.{Refused}
@@ -14,11 +16,10 @@ use Rattle.replies.specs.declared.Halt.the-variants.{CellsShort}
 use Rattle.walks.specs.Guide.{Report, walkedBy, noRun, startWalk, guided}
 use Rattle.files.specs.Bytes.{Test, firstHit, testsOn}
 use Rattle.files.specs.Case.{caseTests, rulesOf}
-use Rattle.files.specs.Start.{Files, Start, startTests, startsOf, cellsOf}
+use Rattle.files.specs.Start.{Files, Start, startTests, startsOf, cellsOf, configurationOf}
 use Rattle.services.specs.Memory.{padded}
 use Rattle.words.specs.Lists.{zeros}
 use Rattle.services.specs.Saturate.{Lent, saturated, sizeTests}
-use Rattle.services.specs.Judge.{accepted}
 
 -- the two files, the number of a start, and the lengths of the move and entry tables, cells and trace lent
 pub record GuideInput : Type 0 where
@@ -64,6 +65,10 @@ guideWalk x T = elim (leb (length (cellsOf (x .start))) (cellsLent x)) [
       (startWalk (T .table) (cellsOf (x .start)) (startNamed x .control) (startNamed x .root))
   | false ↦ walkedBy (CellsShort (record { steps = 0; cells = 0 })) []
 ]
+
+-- the table accepts the start's stack from its control
+unfoldable pub accepted : Automaton → List ℕ → Start → Bool
+accepted A file x = accepts2 A (configurationOf file x .stack) (x .control)
 
 -- "No run (the start is marked no, tested before the cells lent)."
 unfoldable pub guideRun : GuideInput → Saturated → Report

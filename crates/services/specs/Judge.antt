@@ -2,21 +2,23 @@
 -- Assumes nothing.
 pub mod Laws
 use Prim.Native.Nat.{ℕ}
-use mathlib.Core.Bool.{Bool, true, false}
+use mathlib.Core.Bool.{true, false}
 use mathlib.Core.Option.{none, some}
 use mathlib.Core.List.{List, [], _∷_, _++_, map}
 use lib.ListN.{length}
 use lib.Dec.{eqb, ltb}
-use Rattle.automata.specs.Automaton.{Automaton}
-use Rattle.automata.specs.Acceptance.{accepts2}
+use Rattle.automata.specs.Saturation.{Saturated, roundsAdded}
+use Rattle.automata.specs.Won.{won2}
+use Rattle.replies.specs.declared.Acceptance.{Acceptance}
+use Rattle.replies.specs.Numbers.{answerWord}
 use Rattle.files.specs.Bytes.{Test, firstHit, testsOn}
-use Rattle.files.specs.Case.{caseTests}
+use Rattle.files.specs.Case.{caseTests, ownOf, rulesOf}
 use Rattle.files.specs.Start.{Files, Start, startTests, startsOf, configurationOf}
 use Rattle.services.specs.Memory.{padded}
 use Rattle.words.specs.Lists.{zeros}
 use Rattle.services.specs.Saturate.{Lent, saturated, sizeTests}
 
--- the two files, and the lengths of the move and entry tables and of the answers lent
+-- the two files, and the lengths of the move and entry tables and of the answers lent, words of 16 bits
 pub record JudgeInput : Type 0 where
   pub case : List ℕ
   pub start : List ℕ
@@ -30,7 +32,7 @@ judgeLent x = record { case = x .case; moves = x .moves; entries = x .entries }
 unfoldable pub judgeFiles : JudgeInput → Files
 judgeFiles x = record { case = x .case; start = x .start }
 
--- refusal 8: "fewer answer bytes than starts"
+-- refusal 8: fewer answers than starts; "Refusal 8 counts these words."
 unfoldable pub answerTests : List (Test JudgeInput)
 answerTests = record { fails = λ x. ltb (x .answers) (length (startsOf (x .start))); refusal = 8 } ∷ []
 
@@ -39,13 +41,13 @@ unfoldable pub judgeRefusal : JudgeInput → ℕ
 judgeRefusal =
     firstHit (testsOn (λ x. x .case) caseTests ++ (testsOn judgeFiles startTests ++ (answerTests ++ testsOn judgeLent sizeTests)))
 
--- the table accepts the start's stack from its control
-unfoldable pub accepted : Automaton → List ℕ → Start → Bool
-accepted A file x = accepts2 A (configurationOf file x .stack) (x .control)
+-- the least round, up to those that added a move, whose table accepts the start's stack from its control
+unfoldable pub won : List ℕ → Saturated → List ℕ → Start → Acceptance
+won case T file x = won2 (rulesOf case) (ownOf case) (roundsAdded T) (configurationOf file x .stack) (x .control)
 
--- "One byte per start, 1 or 0."
-unfoldable pub mark : Automaton → List ℕ → Start → ℕ
-mark A file x = elim (accepted A file x) [ true ↦ 1 | false ↦ 0 ]
+-- "Judge then writes 16 bits per start: 0 for no, otherwise that round plus 1."
+unfoldable pub mark : List ℕ → Saturated → List ℕ → Start → ℕ
+mark case T file x = answerWord (won case T file x)
 
 -- the number returned, and all three lent slices afterwards: "judge and guide zero their working tables"
 pub record JudgeDone : Type 0 where
@@ -62,7 +64,7 @@ unfoldable pub judgeAnswer : JudgeInput → ℕ → JudgeDone
 judgeAnswer x n = elim (eqb n 0) [
   | true ↦ elim (saturated (judgeLent x)) [
     | none ↦ judgeLeft x 9 []
-    | some T ↦ judgeLeft x 0 (map (mark (T .table) (x .start)) (startsOf (x .start)))
+    | some T ↦ judgeLeft x 0 (map (mark (x .case) T (x .start)) (startsOf (x .start)))
   ]
   | false ↦ judgeLeft x n []
 ]

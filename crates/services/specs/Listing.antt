@@ -1,11 +1,11 @@
 -- The text that the printing program prints for a case file and a start file.
 -- Assumes nothing.
-use Prim.Native.Nat.{ℕ, zero, suc, _+_, _*_, _/_, _%_}
+use Prim.Native.Nat.{ℕ, zero, suc, _+_, _-_, _*_, _/_, _%_}
 use Prim.Native.Char.{code}
 use Prim.Native.String.{String}
 use mathlib.Core.Bool.{true, false}
 use mathlib.Core.List.{List, [], _∷_, _++_}
-use lib.ListN.{length}
+use lib.ListN.{length, getD}
 use lib.Dec.{eqb}
 use Rattle.replies.specs.declared.Saturation.{Saturation}
 use Rattle.replies.specs.declared.Counts.{Counts}
@@ -55,26 +55,31 @@ listingGuide f n =
 unfoldable pub sizeLine : Saturation → List ℕ
 sizeLine r = ascii "moves " ++ decimal (r .moves) ++ ascii " entries " ++ decimal (r .entries) ++ ascii "\n"
 
--- "The fields after yes are steps and cells; before them stands `trace` or `cells` if the walk halted so."
-unfoldable pub countsText : Counts → List ℕ
-countsText c = ascii " " ++ decimal (c .steps) ++ ascii " " ++ decimal (c .cells)
+-- "The listing puts the round directly before the steps", behind which the cells stand.
+unfoldable pub countsText : ℕ → Counts → List ℕ
+countsText r c = ascii " " ++ decimal r ++ ascii " " ++ decimal (c .steps) ++ ascii " " ++ decimal (c .cells)
 
-unfoldable pub haltText : Halt → List ℕ
-haltText (Arrived c) = countsText c
-haltText (TraceFull c) = ascii " trace" ++ countsText c
-haltText (CellsShort c) = ascii " cells" ++ countsText c
+-- "Before them stands `trace` or `cells` if the walk halted so."
+unfoldable pub haltText : ℕ → Halt → List ℕ
+haltText r (Arrived c) = countsText r c
+haltText r (TraceFull c) = ascii " trace" ++ countsText r c
+haltText r (CellsShort c) = ascii " cells" ++ countsText r c
 
-unfoldable pub replyText : Reply → List ℕ
-replyText (Refused n) = ascii " refused " ++ decimal n
-replyText NoRun = ascii " no"
-replyText (Walked h) = ascii " yes" ++ haltText h
+unfoldable pub replyText : ℕ → Reply → List ℕ
+replyText r (Refused n) = ascii " refused " ++ decimal n
+replyText r NoRun = ascii " no"
+replyText r (Walked h) = ascii " yes" ++ haltText r h
 
--- `start 0 yes 2 9`: the line of start n where guide answers so
-unfoldable pub replyLine : ℕ → Reply → List ℕ
-replyLine n reply = ascii "start " ++ decimal n ++ replyText reply ++ ascii "\n"
+-- `start 0 yes 2 2 9`: the line of start n, won in round r, where guide answers so
+unfoldable pub replyLine : ℕ → ℕ → Reply → List ℕ
+replyLine n r reply = ascii "start " ++ decimal n ++ replyText r reply ++ ascii "\n"
+
+-- the round in which start n was won: what judge answers for it, less 1
+unfoldable pub roundWon : Files → ℕ → ℕ
+roundWon f n = getD (judgeService (listingJudge f) .answers) n 0 - 1
 
 unfoldable pub startLine : Files → ℕ → List ℕ
-startLine f n = replyLine n (guideService (listingGuide f n) .reply)
+startLine f n = replyLine n (roundWon f n) (guideService (listingGuide f n) .reply)
 
 -- the lines of k starts from number n on
 unfoldable pub startLines : Files → ℕ → ℕ → List ℕ

@@ -12,7 +12,7 @@ use Rattle.replies.specs.declared.Reply.{Reply}
 use Rattle.replies.specs.declared.Reply.the-variants.{Refused, NoRun, Walked}
 use Rattle.files.specs.Start.{Files}
 use Rattle.services.specs.Guide.{GuideInput, guideService, cellWords}
-use Rattle.services.specs.Listing.{ascii, decimal, replyLine, refusedText}
+use Rattle.services.specs.Listing.{ascii, decimal, replyLine, roundWon, refusedText}
 
 -- what `run` lends: 1,024 moves, 64 entries, 4,096 cells and 65,536 trace words
 unfoldable pub runGuide : Files → ℕ → GuideInput
@@ -40,15 +40,15 @@ numbersText (n ∷ ns) = decimal n ++ spacedNumbers ns
 unfoldable pub traceLine : Counts → List ℕ → List ℕ
 traceLine c trace = numbersText (take (c .steps) trace) ++ ascii "\n"
 
--- The start's line in the listing's form, and where the start is marked yes the rule numbers of its run. A refusal prints only `refused` and
--- its number.
-unfoldable pub answerText : ℕ → Reply → List ℕ → List ℕ
-answerText n (Refused k) trace = refusedText k
-answerText n NoRun trace = replyLine n NoRun
-answerText n (Walked h) trace = replyLine n (Walked h) ++ traceLine (countsOf h) trace
+-- The line of start n, won in round r, in the listing's form, and where it is marked yes the rule numbers of its run. A refusal prints only
+-- `refused` and its number.
+unfoldable pub answerText : ℕ → ℕ → Reply → List ℕ → List ℕ
+answerText n r (Refused k) trace = refusedText k
+answerText n r NoRun trace = replyLine n r NoRun
+answerText n r (Walked h) trace = replyLine n r (Walked h) ++ traceLine (countsOf h) trace
 
 unfoldable pub runText : Files → ℕ → List ℕ
-runText f n = answerText n (guideService (runGuide f n) .reply) (guideService (runGuide f n) .trace)
+runText f n = answerText n (roundWon f n) (guideService (runGuide f n) .reply) (guideService (runGuide f n) .trace)
 
 -- ---- the number that an argument names
 

@@ -19,9 +19,8 @@ use Rattle.files.specs.Case.{caseRefusal, rulesOf}
 use Rattle.files.specs.Start.{startTests, startRefusal, startsOf, cellsOf}
 use Rattle.services.specs.Saturate.{saturated, sizeTests}
 use Rattle.services.specs.Saturate.Laws.{size-refused, size-passed, case-first, case-passed}
-use Rattle.services.specs.Judge.{accepted}
 use Rattle.services.specs.Judge.Laws.{start-first, start-passed}
-use Rattle.services.specs.Guide.{GuideInput, guideLent, guideFiles, numberTests, guideRefusal, cellsLent, startNamed, guideWalk, guideRun}
+use Rattle.services.specs.Guide.{GuideInput, accepted, guideLent, guideFiles, numberTests, guideRefusal, cellsLent, startNamed, guideWalk, guideRun}
 use Rattle.services.specs.Guide.{GuideDone, guideLeft, refused, guideAnswer, guideService}
 
 -- ---- the cases

@@ -47,7 +47,7 @@ pub data JudgeCase (x : JudgeInput) : JudgeDone → Type 0 where
   size-exceeded : caseRefusal (x .case) ≡ 0 → startRefusal (judgeFiles x) ≡ 0 → length (startsOf (x .start)) ≤ x .answers → saturated (judgeLent x) ≡ none
       → JudgeCase x (judgeLeft x 9 [])
   judged : (T : Saturated) → caseRefusal (x .case) ≡ 0 → startRefusal (judgeFiles x) ≡ 0 → length (startsOf (x .start)) ≤ x .answers
-      → saturated (judgeLent x) ≡ some T → JudgeCase x (judgeLeft x 0 (map (mark (T .table) (x .start)) (startsOf (x .start))))
+      → saturated (judgeLent x) ≡ some T → JudgeCase x (judgeLeft x 0 (map (mark (x .case) T (x .start)) (startsOf (x .start))))
 
 module _ (x : JudgeInput) where
   answer-refused : (n : ℕ) → (n ≡ 0 → ⊥) → judgeAnswer x n ≡ judgeLeft x n []
@@ -55,7 +55,7 @@ module _ (x : JudgeInput) where
   answer-refused n h = rw (judgeAnswer, ne-eqb n 0 h)
 
   answer-judged : {T : Saturated} → saturated (judgeLent x) ≡ some T
-      → judgeAnswer x 0 ≡ judgeLeft x 0 (map (mark (T .table) (x .start)) (startsOf (x .start)))
+      → judgeAnswer x 0 ≡ judgeLeft x 0 (map (mark (x .case) T (x .start)) (startsOf (x .start)))
   unfolding judgeAnswer
   answer-judged e = rw (judgeAnswer, e)
 
