@@ -9,7 +9,7 @@ ghost use Rattle.files.specs.Start.{startsOf, cellsOf};
 ghost use Rattle.words.specs.Lists.{zeros};
 ghost use Rattle.services.specs.Guide.{guideRun};
 ghost use Rattle.tables.specs.Held.{automatonOf};
-ghost use Rattle.guided_step.specs.Step.{saturatedIn};
+ghost use Rattle.saturation.specs.Held.{saturatedIn};
 ghost use Rattle.guided_walk.specs.Turns.{Leaves};
 ghost use Rattle.sound_files.specs.Sound.{StartSound};
 ghost use Rattle.guided_start.specs.Tables.{TablesStand};

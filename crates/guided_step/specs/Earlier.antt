@@ -4,10 +4,6 @@ pub mod Laws
 use Prim.Native.Nat.{min}
 use Rattle.automata.specs.Saturation.{Size}
 use Rattle.tables.specs.declared.Table.{Table}
-use Rattle.guided_step.specs.declared.Size.{Size as SizeWords}
-
-abbrev pub asSize : SizeWords → Size
-asSize s = record { moves = s .moves; entries = s .entries }
 
 -- the table of the first so many moves and entries
 abbrev pub tableUpTo : Table → Size → Table

@@ -14,19 +14,11 @@ use Rattle.automata.specs.Automaton.{Automaton}
 use Rattle.automata.specs.Derivation.{Derivation}
 use Rattle.automata.specs.Saturation.{Saturated}
 use Rattle.walks.specs.Guide as walks
-use Rattle.tables.specs.declared.Table.{Table}
-use Rattle.tables.specs.Rows.{rowsIn}
-use Rattle.tables.specs.Held.{automatonOf}
-use Rattle.saturation.specs.Layout.{sizeRow}
 use Rattle.cell_steps.specs.declared.Top.{Top}
 use Rattle.cell_steps.specs.Steps.Choices.{topState, rootEdge, HoldsNumbers}
 use Rattle.guided_step.specs.declared.Next.{Next}
 use Rattle.guided_step.specs.declared.Next.the-variants.{Arrived, Stuck, To}
 use Rattle.guided_step.specs.Walks.{topBy}
-
--- the saturated table with its first k sizes
-abbrev pub saturatedIn : Table → List ℕ → List ℕ → List ℕ → ℕ → List ℕ → Saturated
-saturatedIn z inner entries moves k sizes = record { table = automatonOf z inner entries moves; sizes = rowsIn sizeRow k sizes }
 
 -- What is written into cells for premise p is small: the state that chooses it, its number, and the edge that the new root chooses.
 pub record StepSmall (A : Automaton) (op : Operation) (p : ℕ) : Type 0 where

@@ -7,22 +7,24 @@ ghost use Rattle.automata.specs.Automaton.{noEdge, moveAt};
 ghost use Rattle.automata.specs.Derivation.{resultOf};
 ghost use Rattle.automata.specs.Saturation.{ownMoves, lastUpTo, before};
 ghost use Rattle.walks.specs.Guide.{noGuided, guidedAt, topOf, topOn};
-ghost use Rattle.tables.specs.Rows.{rowsIn, rowAt};
+ghost use Rattle.tables.specs.Rows.{rowsIn};
 ghost use Rattle.tables.specs.Records.{asMove, asResult};
 ghost use Rattle.tables.specs.Held.{automatonOf, tableOf, edgesIn, EdgesStand, EntriesStand};
 ghost use Rattle.cell_memory.specs.Memory.{cellOf, guidedIn};
 ghost use Rattle.results.specs.Collecting.{rulesIn};
 ghost use Rattle.first_reading.specs.Words.{TablesWithin};
 ghost use Rattle.first_derivation.specs.Derived.{FindsFirst, StatesSmall};
-ghost use Rattle.saturation.specs.Sizes.{theSize};
+ghost use Rattle.saturation.specs.Sizes.{theSize, asSize};
 ghost use Rattle.saturation.specs.Layout.{sizeRow};
+ghost use Rattle.saturation.specs.Held.{saturatedIn};
 ghost use Rattle.guided_step.specs.Walks.{walkIn, tipOf};
-ghost use Rattle.guided_step.specs.Earlier.{asSize, tableUpTo};
-ghost use Rattle.guided_step.specs.Step.{saturatedIn, AtTop, NextIs};
+ghost use Rattle.guided_step.specs.Earlier.{tableUpTo};
+ghost use Rattle.guided_step.specs.Step.{AtTop, NextIs};
 use cell_memory::Cell;
 use cell_steps::Top;
 use first_derivation::First;
 use limits::Limits;
+use saturation::Size;
 use tables::Move;
 use tables::Result;
 use tables::Table;
@@ -140,24 +142,6 @@ fn top_of(z: Table, inner: &[u64], entries: &[u64], cells: &[u16], w: Walk) -> T
 
 // ---- the table before a move's round
 
-// Numbers of moves and entries.
-pub struct Size {
-    pub moves: u64,
-    pub entries: u64,
-}
-
-// The numbers of moves and entries after round i.
-fn size_at(sizes: &[u64], i: usize) -> Size
-    requires { ⌜ i * 2 + 2 ≤ length (now sizes) ⌝ }
-    ensures { λ r. ⌜ asSize r ≡ rowAt sizeRow (now (sizes .entry)) i ⌝ }
-{
-    let at = i * Limits::SIZE_WORDS;
-    Size {
-        moves: sizes[at],
-        entries: sizes[at + 1],
-    }
-}
-
 // The last of the first k sizes that has no more than i moves.
 fn last_up_to(sizes: &[u64], k: usize, i: u16) -> Size
     requires { ⌜ k * 2 ≤ length (now sizes) ⌝ }
@@ -169,7 +153,7 @@ fn last_up_to(sizes: &[u64], k: usize, i: u16) -> Size
     };
     let mut j: usize = 0;
     while j < k {
-        let y = size_at(sizes, j);
+        let y = saturation::size_at(sizes, j);
         if (i as u64) < y.moves {
             return last;
         }
@@ -201,7 +185,7 @@ fn own_moves(sizes: &[u64], k: usize) -> u64
     ensures { λ r. ⌜ r ≡ ownMoves (rowsIn sizeRow k (now (sizes .entry))) ⌝ }
 {
     if 0 < k {
-        let s = size_at(sizes, 0);
+        let s = saturation::size_at(sizes, 0);
         return s.moves;
     }
     0

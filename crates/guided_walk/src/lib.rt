@@ -12,7 +12,7 @@ ghost use Rattle.case_records.specs.Values.{theOperation};
 ghost use Rattle.results.specs.Collecting.{rulesIn};
 ghost use Rattle.cell_steps.specs.Steps.Choices.{topState};
 ghost use Rattle.guided_step.specs.Walks.{walkIn};
-ghost use Rattle.guided_step.specs.Step.{saturatedIn};
+ghost use Rattle.saturation.specs.Held.{saturatedIn};
 ghost use Rattle.guided_walk.specs.Stepped.{movesOnly, moveChoice, entryChoice, noChoice, choiceBy, StepStands, Steps};
 ghost use Rattle.guided_walk.specs.Turns.{RunStands, Leaves, countsIn, Walking, StepAnswers, TurnAnswers};
 use case_records::Operation;

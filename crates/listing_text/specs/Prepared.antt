@@ -9,7 +9,7 @@ use Rattle.services.specs.Saturate.{saturated}
 use Rattle.tables.specs.declared.Table.{Table}
 use Rattle.sound_files.specs.Refusal.{FilesSound}
 use Rattle.sound_files.specs.Saturated.{lentOf}
-use Rattle.guided_step.specs.Step.{saturatedIn}
+use Rattle.saturation.specs.Held.{saturatedIn}
 use Rattle.guided_start.specs.Tables.{TablesStand}
 
 -- Neither file is refused, and the tables hold the case's saturated table, which fits what the program lends.

@@ -2,4 +2,5 @@ pub mod Adding
 pub mod Rounding
 pub mod Running
 pub mod Layout
+pub mod Held
 pub mod Sizes

@@ -4,14 +4,14 @@ ghost use mathlib.Core.Path.{_≡_};
 ghost use mathlib.Core.List.{[], _∷_};
 ghost use Prim.Native.Nat.{_<_, _≤_, _+_, _*_};
 ghost use lib.ListN.{length};
-ghost use Rattle.tables.specs.Rows.{rowsIn, putRow};
+ghost use Rattle.tables.specs.Rows.{rowAt, rowsIn, putRow};
 ghost use Rattle.tables.specs.Records.{asEntry, asResult};
 ghost use Rattle.tables.specs.Layouts.{resultRow};
 ghost use Rattle.results.specs.Collecting.{RulesStand, rulesIn};
 ghost use Rattle.saturation.specs.Adding.{Entered, Growing, Added};
 ghost use Rattle.saturation.specs.Rounding.{Standing, Rounded};
 ghost use Rattle.saturation.specs.Running.{mostMoves, mostEntries, Given, Ends};
-ghost use Rattle.saturation.specs.Sizes.{theSize};
+ghost use Rattle.saturation.specs.Sizes.{theSize, asSize};
 ghost use Rattle.saturation.specs.Layout.{sizeRow};
 use limits::Limits;
 
@@ -163,6 +163,24 @@ fn put_sizes(t: &mut [u64], i: usize, moves: usize, entries: usize)
     let at = i * Limits::SIZE_WORDS;
     t[at] = moves as u64;
     t[at + 1] = entries as u64;
+}
+
+// Numbers of moves and entries.
+pub struct Size {
+    pub moves: u64,
+    pub entries: u64,
+}
+
+// The numbers of moves and entries after round i.
+pub fn size_at(sizes: &[u64], i: usize) -> Size
+    requires { ⌜ i * 2 + 2 ≤ length (now sizes) ⌝ }
+    ensures { λ r. ⌜ asSize r ≡ rowAt sizeRow (now (sizes .entry)) i ⌝ }
+{
+    let at = i * Limits::SIZE_WORDS;
+    Size {
+        moves: sizes[at],
+        entries: sizes[at + 1],
+    }
 }
 
 // A saturated table, with the number of sizes reported; or, where `fits` is false, a limit is passed.

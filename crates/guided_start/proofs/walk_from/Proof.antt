@@ -3,7 +3,7 @@
 use native.Mathlib.Omega.{arith}
 use Rattle.tables.specs.Held.{automatonOf}
 use Rattle.saturate.specs.Case.Laws.{is-placed, long-enough}
-use Rattle.guided_step.specs.Step.{saturatedIn}
+use Rattle.saturation.specs.Held.{saturatedIn}
 use Rattle.sound_files.specs.Sound.Laws.{start-long}
 use Rattle.guided_start.specs.Walk.Laws.{prepared, cells-number, walk-starts, run-stands, walk-leaves}
 use borrow.Author.Needs.{needs}

@@ -2,7 +2,7 @@
 -- Assumes nothing.
 use Prim.Native.Nat.{_-_}
 use Rattle.guided_step.specs.Earlier.Laws.{LastFrom, last-none, last-more, last-hit, last-all}
-use Rattle.guided_step.specs.Earlier.{asSize}
+use Rattle.saturation.specs.Sizes.{asSize}
 use borrow.Author.Needs.{needs}
 use Rattle.guided_step.proofs.last_up_to.Statement.{statement}
 use Rattle.guided_step.proofs.last_up_to.Tie as tie

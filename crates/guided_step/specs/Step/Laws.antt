@@ -41,7 +41,8 @@ use Rattle.guided_step.specs.Walks.{walkIn, topBy, tipOf}
 use Rattle.guided_step.specs.Walks.Laws.{topOf-moves}
 use Rattle.guided_step.specs.Earlier.{tableUpTo}
 use Rattle.guided_step.specs.Earlier.Laws.{table-upTo, upTo-stands, result-table}
-use Rattle.guided_step.specs.Step.{saturatedIn, StepSmall, Taken, Gives, AtTop, NextIs}
+use Rattle.saturation.specs.Held.{saturatedIn}
+use Rattle.guided_step.specs.Step.{StepSmall, Taken, Gives, AtTop, NextIs}
 use Rattle.guided_step.specs.Step.Chosen.{holds-kept, Sized, says-small}
 
 -- ---- the table before a move's round

@@ -4,7 +4,7 @@ use Prim.Native.Nat.{_-_}
 use mathlib.Core.Path.{_≡_, refl, _∙_}
 use native.Mathlib.Omega.{arith}
 use lib.ListN.{length}
-use Rattle.guided_step.specs.Step.{saturatedIn}
+use Rattle.saturation.specs.Held.{saturatedIn}
 use Rattle.results.specs.Collecting.{rulesIn}
 use Rattle.guided_walk.specs.Turns.Whole.{run-stands, walking-start, follows-self, follows-then, ends-halted, ends-stuck}
 use Rattle.guided_walk.specs.Turns.Laws.{answers-as}

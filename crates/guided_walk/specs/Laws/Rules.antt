@@ -18,7 +18,8 @@ use Rattle.first_reading.specs.Words.{TablesWithin}
 use Rattle.cell_steps.specs.declared.Top.{Top}
 use Rattle.cell_steps.specs.Steps.{symbolOf}
 use Rattle.cell_steps.specs.Steps.Choices.{topState}
-use Rattle.guided_step.specs.Step.{saturatedIn, Taken}
+use Rattle.saturation.specs.Held.{saturatedIn}
+use Rattle.guided_step.specs.Step.{Taken}
 use Rattle.guided_step.specs.Step.Laws.{rule-numbered}
 use Rattle.guided_walk.specs.Stepped.{movesOnly, StepStands}
 use Rattle.guided_walk.specs.Stepped.Laws.{state-same}

@@ -28,7 +28,7 @@ use Rattle.sound_files.specs.Refusal.{FilesSound, filesRefusal, refusedBefore}
 use Rattle.sound_files.specs.Refusal.Laws.{by-files}
 use Rattle.sound_files.specs.Saturated.{lentOf}
 use Rattle.judge.specs.Service.Cases as judge
-use Rattle.guided_step.specs.Step.{saturatedIn}
+use Rattle.saturation.specs.Held.{saturatedIn}
 use Rattle.guided_start.specs.Run.{guideInput}
 use Rattle.guided_start.specs.Run.Laws.{run-tables}
 use Rattle.guide.specs.Service.Cases.{answers-guided}

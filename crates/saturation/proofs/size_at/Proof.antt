@@ -1,10 +1,10 @@
--- `guided_step::size_at` meets its contract.
+-- `saturation::size_at` meets its contract.
 -- Assumes nothing.
 use native.Mathlib.Nat.{add-zero}
 use Rattle.tables.specs.Rows.{rowAt}
 use borrow.Author.Needs.{needs}
-use Rattle.guided_step.proofs.size_at.Statement.{statement}
-use Rattle.guided_step.proofs.size_at.Tie as tie
+use Rattle.saturation.proofs.size_at.Statement.{statement}
+use Rattle.saturation.proofs.size_at.Tie as tie
 
 mul-at : tie.Need-mul-at
 mul-at c = search needs
