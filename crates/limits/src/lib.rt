@@ -107,13 +107,17 @@ impl Limits {
         + Limits::STARTS * Limits::START_BYTES
         + Limits::START_CELLS * Limits::CELL_BYTES;
 
-    // ---- what the printing program lends, and the bytes of its text: a line of sizes and one for each start
+    // ---- what the printing program lends, and the bytes of its text: a line of sizes and a line for each start, each as long as it can be
 
     pub const LISTING_CELLS: usize = 512;
 
     pub const LISTING_TRACE: usize = 1024;
 
-    pub const LISTING_TEXT: usize = 4096;
+    pub const SIZE_LINE: usize = 56;
+
+    pub const START_LINE: usize = 66;
+
+    pub const LISTING_TEXT: usize = Limits::SIZE_LINE + Limits::STARTS * Limits::START_LINE;
 
     // ---- what the program `run` lends beside the moves, entries and cells that count, and the bytes of its text: six for each trace word, a
     // start's line, and what a number may take

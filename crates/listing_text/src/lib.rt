@@ -27,9 +27,9 @@ fn start_line(
     text: &mut [u8],
     at: usize,
 ) -> usize
-    requires { ⌜ TableReady (now case) (now start) z (now inner) (now entries) (now moves) k (now sizes) × (n < length (startsOf (now start))) × (at + 61 ≤ length (now text)) ⌝ }
+    requires { ⌜ TableReady (now case) (now start) z (now inner) (now entries) (now moves) k (now sizes) × (n < length (startsOf (now start))) × (at + 66 ≤ length (now text)) ⌝ }
     ensures { λ r. ⌜ Written (now (text .entry)) at (startLine (filesOf (now (case .entry)) (now (start .entry))) n) (now (text .exit)) r ⌝ }
-    ensures within { λ r. ⌜ r ≤ at + 61 ⌝ }
+    ensures within { λ r. ⌜ r ≤ at + 66 ⌝ }
 {
     let mut cells = [0u16; Limits::LISTING_CELLS * Limits::CELL_WORDS];
     let mut trace = [0u16; Limits::LISTING_TRACE];
@@ -62,9 +62,9 @@ fn start_lines(
     text: &mut [u8],
     at: usize,
 ) -> usize
-    requires { ⌜ TableReady (now case) (now start) z (now inner) (now entries) (now moves) k (now sizes) × (at + 64 * 61 ≤ length (now text)) ⌝ }
+    requires { ⌜ TableReady (now case) (now start) z (now inner) (now entries) (now moves) k (now sizes) × (at + 64 * 66 ≤ length (now text)) ⌝ }
     ensures { λ r. ⌜ Written (now (text .entry)) at (startLines (filesOf (now (case .entry)) (now (start .entry))) 0 (length (startsOf (now (start .entry))))) (now (text .exit)) r ⌝ }
-    ensures within { λ r. ⌜ r ≤ at + 64 * 61 ⌝ }
+    ensures within { λ r. ⌜ r ≤ at + 64 * 66 ⌝ }
 {
     let count = bytes_in::count_of(start, Limits::START_BODY);
     let mut n: usize = 0;
@@ -100,9 +100,9 @@ fn table_lines(
     k: usize,
     text: &mut [u8],
 ) -> usize
-    requires { ⌜ TableReady (now case) (now start) z (now inner) (now entries) (now moves) k (now sizes) × (4096 ≤ length (now text)) ⌝ }
+    requires { ⌜ TableReady (now case) (now start) z (now inner) (now entries) (now moves) k (now sizes) × (4280 ≤ length (now text)) ⌝ }
     ensures { λ r. ⌜ Written (now (text .entry)) 0 (listingText (filesOf (now (case .entry)) (now (start .entry)))) (now (text .exit)) r ⌝ }
-    ensures within { λ r. ⌜ r ≤ 4096 ⌝ }
+    ensures within { λ r. ⌜ r ≤ 4280 ⌝ }
 {
     let reply = Saturation {
         code: 0,
@@ -115,9 +115,9 @@ fn table_lines(
 
 // Writes the listing of sound files and answers its length.
 fn sound_listing(case: &[u8], start: &[u8], text: &mut [u8]) -> usize
-    requires { ⌜ FilesSound (now case) (now start) × (4096 ≤ length (now text)) ⌝ }
+    requires { ⌜ FilesSound (now case) (now start) × (4280 ≤ length (now text)) ⌝ }
     ensures { λ r. ⌜ Written (now (text .entry)) 0 (listingText (filesOf (now (case .entry)) (now (start .entry)))) (now (text .exit)) r ⌝ }
-    ensures within { λ r. ⌜ r ≤ 4096 ⌝ }
+    ensures within { λ r. ⌜ r ≤ 4280 ⌝ }
 {
     let mut moves = [0u64; Limits::MOVES * Limits::MOVE_WORDS];
     let mut entries = [0u64; Limits::STATES1 * Limits::ENTRY_WORDS];
@@ -142,9 +142,9 @@ fn sound_listing(case: &[u8], start: &[u8], text: &mut [u8]) -> usize
 
 // Writes the listing of a case file and a start file, zeros behind it, and answers its length.
 pub fn listing(case: &[u8], start: &[u8], text: &mut [u8; Limits::LISTING_TEXT]) -> usize
-    ensures { λ _. ⌜ now (text .exit) ≡ padded 4096 (listingText (filesOf (now (case .entry)) (now (start .entry)))) ⌝ }
+    ensures { λ _. ⌜ now (text .exit) ≡ padded 4280 (listingText (filesOf (now (case .entry)) (now (start .entry)))) ⌝ }
     ensures long { λ r. ⌜ r ≡ length (listingText (filesOf (now (case .entry)) (now (start .entry)))) ⌝ }
-    ensures within { λ r. ⌜ r ≤ 4096 ⌝ }
+    ensures within { λ r. ⌜ r ≤ 4280 ⌝ }
 {
     *text = [0u8; Limits::LISTING_TEXT];
     let refusal = sound_files::files_refusal(case, start);

@@ -15,9 +15,10 @@ fn wide(word: u16) -> u64
     word as u64
 }
 
-// Numbers in decimal from `at` on, a space before each: at most six bytes a number. Answers the place after them.
+// Numbers in decimal from `at` on, a space before each: at most six bytes a number, the last with room for twenty digits. Answers the place
+// after them.
 fn put_spaced(out: &mut [u8], at: usize, numbers: &[u16]) -> usize
-    requires { ⌜ at + 6 * length (now numbers) + 16 ≤ length (now out) ⌝ }
+    requires { ⌜ at + 6 * length (now numbers) + 15 ≤ length (now out) ⌝ }
     ensures { λ r. ⌜ Written (now (out .entry)) at (spacedNumbers (now (numbers .entry))) (now (out .exit)) r ⌝ }
     ensures within { λ r. ⌜ r ≤ at + 6 * length (now (numbers .entry)) ⌝ }
 {
@@ -33,7 +34,7 @@ fn put_spaced(out: &mut [u8], at: usize, numbers: &[u16]) -> usize
 
 // Numbers in decimal, separated by single spaces.
 pub fn put_numbers(out: &mut [u8], at: usize, numbers: &[u16]) -> usize
-    requires { ⌜ at + 6 * length (now numbers) + 16 ≤ length (now out) ⌝ }
+    requires { ⌜ at + 6 * length (now numbers) + 14 ≤ length (now out) ⌝ }
     ensures { λ r. ⌜ Written (now (out .entry)) at (numbersText (now (numbers .entry))) (now (out .exit)) r ⌝ }
     ensures within { λ r. ⌜ r ≤ at + 6 * length (now (numbers .entry)) ⌝ }
 {

@@ -53,42 +53,44 @@ pub fn put_decimal(out: &mut [u8], at: usize, n: u64) -> usize
     put_digits(out, at, n)
 }
 
-// The steps and cells of a walk, a space before each: at most 42 bytes.
-fn put_counts(out: &mut [u8], at: usize, c: Counts) -> usize
-    requires { ⌜ at + 42 ≤ length (now out) ⌝ }
-    ensures { λ r. ⌜ Written (now (out .entry)) at (countsText c) (now (out .exit)) r ⌝ }
-    ensures within { λ r. ⌜ r ≤ at + 42 ⌝ }
+// The round in which a start was won, and the steps and cells of its walk, a space before each: at most 47 bytes.
+fn put_counts(out: &mut [u8], at: usize, round: u64, c: Counts) -> usize
+    requires { ⌜ (round < 10000) × (at + 47 ≤ length (now out)) ⌝ }
+    ensures { λ r. ⌜ Written (now (out .entry)) at (countsText round c) (now (out .exit)) r ⌝ }
+    ensures within { λ r. ⌜ r ≤ at + 47 ⌝ }
 {
-    let steps = put_text(out, at, b" ");
+    let number = put_text(out, at, b" ");
+    let after_round = put_decimal(out, number, round);
+    let steps = put_text(out, after_round, b" ");
     let after_steps = put_decimal(out, steps, c.steps);
     let cells = put_text(out, after_steps, b" ");
     put_decimal(out, cells, c.cells)
 }
 
-// The counts of a halt, after `trace` or `cells` where the walk halted so: at most 48 bytes.
-fn put_halt(out: &mut [u8], at: usize, h: Halt) -> usize
-    requires { ⌜ at + 48 ≤ length (now out) ⌝ }
-    ensures { λ r. ⌜ Written (now (out .entry)) at (haltText h) (now (out .exit)) r ⌝ }
-    ensures within { λ r. ⌜ r ≤ at + 48 ⌝ }
+// The round and the counts of a halt, after `trace` or `cells` where the walk halted so: at most 53 bytes.
+fn put_halt(out: &mut [u8], at: usize, round: u64, h: Halt) -> usize
+    requires { ⌜ (round < 10000) × (at + 53 ≤ length (now out)) ⌝ }
+    ensures { λ r. ⌜ Written (now (out .entry)) at (haltText round h) (now (out .exit)) r ⌝ }
+    ensures within { λ r. ⌜ r ≤ at + 53 ⌝ }
 {
     match h {
-        Halt::Arrived(c) => put_counts(out, at, c),
+        Halt::Arrived(c) => put_counts(out, at, round, c),
         Halt::TraceFull(c) => {
             let counts = put_text(out, at, b" trace");
-            put_counts(out, counts, c)
+            put_counts(out, counts, round, c)
         },
         Halt::CellsShort(c) => {
             let counts = put_text(out, at, b" cells");
-            put_counts(out, counts, c)
+            put_counts(out, counts, round, c)
         },
     }
 }
 
-// What guide answers for a start: at most 52 bytes.
-fn put_reply(out: &mut [u8], at: usize, reply: Reply) -> usize
-    requires { ⌜ at + 52 ≤ length (now out) ⌝ }
-    ensures { λ r. ⌜ Written (now (out .entry)) at (replyText reply) (now (out .exit)) r ⌝ }
-    ensures within { λ r. ⌜ r ≤ at + 52 ⌝ }
+// What guide answers for a start that was won in this round: at most 57 bytes.
+fn put_reply(out: &mut [u8], at: usize, round: u64, reply: Reply) -> usize
+    requires { ⌜ (round < 10000) × (at + 57 ≤ length (now out)) ⌝ }
+    ensures { λ r. ⌜ Written (now (out .entry)) at (replyText round reply) (now (out .exit)) r ⌝ }
+    ensures within { λ r. ⌜ r ≤ at + 57 ⌝ }
 {
     match reply {
         Reply::Refused(n) => {
@@ -98,7 +100,7 @@ fn put_reply(out: &mut [u8], at: usize, reply: Reply) -> usize
         Reply::NoRun => put_text(out, at, b" no"),
         Reply::Walked(h) => {
             let halt = put_text(out, at, b" yes");
-            put_halt(out, halt, h)
+            put_halt(out, halt, round, h)
         },
     }
 }
@@ -118,15 +120,15 @@ pub fn put_size_line(out: &mut [u8], at: usize, r: Saturation) -> usize
     put_text(out, after_entries, b"\n")
 }
 
-// `start 0 yes 2 9`: at most 61 bytes.
-pub fn put_reply_line(out: &mut [u8], at: usize, n: u64, reply: Reply) -> usize
-    requires { ⌜ (n < 100) × (at + 61 ≤ length (now out)) ⌝ }
-    ensures { λ e. ⌜ Written (now (out .entry)) at (replyLine n reply) (now (out .exit)) e ⌝ }
-    ensures within { λ e. ⌜ e ≤ at + 61 ⌝ }
+// `start 0 yes 2 2 9`: at most 66 bytes.
+pub fn put_reply_line(out: &mut [u8], at: usize, n: u64, round: u64, reply: Reply) -> usize
+    requires { ⌜ (n < 100) × (round < 10000) × (at + 66 ≤ length (now out)) ⌝ }
+    ensures { λ e. ⌜ Written (now (out .entry)) at (replyLine n round reply) (now (out .exit)) e ⌝ }
+    ensures within { λ e. ⌜ e ≤ at + 66 ⌝ }
 {
     let number = put_text(out, at, b"start ");
     let after_number = put_decimal(out, number, n);
-    let after_reply = put_reply(out, after_number, reply);
+    let after_reply = put_reply(out, after_number, round, reply);
     put_text(out, after_reply, b"\n")
 }
 

@@ -27,7 +27,7 @@ unfolding Bounded
 put-reply-line-requires c κs =
     let start = c .before .before .before .before .before in
     let few : start .args .number < 64 = subst (Bounded (start .args .number) (length (start .args .trace .now))) (c .before .enum-told .given .1) (start .pre .0) in
-    (omega arith, search needs)
+    (omega arith, search needs, search needs)
 
 enum-known-reply-2 : tie.Need-enum-known-reply-2
 enum-known-reply-2 c = search needs
@@ -35,7 +35,7 @@ enum-known-reply-2 c = search needs
 put-walk-requires : tie.Need-put-walk-requires
 put-walk-requires c κs =
     let start = c .before .before .before .before .before .before in
-    (subst (Bounded (start .args .number) (length (start .args .trace .now))) (c .before .before .reply2 .given .1) (start .pre .0), search needs)
+    (subst (Bounded (start .args .number) (length (start .args .trace .now))) (c .before .before .reply2 .given .1) (start .pre .0), search needs, search needs)
 
 same-length : tie.Need-same-length
 same-length c = search needs
@@ -44,7 +44,7 @@ returns : tie.Need-returns
 unfolding answerText
 returns c =
     let start = c .before .before .before .before .before .before .before .before .before in
-    let is = ap (λ (r : Reply). answerText (start .args .number) r (start .args .trace .now)) (c .before .before .before .before .before .reply .given .1) in
+    let is = ap (λ (r : Reply). answerText (start .args .number) (start .args .round) r (start .args .trace .now)) (c .before .before .before .before .before .reply .given .1) in
     let w = c .before .before .put-refused .ensures in
     (written-same (sym is) (w .0), omega arith)
 
@@ -56,9 +56,9 @@ unfolding answerText
 returns-2 c =
     let start = c .before .before .before .before .before .before .before .before in
     let no = c .before .before .before .before .enum-told .given .1 in
-    let is = ap (λ (r : Reply). answerText (start .args .number) r (start .args .trace .now)) no in
+    let is = ap (λ (r : Reply). answerText (start .args .number) (start .args .round) r (start .args .trace .now)) no in
     let w = c .before .before .put-reply-line .ensures in
-    (written-same (ap (replyLine (start .args .number)) no ∙ sym is) (w .0), omega arith)
+    (written-same (ap (replyLine (start .args .number) (start .args .round)) no ∙ sym is) (w .0), omega arith)
 
 same-length-3 : tie.Need-same-length-3
 same-length-3 c = search needs
@@ -66,7 +66,7 @@ same-length-3 c = search needs
 returns-3 : tie.Need-returns-3
 returns-3 c =
     let start = c .before .before .before .before .before .before .before .before .before in
-    let is = ap (λ (r : Reply). answerText (start .args .number) r (start .args .trace .now)) (c .before .before .before .before .before .reply2 .given .1) in
+    let is = ap (λ (r : Reply). answerText (start .args .number) (start .args .round) r (start .args .trace .now)) (c .before .before .before .before .before .reply2 .given .1) in
     let w = c .before .before .put-walk .ensures in
     (written-same (sym is) (w .0), w .1)
 

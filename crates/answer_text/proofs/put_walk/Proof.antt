@@ -16,7 +16,7 @@ steps-of-requires c κs = search needs
 
 put-reply-line-requires : tie.Need-put-reply-line-requires
 unfolding Bounded
-put-reply-line-requires c κs = let p = c .before .before .before .before .pre .0 in (omega arith, search needs)
+put-reply-line-requires c κs = let p = c .before .before .before .before .pre .0 in (omega arith, search needs, search needs)
 
 slice-aggregate-put-numbers : tie.Need-slice-aggregate-put-numbers
 unfolding Bounded
@@ -56,7 +56,7 @@ returns c =
     let numbers = c .before .before .before .before .before .before .before .put-numbers .ensures in
     let end = c .before .before .put-text .ensures in
     let place = end .place in
-    (walk-text _ _ _ (steps .ensures) (written-then (line .0) (written-then (numbers .0) end)), omega arith)
+    (walk-text _ _ _ _ (steps .ensures) (written-then (line .0) (written-then (numbers .0) end)), omega arith)
 
 pub put-walk-spec : {M : Type 1} → statement M
 put-walk-spec =

@@ -13,9 +13,9 @@ use Rattle.text.specs.Written.Laws.{written-same}
 use Rattle.services.specs.Run.{numbersText, traceLine, answerText}
 
 -- the line of a walk, and the numbers of its steps
-pub walk-text : {before after : List ℕ} {end steps : ℕ} (number : ℕ) (h : Halt) (trace : List ℕ) → steps ≡ countsOf h .steps
-    → Written before 0 (replyLine number (Walked h) ++ (numbersText (take steps trace) ++ ascii "\n")) after end
-    → Written before 0 (answerText number (Walked h) trace) after end
+pub walk-text : {before after : List ℕ} {end steps : ℕ} (number round : ℕ) (h : Halt) (trace : List ℕ) → steps ≡ countsOf h .steps
+    → Written before 0 (replyLine number round (Walked h) ++ (numbersText (take steps trace) ++ ascii "\n")) after end
+    → Written before 0 (answerText number round (Walked h) trace) after end
 unfolding answerText traceLine
-walk-text number h trace e w =
-    written-same (ap (λ (k : ℕ). replyLine number (Walked h) ++ (numbersText (take k trace) ++ ascii "\n")) e) w
+walk-text number round h trace e w =
+    written-same (ap (λ (k : ℕ). replyLine number round (Walked h) ++ (numbersText (take k trace) ++ ascii "\n")) e) w

@@ -19,12 +19,12 @@ module _ {f : Files} where
   lined-none l at = record { written = record { place = sym (add-zero at); is = refl }; short = omega arith; long = refl }
 
   pub lined-next : {before middle after : List ℕ} {at n between end : ℕ} → Lined f before at n middle between
-      → Written middle between (startLine f n) after end → end ≤ between + 61 → length after ≡ length middle → Lined f before at (n + 1) after end
+      → Written middle between (startLine f n) after end → end ≤ between + 66 → length after ≡ length middle → Lined f before at (n + 1) after end
   lined-next {n = n} h w e l =
       let s = h .short in
       record { written = written-same (sym (startLines-next f n)) (written-then (h .written) w); short = omega arith; long = l ∙ h .long }
 
   -- n being the number of the starts
   pub lined-all : {before after : List ℕ} {at n m end : ℕ} → Lined f before at n after end → n ≡ m → m ≤ 64
-      → Written before at (startLines f 0 m) after end × (end ≤ at + 64 * 61)
+      → Written before at (startLines f 0 m) after end × (end ≤ at + 64 * 66)
   lined-all h e l = let s = h .short in (written-same (ap (startLines f 0) e) (h .written), omega arith)

@@ -3,6 +3,7 @@
 use native.Mathlib.Omega.{arith}
 use Rattle.services.specs.Listing.{ascii, countsText}
 use Rattle.text.specs.Written.Laws.{written-then}
+use Rattle.text.specs.Laws.Decimal.{decimal-length}
 use borrow.Author.Needs.{needs}
 use Rattle.text.proofs.put_counts.Statement.{statement}
 use Rattle.text.proofs.put_counts.Tie as tie
@@ -25,6 +26,17 @@ put-text-requires-2 c κs = search needs
 put-decimal-requires-2 : tie.Need-put-decimal-requires-2
 put-decimal-requires-2 c κs = search needs
 
+slice-aggregate-put-text-3 : tie.Need-slice-aggregate-put-text-3
+slice-aggregate-put-text-3 c = search needs
+
+put-text-requires-3 : tie.Need-put-text-requires-3
+put-text-requires-3 c κs = search needs
+
+put-decimal-requires-3 : tie.Need-put-decimal-requires-3
+put-decimal-requires-3 c κs =
+    let start = c .before .before .before .before .before .before .before .before .before .before .before .before .before .before .before .before .before .before .before .before .before .before .before .before .before in
+    omega (arith, decimal-length 4 (start .args .round) (omega arith) (start .pre .0))
+
 same-length : tie.Need-same-length
 same-length c = search needs
 
@@ -33,9 +45,14 @@ unfolding countsText ascii
 returns c =
     let cells = c .before .before .before .before .before .before in
     let after-steps = cells .before .before .before .before .before in
-    let steps = after-steps .before .before .before .before in (
-      written-then (written-then (written-then (steps .put-text .ensures) (after-steps .put-decimal .ensures .0)) (cells .put-text2 .ensures)) (c .before .before .put-decimal2 .ensures .0),
-      omega arith,
+    let steps = after-steps .before .before .before .before in
+    let after-round = steps .before .before .before .before .before in
+    let number = after-round .before .before .before .before in
+    let start = number .before .before .before .before in
+    let round = written-then (number .put-text .ensures) (after-round .put-decimal .ensures .0) in
+    let counts = written-then (written-then round (steps .put-text2 .ensures)) (after-steps .put-decimal2 .ensures .0) in (
+      written-then (written-then counts (cells .put-text3 .ensures)) (c .before .before .put-decimal3 .ensures .0),
+      omega (arith, decimal-length 4 (start .args .round) (omega arith) (start .pre .0)),
     )
 
 pub put-counts-spec : {M : Type 1} → statement M
@@ -48,5 +65,8 @@ put-counts-spec =
     slice-aggregate-put-text-2
     put-text-requires-2
     put-decimal-requires-2
+    slice-aggregate-put-text-3
+    put-text-requires-3
+    put-decimal-requires-3
     same-length
     returns)

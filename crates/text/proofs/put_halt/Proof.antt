@@ -43,21 +43,21 @@ same-length c = search needs
 
 returns : tie.Need-returns
 unfolding haltText
-returns c = (written-same (sym (ap haltText (c .before .before .before .before .before .h .given .1))) (c .before .before .put-counts .ensures .0), omega arith)
+returns c = (written-same (sym (ap (haltText _) (c .before .before .before .before .before .h .given .1))) (c .before .before .put-counts .ensures .0), omega arith)
 
 same-length-2 : tie.Need-same-length-2
 same-length-2 c = search needs
 
 returns-2 : tie.Need-returns-2
 unfolding haltText ascii
-returns-2 c = (written-same (sym (ap haltText (c .before .before .before .before .before .before .before .before .before .before .h2 .given .1))) (written-then (c .before .before .before .before .before .before .put-text .ensures) (c .before .before .put-counts2 .ensures .0)), omega arith)
+returns-2 c = (written-same (sym (ap (haltText _) (c .before .before .before .before .before .before .before .before .before .before .h2 .given .1))) (written-then (c .before .before .before .before .before .before .put-text .ensures) (c .before .before .put-counts2 .ensures .0)), omega arith)
 
 same-length-3 : tie.Need-same-length-3
 same-length-3 c = search needs
 
 returns-3 : tie.Need-returns-3
 unfolding haltText ascii
-returns-3 c = (written-same (sym (ap haltText (c .before .before .before .before .before .before .before .before .before .before .h3 .given .1))) (written-then (c .before .before .before .before .before .before .put-text2 .ensures) (c .before .before .put-counts3 .ensures .0)), omega arith)
+returns-3 c = (written-same (sym (ap (haltText _) (c .before .before .before .before .before .before .before .before .before .before .h3 .given .1))) (written-then (c .before .before .before .before .before .before .put-text2 .ensures) (c .before .before .put-counts3 .ensures .0)), omega arith)
 
 pub put-halt-spec : {M : Type 1} → statement M
 put-halt-spec =

@@ -46,21 +46,21 @@ same-length c = search needs
 
 returns : tie.Need-returns
 unfolding replyText ascii
-returns c = (written-same (sym (ap replyText (c .before .before .before .before .before .before .before .before .before .before .reply .given .1))) (written-then (c .before .before .before .before .before .before .put-text .ensures) (c .before .before .put-decimal .ensures .0)), omega arith)
+returns c = (written-same (sym (ap (replyText _) (c .before .before .before .before .before .before .before .before .before .before .reply .given .1))) (written-then (c .before .before .before .before .before .before .put-text .ensures) (c .before .before .put-decimal .ensures .0)), omega arith)
 
 same-length-2 : tie.Need-same-length-2
 same-length-2 c = search needs
 
 returns-2 : tie.Need-returns-2
 unfolding replyText ascii
-returns-2 c = (written-same (sym (ap replyText (c .before .before .before .before .before .enum-told .given .1))) (c .before .before .put-text2 .ensures), omega arith)
+returns-2 c = (written-same (sym (ap (replyText _) (c .before .before .before .before .before .enum-told .given .1))) (c .before .before .put-text2 .ensures), omega arith)
 
 same-length-3 : tie.Need-same-length-3
 same-length-3 c = search needs
 
 returns-3 : tie.Need-returns-3
 unfolding replyText ascii
-returns-3 c = (written-same (sym (ap replyText (c .before .before .before .before .before .before .before .before .before .before .reply2 .given .1))) (written-then (c .before .before .before .before .before .before .put-text3 .ensures) (c .before .before .put-halt .ensures .0)), omega arith)
+returns-3 c = (written-same (sym (ap (replyText _) (c .before .before .before .before .before .before .before .before .before .before .reply2 .given .1))) (written-then (c .before .before .before .before .before .before .put-text3 .ensures) (c .before .before .put-halt .ensures .0)), omega arith)
 
 pub put-reply-spec : {M : Type 1} → statement M
 put-reply-spec =

@@ -20,7 +20,7 @@ put-decimal-requires c κs = search needs
 put-reply-requires : tie.Need-put-reply-requires
 put-reply-requires c κs =
     let start = c .before .before .before .before .before .before .before .before .before .before .before in
-    omega (arith, decimal-length 2 (start .args .n) (omega arith) (start .pre .0))
+    (start .pre .1, omega (arith, decimal-length 2 (start .args .n) (omega arith) (start .pre .0)))
 
 slice-aggregate-put-text-2 : tie.Need-slice-aggregate-put-text-2
 slice-aggregate-put-text-2 c = search needs

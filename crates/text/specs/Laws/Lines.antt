@@ -8,9 +8,9 @@ use native.Mathlib.Numerals.{add-one}
 use native.Mathlib.Omega.{arith}
 use Rattle.files.specs.Start.{Files}
 use Rattle.services.specs.Guide.{guideService}
-use Rattle.services.specs.Listing.{listingGuide, replyLine, startLine, startLines}
+use Rattle.services.specs.Listing.{listingGuide, replyLine, roundWon, startLine, startLines}
 
-pub startLine-is : (f : Files) (n : ℕ) → startLine f n ≡ replyLine n (guideService (listingGuide f n) .reply)
+pub startLine-is : (f : Files) (n : ℕ) → startLine f n ≡ replyLine n (roundWon f n) (guideService (listingGuide f n) .reply)
 unfolding startLine
 startLine-is f n = refl
 
