@@ -1,18 +1,21 @@
 -- The round in which a stack is won, by recursion on the stack: over one saturated table and the rounds of its moves, with no look at the tables
 -- of earlier rounds. Won/Laws.antt proves it equal to the definition.
 -- Assumes nothing.
-pub mod Laws
+pub mod Answers
 pub mod Shown
+pub mod Laws
 use Prim.Native.Nat.{ℕ, zero, suc, max, min}
-use mathlib.Core.Bool.{Bool, true, false}
+use mathlib.Core.Bool.{Bool, true, false, _&&_}
 use mathlib.Core.List.{List, [], _∷_}
+use lib.ListN.{getD}
 use lib.Dec.{eqb}
 use Rattle.words.specs.Sets.{member, members}
+use Rattle.words.specs.Lists.{places}
 use Rattle.stacks.specs.Stack.{Stack1, nil1, cons1, Stack2, nil2, cons2, Annotation, of1, of2, annotationOrder}
 use Rattle.replies.specs.declared.Acceptance.{Acceptance}
 use Rattle.replies.specs.declared.Acceptance.the-variants.{Never, Since}
-use Rattle.automata.specs.Automaton.{Move, Edge, movesOf, moveAt, edgesOf, edgeAt}
-use Rattle.automata.specs.Saturation.{Saturated, roundOf}
+use Rattle.automata.specs.Automaton.{Move, Edge, noMove, noEdge, edges}
+use Rattle.automata.specs.Saturation.{Size, Saturated, roundOf}
 
 -- the answer is a round
 unfoldable pub isWon : Acceptance → Bool
@@ -58,19 +61,26 @@ moveRound k annotation rest m = later (annotationRound k annotation (m .order) (
 unfoldable pub edgeRound : (ℕ → Acceptance) → (ℕ → Acceptance) → Edge → Acceptance
 edgeRound top rest e = later (top (e .first)) (latest rest (members (e .S)))
 
+-- symbol a, annotated by a stack of order k, on a rest, from order-1 state r: over its moves the earliest of the later among the move's own
+-- round and the rounds of its sets
+unfoldable pub symbolRound : List Size → ℕ → ℕ → (ℕ → Acceptance) → (ℕ → Acceptance) → List Move → ℕ → Acceptance
+symbolRound sizes a k annotation rest moves r =
+    earliest (λ i. later (Since (roundOf sizes i)) (moveRound k annotation rest (getD moves i noMove)))
+    (places (λ m. eqb (m .state) r && eqb (m .symbol) a) moves)
+
+-- an order-1 stack on a rest, from order-2 state q: over its edges the earliest; an edge has no round of its own
+unfoldable pub aboveRound : (ℕ → Acceptance) → (ℕ → Acceptance) → List Edge → ℕ → Acceptance
+aboveRound top rest edges q = earliest (λ i. edgeRound top rest (getD edges i noEdge)) (places (λ e. eqb (e .state) q) edges)
+
 module _ (T : Saturated) where
   unfoldable mutual
-    -- over the moves of r on the top symbol the earliest of the later among the move's own round and the rounds of its sets
     pub round1 : Stack1 → ℕ → Acceptance
     round1 nil1 r = finalRound (T .table .final1) r
-    round1 (cons1 a u s) r =
-        earliest (λ i. later (Since (roundOf (T .sizes) i)) (moveRound (annotationOrder u) (λ q. roundOfStack u q) (λ q. round1 s q) (moveAt (T .table) i)))
-        (movesOf (T .table) r a)
+    round1 (cons1 a u s) r = symbolRound (T .sizes) a (annotationOrder u) (λ q. roundOfStack u q) (λ q. round1 s q) (T .table .moves) r
 
-    -- over the edges of q the earliest; an edge has no round of its own
     pub round2 : Stack2 → ℕ → Acceptance
     round2 nil2 q = finalRound (T .table .final2) q
-    round2 (cons2 w t) q = earliest (λ e. edgeRound (λ r. round1 w r) (λ x. round2 t x) (edgeAt (T .table) e)) (edgesOf (T .table) q)
+    round2 (cons2 w t) q = aboveRound (λ r. round1 w r) (λ x. round2 t x) (edges (T .table)) q
 
     -- a stack of either order
     pub roundOfStack : Annotation → ℕ → Acceptance

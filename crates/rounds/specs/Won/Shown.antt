@@ -17,10 +17,10 @@ use Rattle.words.specs.Lists.Laws.{every-cons, some-of-cons}
 use Rattle.stacks.specs.Stack.{Stack1, nil1, cons1, Stack2, nil2, cons2, Annotation, of1, of2, annotationOrder}
 use Rattle.replies.specs.declared.Acceptance.{Acceptance}
 use Rattle.replies.specs.declared.Acceptance.the-variants.{Never, Since}
-use Rattle.automata.specs.Automaton.{Automaton, Move, Edge, edges, movesOf, moveAt, edgesOf, edgeAt}
+use Rattle.automata.specs.Automaton.{Automaton, Move, Edge, edges, moveAt, edgeAt}
 use Rattle.automata.specs.Acceptance.{accepts1, accepts2, acceptsAnnotation, moveFits, edgeFits}
 use Rattle.automata.specs.Saturation.{Saturated, roundOf}
-use Rattle.rounds.specs.Won.{earlier, later, earliest, latest, finalRound, annotationRound, moveRound, edgeRound, round1, round2, roundOfStack}
+use Rattle.rounds.specs.Won.{earlier, later, earliest, latest, finalRound, annotationRound, moveRound, edgeRound, symbolRound, aboveRound, round1, round2, roundOfStack}
 
 -- ---- a test of rounds
 
@@ -134,23 +134,23 @@ module _ {T : Saturated} {test : ℕ → Bool} {A : Automaton} (D : Downward tes
   fits-first w t e h = ap (λ (b : Bool). b && every (λ q. accepts2 A t q) (members (e .S))) h
 
   mutual
-    unfolding moveFits edgeFits round1 accepts1 annotationRound annotationOrder passes movesOf edgesOf
+    unfolding moveFits edgeFits round1 symbolRound aboveRound accepts1 annotationRound annotationOrder passes moveAt edgeAt
 
     pub shown1 : (s : Stack1) (r : ℕ) → passes test (round1 T s r) ≡ accepts1 A s r
     shown1 nil1 r = passes-final D (T .table .final1) r ∙ ap (λ (f : ℕ). member f r) (sym (H .same-final1))
     shown1 (cons1 a u s) r =
-        passes-earliest D _ (movesOf (T .table) r a)
+        passes-earliest D _ (places _ (T .table .moves))
         ∙ some-same _ _ (λ i.
         passes-later D (Since (roundOf (T .sizes) i)) _
         ∙ ap (λ (b : Bool). test (roundOf (T .sizes) i) && b)
-        (shown-move u s (λ o B. shown-annotation u o B) (λ q. shown1 s q) (moveAt (T .table) i))) (movesOf (T .table) r a)
+        (shown-move u s (λ o B. shown-annotation u o B) (λ q. shown1 s q) (moveAt (T .table) i))) (places _ (T .table .moves))
         ∙ H .moves-shown (λ m. eqb (m .state) r && eqb (m .symbol) a) (moveFits A u s)
 
     pub shown2 : (t : Stack2) (q : ℕ) → passes test (round2 T t q) ≡ accepts2 A t q
     shown2 nil2 q = passes-final D (T .table .final2) q ∙ ap (λ (f : ℕ). member f q) (sym (H .same-final2))
     shown2 (cons2 w t) q =
-        passes-earliest D _ (edgesOf (T .table) q)
-        ∙ some-same _ _ (λ i. shown-edge w t (λ r. shown1 w r) (λ x. shown2 t x) (edgeAt (T .table) i)) (edgesOf (T .table) q)
+        passes-earliest D _ (places _ (edges (T .table)))
+        ∙ some-same _ _ (λ i. shown-edge w t (λ r. shown1 w r) (λ x. shown2 t x) (edgeAt (T .table) i)) (places _ (edges (T .table)))
         ∙ H .edges-shown w (λ e. eqb (e .state) q) (edgeFits A w t) (λ e h. fits-first w t e h)
 
     shown-annotation : (u : Annotation) (o B : ℕ) → passes test (annotationRound (annotationOrder u) (λ q. roundOfStack T u q) o B) ≡ acceptsAnnotation A u o B
