@@ -16,10 +16,10 @@ fn ample() -> Both {
     Both::new(Lent::new(LISTING_MOVES, LISTING_ENTRIES, 1024, 2048))
 }
 
-fn marks(both: &mut Both, pair: &Pair) -> Option<Vec<bool>> {
+/// The rounds in which the pair's starts were won, if judge does not refuse.
+fn rounds(both: &mut Both, pair: &Pair) -> Option<Vec<Option<usize>>> {
     let code = both.judge(&pair.case_file, &pair.start_file);
-    let answers = &both.lent.answers[..pair.start.starts.len()];
-    (code == 0).then(|| answers.iter().map(|&answer| answer == 1).collect())
+    (code == 0).then(|| both.lent.rounds(pair.start.starts.len()))
 }
 
 /// Every service on every pair. What the guide answers is checked on nested
@@ -30,15 +30,15 @@ fn generated_files() {
     let (mut taken, mut too_large, mut no_run) = ([0; 9], 0, 0);
     for (name, pair) in pairs(250) {
         both.saturate(&pair.case_file);
-        let Some(marks) = marks(&mut both, &pair) else {
+        let Some(rounds) = rounds(&mut both, &pair) else {
             assert_eq!(both.guide(&pair.case_file, &pair.start_file, 0), Refused(9));
             too_large += 1;
             continue;
         };
-        for (number, &mark) in marks.iter().enumerate() {
+        for (number, round) in rounds.iter().enumerate() {
             let reply = both.guide(&pair.case_file, &pair.start_file, number as u64);
-            assert_eq!(reply != NoRun, mark, "{name} start {number}");
-            if !mark {
+            assert_eq!(reply != NoRun, round.is_some(), "{name} start {number}");
+            if round.is_none() {
                 no_run += 1;
                 continue;
             }
@@ -47,7 +47,7 @@ fn generated_files() {
                 taken[usize::from(pair.case.rules[usize::from(rule)].code)] += 1;
             }
         }
-        let after = marks.len() as u64;
+        let after = rounds.len() as u64;
         let reply = both.guide(&pair.case_file, &pair.start_file, after);
         assert_eq!(reply, Refused(7), "{name}");
     }
@@ -66,10 +66,10 @@ fn wide_files() {
         let pair = pair(seed, &WIDE);
         let name = format!("wide {seed}");
         both.saturate(&pair.case_file);
-        let marks = marks(&mut both, &pair).unwrap_or_default();
-        for (number, &mark) in marks.iter().enumerate().take(8) {
+        let rounds = rounds(&mut both, &pair).unwrap_or_default();
+        for (number, round) in rounds.iter().enumerate().take(8) {
             let reply = both.guide(&pair.case_file, &pair.start_file, number as u64);
-            if mark {
+            if round.is_some() {
                 pair.check_run(number, reply, &both.lent.trace, &name);
                 walks += 1;
             }
@@ -98,7 +98,8 @@ fn any_lengths() {
 }
 
 /// No start marked no reaches the target within the bounds, and no start marked
-/// yes is one whose reachable configurations are all outside the target.
+/// yes is one whose reachable configurations are all outside the target. Exactly
+/// the starts in the target are won in round 0.
 #[test]
 fn marks_agree_with_the_search() {
     let bounds = Bounds {
@@ -109,10 +110,10 @@ fn marks_agree_with_the_search() {
     let mut both = ample();
     let mut searched = Searched::default();
     for (name, pair) in pairs(120) {
-        let Some(marks) = marks(&mut both, &pair) else {
+        let Some(rounds) = rounds(&mut both, &pair) else {
             continue;
         };
-        searched.check(&name, &pair, &marks, bounds);
+        searched.check(&name, &pair, &rounds, bounds);
     }
     println!("{searched:?}");
     assert!(searched.reached >= 200 && searched.exhausted >= 200);
@@ -153,7 +154,7 @@ fn every_service(lent: &Lent, pair: &Pair) {
     both.guide(&pair.case_file, &pair.start_file, 0);
 }
 
-/// Answers of every length: 8 with fewer than starts.
+/// Answer words of every number: 8 with fewer than starts.
 #[test]
 fn every_number_of_answers() {
     let mut both = ample();
