@@ -85,7 +85,7 @@ fn take_round(fields: &mut Vec<&str>) -> usize {
 }
 
 /// The bytes that a field of vectors.txt stands for; "an empty file is `-`".
-fn bytes_of(field: &str) -> Vec<u8> {
+pub fn bytes_of(field: &str) -> Vec<u8> {
     if field == "-" {
         return Vec::new();
     }

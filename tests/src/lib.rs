@@ -24,6 +24,7 @@ pub mod pairs;
 pub mod plant;
 pub mod proved;
 pub mod random;
+pub mod requests;
 pub mod saturation;
 pub mod search;
 pub mod services;

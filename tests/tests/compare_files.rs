@@ -13,6 +13,7 @@ use second::models::{
 };
 use second::proved;
 use second::random::is_long;
+use second::requests::check_examples;
 use second::services::{LISTING_ENTRIES, LISTING_MOVES, MOST_CELLS, listing_answer};
 
 // ---- the files that came with documents 01 and 02
@@ -50,6 +51,11 @@ fn every_vector() {
         let files = (&vector.case[..], &vector.start[..]);
         check_listing(&mut both, files, 1, &vector.printed);
     }
+}
+
+#[test]
+fn every_example_of_the_requests() {
+    check_examples(proved::judge, proved::listing);
 }
 
 /// The vector with the longest runs, with cells from too few to more than count

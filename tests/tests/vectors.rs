@@ -5,9 +5,12 @@ use second::automaton::accepts;
 use second::data::{Vector, bytes, larger_files, vectors, without_rounds};
 use second::file::decode_case;
 use second::lent::Lent;
+use second::requests::check_examples;
 use second::saturation::saturate;
 use second::services::GuideReply::{Arrived, CellsShort};
-use second::services::{LISTING_ENTRIES, LISTING_MOVES, MOST_CELLS, listing, listing_answer};
+use second::services::{
+    LISTING_ENTRIES, LISTING_MOVES, MOST_CELLS, judge, listing, listing_answer,
+};
 use second::stack::{configuration, replay};
 use second::start_file::decode_start;
 use second::table::{Size, Table};
@@ -20,6 +23,11 @@ fn every_vector() {
         let (printed, _) = without_rounds(&listing(&vector.case, &vector.start));
         assert_eq!(printed, vector.printed, "{}", vector.name);
     }
+}
+
+#[test]
+fn every_example_of_the_requests() {
+    check_examples(judge, listing);
 }
 
 /// The services answer as the listing says, and the traces of the vectors are
