@@ -48,14 +48,14 @@ pub fn least_edge(view: View, state: u8, top: Set, rest: Set) -> Option<Edge> {
 }
 
 /// The order-1 states that accept a stack with this top.
-fn accept_symbol(view: View, symbol: &ReadSymbol) -> Set {
+pub fn accept_symbol(view: View, symbol: &ReadSymbol) -> Set {
     (0..view.order_one_states())
         .filter(|&one| least_move(view, one, symbol).is_some())
         .fold(0, |set, one| set | only(one))
 }
 
 /// The order-2 states that accept a stack of this top and rest.
-fn accept_pair(view: View, top: Set, rest: Set) -> Set {
+pub fn accept_pair(view: View, top: Set, rest: Set) -> Set {
     (0..view.table().order_two_states())
         .filter(|&state| least_edge(view, state, top, rest).is_some())
         .fold(0, |set, state| set | only(state))

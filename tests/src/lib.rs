@@ -32,3 +32,4 @@ pub mod sets;
 pub mod stack;
 pub mod start_file;
 pub mod table;
+pub mod won;

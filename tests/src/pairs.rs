@@ -2,7 +2,7 @@
 //! nested stacks, cells counted, the guide's answer by document 01's sentence.
 
 use crate::automaton::accepts;
-use crate::generate::{Pair, SHAPES, Shape, pair};
+use crate::generate::{LATE, Pair, SHAPES, Shape, pair};
 use crate::random::seeds;
 use crate::search::{Bounds, Outcome, search};
 use crate::services::GuideReply::{self, Arrived, CellsShort, TraceFull};
@@ -16,6 +16,11 @@ pub fn pairs(count: u64) -> impl Iterator<Item = (String, Pair)> {
         let seeds = seeds.clone();
         seeds.map(move |seed| (format!("{} {seed}", shape.name), pair(seed, shape)))
     })
+}
+
+/// Generated pairs whose starts are won in many rounds, for many reasons.
+pub fn late_pairs() -> impl Iterator<Item = (String, Pair)> {
+    seeds(250).map(|seed| (format!("late {seed}"), pair(seed, &LATE)))
 }
 
 impl Pair {

@@ -5,11 +5,14 @@
 use second::compare::Both;
 use second::generate::{Pair, WIDE, pair};
 use second::lent::Lent;
-use second::pairs::{Searched, pairs};
+use second::pairs::{Searched, late_pairs, pairs};
+use second::proved;
 use second::random::{Random, seeds};
 use second::search::Bounds;
 use second::services::GuideReply::{self, Arrived, CellsShort, NoRun, Refused, TraceFull};
-use second::services::{CELL_WORDS, ENTRY_WORDS, LISTING_ENTRIES, LISTING_MOVES, MOVE_WORDS};
+use second::services::{
+    CELL_WORDS, ENTRY_WORDS, LISTING_ENTRIES, LISTING_MOVES, MOVE_WORDS, listing,
+};
 
 /// Memory in which nearly every walk of a generated pair arrives.
 fn ample() -> Both {
@@ -55,6 +58,18 @@ fn generated_files() {
     println!("{too_large} tables too large, {no_run} starts marked no");
     assert!(taken[1..].iter().all(|&steps| steps >= 20), "{taken:?}");
     assert!(too_large >= 5 && no_run >= 500);
+}
+
+/// Judge and the listing on starts won in many rounds.
+#[test]
+fn late_starts() {
+    let mut both = ample();
+    for (name, pair) in late_pairs() {
+        both.judge(&pair.case_file, &pair.start_file);
+        let printed = proved::listing(&pair.case_file, &pair.start_file);
+        let second = listing(&pair.case_file, &pair.start_file);
+        assert_eq!(printed, second, "{name}");
+    }
 }
 
 /// Files near the limits, from a few of their starts.

@@ -14,7 +14,8 @@ use second::models::{
 use second::proved;
 use second::random::is_long;
 use second::requests::check_examples;
-use second::services::{LISTING_ENTRIES, LISTING_MOVES, MOST_CELLS, listing_answer};
+use second::services::{LISTING_ENTRIES, LISTING_MOVES, MOST_CELLS, listing, listing_answer};
+use second::won::{EXAMPLE_WORDS, example_case, example_start};
 
 // ---- the files that came with documents 01 and 02
 
@@ -56,6 +57,18 @@ fn every_vector() {
 #[test]
 fn every_example_of_the_requests() {
     check_examples(proved::judge, proved::listing);
+}
+
+/// Rounds that hang on each part of a stack, and on choices that are not least.
+#[test]
+fn example_of_rounds() {
+    let case = encode_case(&example_case());
+    let start = encode_start(&example_start());
+    let mut both = Both::new(Lent::as_listing());
+    assert_eq!(both.judge(&case, &start), 0);
+    let words = EXAMPLE_WORDS.as_flattened();
+    assert_eq!(both.lent.answers[..words.len()], *words);
+    assert_eq!(proved::listing(&case, &start), listing(&case, &start));
 }
 
 /// The vector with the longest runs, with cells from too few to more than count
