@@ -78,10 +78,10 @@ end_by() { # SIGNAL STATUS
 
 # ---- the programs of this repository
 
-# Document 01's model A.
+# Document 01's model A, with the rounds of document 02, §1.
 listing='moves 3 entries 3
-start 0 yes 2 9
-start 1 yes 0 6
+start 0 yes 2 2 9
+start 1 yes 0 0 6
 start 2 no
 '
 
@@ -95,8 +95,8 @@ model_a() {
 }
 
 guided_runs() {
-    gives 0 $'start 0 yes 2 9\n0 1\n' ./guide "$model/case.bin" "$model/start.bin" 0
-    gives 0 $'start 1 yes 0 6\n\n' ./guide "$model/case.bin" "$model/start.bin" 1
+    gives 0 $'start 0 yes 2 2 9\n0 1\n' ./guide "$model/case.bin" "$model/start.bin" 0
+    gives 0 $'start 1 yes 0 0 6\n\n' ./guide "$model/case.bin" "$model/start.bin" 1
     is_silent
     gives 0 $'start 2 no\n' ./guide "$model/case.bin" "$model/start.bin" 2
     gives 3 $'refused 7\n' ./guide "$model/case.bin" "$model/start.bin" 3

@@ -1,4 +1,5 @@
-//! Acceptance (document 01, "The automaton"), on cells and on nested stacks.
+//! Acceptance (document 01, "The automaton"), on cells and on nested stacks, by
+//! the table of some round.
 
 use std::collections::HashMap;
 use std::rc::Rc;
@@ -6,7 +7,7 @@ use std::rc::Rc;
 use crate::file::{Cell, Edge, Move};
 use crate::sets::{Set, has, is_part, only};
 use crate::stack::{Configuration, Level, Note, One, Symbol, Two};
-use crate::table::Table;
+use crate::table::View;
 
 /// The states that accept a stack, with the stack's order.
 #[derive(Clone, Copy, Debug, PartialEq, Eq)]
@@ -32,51 +33,48 @@ fn move_accepts(m: &Move, symbol: &ReadSymbol) -> bool {
 }
 
 /// The least move by which an order-1 state accepts a stack with this top.
-pub fn least_move(table: &Table, one: u8, symbol: &ReadSymbol) -> Option<usize> {
-    table
-        .whole()
-        .moves_on(one, symbol.name)
-        .find(|&number| move_accepts(&table.moves()[number], symbol))
+pub fn least_move(view: View, one: u8, symbol: &ReadSymbol) -> Option<usize> {
+    let moves = view.table().moves();
+    view.moves_on(one, symbol.name)
+        .find(|&number| move_accepts(&moves[number], symbol))
 }
 
 /// The least edge by which an order-2 state accepts a stack whose top and rest
 /// are accepted by the given states: "one of its edges (r,S) has r accepting
 /// the top and S the rest".
-pub fn least_edge(table: &Table, state: u8, top: Set, rest: Set) -> Option<Edge> {
-    table
-        .whole()
-        .edges_of(state)
+pub fn least_edge(view: View, state: u8, top: Set, rest: Set) -> Option<Edge> {
+    view.edges_of(state)
         .find(|edge| has(top, edge.one) && is_part(edge.set, rest))
 }
 
 /// The order-1 states that accept a stack with this top.
-fn accept_symbol(table: &Table, symbol: &ReadSymbol) -> Set {
-    (0..table.order_one_states())
-        .filter(|&one| least_move(table, one, symbol).is_some())
+pub fn accept_symbol(view: View, symbol: &ReadSymbol) -> Set {
+    (0..view.order_one_states())
+        .filter(|&one| least_move(view, one, symbol).is_some())
         .fold(0, |set, one| set | only(one))
 }
 
 /// The order-2 states that accept a stack of this top and rest.
-fn accept_pair(table: &Table, top: Set, rest: Set) -> Set {
-    (0..table.order_two_states())
-        .filter(|&state| least_edge(table, state, top, rest).is_some())
+pub fn accept_pair(view: View, top: Set, rest: Set) -> Set {
+    (0..view.table().order_two_states())
+        .filter(|&state| least_edge(view, state, top, rest).is_some())
         .fold(0, |set, state| set | only(state))
 }
 
 /// For each cell the states that accept the stack it stands for. "An empty
 /// stack is accepted by final states only."
-pub fn accepting(table: &Table, cells: &[Cell]) -> Vec<Accepting> {
+pub fn accepting(view: View, cells: &[Cell]) -> Vec<Accepting> {
     let mut known: Vec<Accepting> = Vec::new();
     for &cell in cells {
         let at = |number: u16| known[usize::from(number)];
         let states = match cell {
-            Cell::EmptyOne => table.final_one(),
-            Cell::EmptyTwo => table.final_two(),
+            Cell::EmptyOne => view.table().final_one(),
+            Cell::EmptyTwo => view.table().final_two(),
             Cell::Symbol { name, note, rest } => {
                 let (note, rest) = (at(note), at(rest).states);
-                accept_symbol(table, &ReadSymbol { name, note, rest })
+                accept_symbol(view, &ReadSymbol { name, note, rest })
             }
-            Cell::Pair { top, rest } => accept_pair(table, at(top).states, at(rest).states),
+            Cell::Pair { top, rest } => accept_pair(view, at(top).states, at(rest).states),
         };
         let order = cell.order();
         known.push(Accepting { order, states });
@@ -85,23 +83,23 @@ pub fn accepting(table: &Table, cells: &[Cell]) -> Vec<Accepting> {
 }
 
 /// Whether the table accepts the configuration from its control.
-pub fn accepts(table: &Table, configuration: &Configuration) -> bool {
-    let mut reader = StackReader::new(table);
+pub fn accepts(view: View, configuration: &Configuration) -> bool {
+    let mut reader = StackReader::new(view);
     has(reader.two(&configuration.stack), configuration.control)
 }
 
 /// Acceptance on nested stacks. Shared parts are read once; the stacks outlive
 /// the reader's use, so an address stands for one part.
 pub struct StackReader<'a> {
-    table: &'a Table,
+    view: View<'a>,
     ones: HashMap<*const Symbol, Set>,
     twos: HashMap<*const Level, Set>,
 }
 
 impl<'a> StackReader<'a> {
-    pub fn new(table: &'a Table) -> Self {
+    pub fn new(view: View<'a>) -> Self {
         StackReader {
-            table,
+            view,
             ones: HashMap::new(),
             twos: HashMap::new(),
         }
@@ -110,7 +108,7 @@ impl<'a> StackReader<'a> {
     /// The order-1 states that accept the stack.
     pub fn one(&mut self, stack: &One) -> Set {
         let Some(symbol) = &stack.0 else {
-            return self.table.final_one();
+            return self.view.table().final_one();
         };
         if let Some(&states) = self.ones.get(&Rc::as_ptr(symbol)) {
             return states;
@@ -120,7 +118,7 @@ impl<'a> StackReader<'a> {
             note: self.note(&symbol.note),
             rest: self.one(&symbol.rest),
         };
-        let states = accept_symbol(self.table, &read);
+        let states = accept_symbol(self.view, &read);
         self.ones.insert(Rc::as_ptr(symbol), states);
         states
     }
@@ -128,14 +126,14 @@ impl<'a> StackReader<'a> {
     /// The order-2 states that accept the stack.
     pub fn two(&mut self, stack: &Two) -> Set {
         let Some(level) = &stack.0 else {
-            return self.table.final_two();
+            return self.view.table().final_two();
         };
         if let Some(&states) = self.twos.get(&Rc::as_ptr(level)) {
             return states;
         }
         let top = self.one(&level.top);
         let rest = self.two(&level.rest);
-        let states = accept_pair(self.table, top, rest);
+        let states = accept_pair(self.view, top, rest);
         self.twos.insert(Rc::as_ptr(level), states);
         states
     }

@@ -65,10 +65,6 @@ impl Both {
         Rubbish::new(length, || self.random.word() as u16)
     }
 
-    fn bytes(&mut self, length: usize) -> Rubbish<u8> {
-        Rubbish::new(length, || self.random.word() as u8)
-    }
-
     pub fn saturate(&mut self, case: &[u8]) -> (u64, u64, u64) {
         let second = self.lent.saturate(case);
         let mut moves = self.words(self.lent.moves.len());
@@ -88,7 +84,7 @@ impl Both {
         let second = self.lent.judge(case, start);
         let mut moves = self.words(self.lent.moves.len());
         let mut entries = self.words(self.lent.entries.len());
-        let mut answers = self.bytes(self.lent.answers.len());
+        let mut answers = self.halves(self.lent.answers.len());
         let proved = proved::judge(case, start, moves.lent(), entries.lent(), answers.lent());
         let agree = [
             ("tables", self.tables_agree(&moves, &entries)),

@@ -1,4 +1,5 @@
-//! The files that came with document 01, in `tests/data`.
+//! The files that came with document 01, in `tests/data`. Their listings are in
+//! its form, without what document 02 adds.
 
 use std::fs;
 use std::path::{Path, PathBuf};
@@ -61,8 +62,30 @@ pub fn larger_files() -> Vec<Vector> {
     names.map(vector).into()
 }
 
+/// A listing in document 01's form, and the round of each start marked yes,
+/// which document 02, §1, puts directly before the steps.
+pub fn without_rounds(listing: &str) -> (String, Vec<Option<usize>>) {
+    let mut text = String::new();
+    let mut rounds = Vec::new();
+    for line in listing.lines() {
+        let mut fields: Vec<&str> = line.split(' ').collect();
+        if fields[0] == "start" {
+            rounds.push((fields[2] == "yes").then(|| take_round(&mut fields)));
+        }
+        text += &(fields.join(" ") + "\n");
+    }
+    (text, rounds)
+}
+
+/// Takes the round out of `start N yes [trace|cells] ROUND STEPS CELLS`.
+fn take_round(fields: &mut Vec<&str>) -> usize {
+    let halted = matches!(fields[3], "trace" | "cells");
+    assert_eq!(fields.len(), if halted { 7 } else { 6 }, "{fields:?}");
+    fields.remove(fields.len() - 3).parse().expect("a round")
+}
+
 /// The bytes that a field of vectors.txt stands for; "an empty file is `-`".
-fn bytes_of(field: &str) -> Vec<u8> {
+pub fn bytes_of(field: &str) -> Vec<u8> {
     if field == "-" {
         return Vec::new();
     }

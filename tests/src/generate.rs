@@ -124,6 +124,22 @@ pub const SHAPES: [Shape; 7] = [
     },
 ];
 
+/// Starts whose parts are accepted in different rounds. It is no part of
+/// `SHAPES`: there are many starts for tests that walk from each.
+pub const LATE: Shape = Shape {
+    name: "late",
+    controls: 4,
+    inner_two: 1,
+    inner_one: 1,
+    symbols: 12,
+    rules: 90,
+    codes: &[1, 1, 1, 1, 5, 6, 7, 8],
+    onward: 30,
+    starts: 32,
+    cells: 60,
+    ..SMALL
+};
+
 /// Files near the limits of document 01, with runs to a planted target. It is no
 /// part of `SHAPES`: a pair takes longer.
 pub const WIDE: Shape = Shape {

@@ -44,7 +44,8 @@ pub struct Walk<'a> {
 
 /// "Each cell and each state accepting it gets the choice of least number."
 fn least_choices(table: &Table, cells: &[Cell]) -> Vec<ChosenCell> {
-    let accepting = accepting(table, cells);
+    let view = table.whole();
+    let accepting = accepting(view, cells);
     let at = |number: u16| accepting[usize::from(number)];
     let mut chosen = Vec::new();
     for (&cell, by) in cells.iter().zip(&accepting) {
@@ -55,11 +56,11 @@ fn least_choices(table: &Table, cells: &[Cell]) -> Vec<ChosenCell> {
                 Cell::Symbol { name, note, rest } => {
                     let (note, rest) = (at(note), at(rest).states);
                     let symbol = ReadSymbol { name, note, rest };
-                    let least = least_move(table, state, &symbol);
+                    let least = least_move(view, state, &symbol);
                     moves.extend(least.map(|number| (state, number)));
                 }
                 Cell::Pair { top, rest } => {
-                    let least = least_edge(table, state, at(top).states, at(rest).states);
+                    let least = least_edge(view, state, at(top).states, at(rest).states);
                     edges.extend(least.map(|edge| (state, edge)));
                 }
                 Cell::EmptyOne | Cell::EmptyTwo => {}

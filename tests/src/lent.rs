@@ -3,7 +3,7 @@
 
 use crate::services::{
     CELL_WORDS, ENTRY_WORDS, GuideReply, LISTING_CELLS, LISTING_ENTRIES, LISTING_MOVES,
-    LISTING_TRACE, MOVE_WORDS, guide, judge, saturate,
+    LISTING_TRACE, MOVE_WORDS, guide, judge, round_of_answer, saturate,
 };
 
 /// The lent slices.
@@ -11,7 +11,7 @@ use crate::services::{
 pub struct Lent {
     pub moves: Vec<u64>,
     pub entries: Vec<u64>,
-    pub answers: Vec<u8>,
+    pub answers: Vec<u16>,
     pub cells: Vec<u16>,
     pub trace: Vec<u16>,
 }
@@ -38,7 +38,7 @@ impl Lent {
     fn fill(&mut self) {
         self.moves.fill(u64::MAX);
         self.entries.fill(u64::MAX);
-        self.answers.fill(u8::MAX);
+        self.answers.fill(u16::MAX);
         self.cells.fill(u16::MAX);
         self.trace.fill(u16::MAX);
     }
@@ -70,6 +70,14 @@ impl Lent {
             &mut self.cells,
             &mut self.trace,
         )
+    }
+
+    /// The rounds that judge's words of the first starts name; the words after
+    /// them must be zero.
+    pub fn rounds(&self, starts: usize) -> Vec<Option<usize>> {
+        let (words, after) = self.answers.split_at(starts);
+        assert!(after.iter().all(|&word| word == 0));
+        words.iter().copied().map(round_of_answer).collect()
     }
 
     /// Whether the lent tables are zero.

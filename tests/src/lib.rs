@@ -1,5 +1,6 @@
 //! A second implementation of the three services and the listing of document
-//! 01, written from its sentences alone and meant for comparison in tests.
+//! 01, as document 02 changes them, written from their sentences alone and meant
+//! for comparison in tests.
 //!
 //! Speed is no aim here. Each module names the section of document 01 that it
 //! follows; quoted sentences in comments are from there.
@@ -23,6 +24,7 @@ pub mod pairs;
 pub mod plant;
 pub mod proved;
 pub mod random;
+pub mod requests;
 pub mod saturation;
 pub mod search;
 pub mod services;
@@ -30,3 +32,4 @@ pub mod sets;
 pub mod stack;
 pub mod start_file;
 pub mod table;
+pub mod won;

@@ -2,7 +2,7 @@
 //! nested stacks, cells counted, the guide's answer by document 01's sentence.
 
 use crate::automaton::accepts;
-use crate::generate::{Pair, SHAPES, Shape, pair};
+use crate::generate::{LATE, Pair, SHAPES, Shape, pair};
 use crate::random::seeds;
 use crate::search::{Bounds, Outcome, search};
 use crate::services::GuideReply::{self, Arrived, CellsShort, TraceFull};
@@ -16,6 +16,11 @@ pub fn pairs(count: u64) -> impl Iterator<Item = (String, Pair)> {
         let seeds = seeds.clone();
         seeds.map(move |seed| (format!("{} {seed}", shape.name), pair(seed, shape)))
     })
+}
+
+/// Generated pairs whose starts are won in many rounds, for many reasons.
+pub fn late_pairs() -> impl Iterator<Item = (String, Pair)> {
+    seeds(250).map(|seed| (format!("late {seed}"), pair(seed, &LATE)))
 }
 
 impl Pair {
@@ -47,7 +52,10 @@ impl Pair {
         let end = self.end_of_run(number, trace, name);
         if let Arrived { .. } = reply {
             let own = Table::new(&self.case);
-            assert!(accepts(&own, &end), "{name} start {number} is no target");
+            assert!(
+                accepts(own.whole(), &end),
+                "{name} start {number} is no target"
+            );
         }
         let used = self.cells_after(trace) as u64;
         assert_eq!(cells, used, "{name} start {number}");
@@ -89,18 +97,23 @@ pub struct Searched {
 impl Searched {
     /// No start marked no reaches the target within the bounds, and no start
     /// marked yes is one whose reachable configurations are all outside it.
-    pub fn check(&mut self, name: &str, pair: &Pair, marks: &[bool], bounds: Bounds) {
-        for (number, &mark) in marks.iter().enumerate() {
+    /// Exactly the starts in the target are won in round 0.
+    pub fn check(&mut self, name: &str, pair: &Pair, rounds: &[Option<usize>], bounds: Bounds) {
+        for (number, &round) in rounds.iter().enumerate() {
             match search(&pair.case, pair.configuration(number), bounds) {
-                Outcome::Reached(_) => {
-                    assert!(mark, "{name} start {number} reaches the target");
+                Outcome::Reached(steps) => {
+                    assert!(round.is_some(), "{name} start {number} reaches the target");
+                    assert_eq!(round == Some(0), steps == 0, "{name} start {number}");
                     self.reached += 1;
                 }
                 Outcome::Exhausted => {
-                    assert!(!mark, "{name} start {number} cannot reach the target");
+                    assert_eq!(round, None, "{name} start {number} reaches no target");
                     self.exhausted += 1;
                 }
-                Outcome::Bounded => self.bounded += 1,
+                Outcome::Bounded => {
+                    assert_ne!(round, Some(0), "{name} start {number} is no target");
+                    self.bounded += 1;
+                }
             }
         }
     }

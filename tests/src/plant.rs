@@ -22,7 +22,7 @@ pub fn plant(random: &mut Random, case: &mut Case, start: &StartFile) {
         return;
     };
     let own = Table::new(case);
-    let mut reader = StackReader::new(&own);
+    let mut reader = StackReader::new(own.whole());
     let accepting_note = reader.note(&u);
     let note = random.part_of(accepting_note.states, 50);
     case.entries.push(Entry {

@@ -26,7 +26,7 @@ unsafe extern "C" {
         moves_length: usize,
         entries: *mut u64,
         entries_length: usize,
-        answers: *mut u8,
+        answers: *mut u16,
         answers_length: usize,
     ) -> u64;
 
@@ -58,7 +58,7 @@ unsafe extern "C" {
 }
 
 /// The bytes lent for a listing.
-const LISTING_BYTES: usize = 4096;
+const LISTING_BYTES: usize = 4280;
 
 /// What the printing program prints; the bytes behind it must be zero.
 pub fn listing(case: &[u8], start: &[u8]) -> String {
@@ -104,7 +104,7 @@ pub fn judge(
     start: &[u8],
     moves: &mut [u64],
     entries: &mut [u64],
-    answers: &mut [u8],
+    answers: &mut [u16],
 ) -> u64 {
     // Safety: as above.
     unsafe {

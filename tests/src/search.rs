@@ -41,7 +41,7 @@ pub fn search(case: &Case, start: Configuration, bounds: Bounds) -> Outcome {
     for depth in 0.. {
         if level
             .iter()
-            .any(|configuration| accepts(&own, configuration))
+            .any(|configuration| accepts(own.whole(), configuration))
         {
             return Outcome::Reached(depth);
         }

@@ -1,5 +1,5 @@
 //! The three services and the listing (document 01, "Three services and their
-//! halts").
+//! halts"; document 02, §1).
 
 use crate::automaton::accepting;
 use crate::file::{Case, Refusal, StartFile, decode_case};
@@ -7,7 +7,7 @@ use crate::guide::Walk;
 use crate::saturation::saturate as saturated_table;
 use crate::sets::has;
 use crate::start_file::decode_start;
-use crate::table::{Size, Table};
+use crate::table::{Size, Table, View};
 
 /// Words of a move and of an entry in lent tables.
 pub const MOVE_WORDS: usize = 5;
@@ -92,21 +92,22 @@ fn write_entries(table: &Table, lent: &mut [u64]) {
     }
 }
 
-/// Writes 1 or 0 for each start. Answers 0 or the refusal.
+/// "Judge then writes 16 bits per start: 0 for no, otherwise that round plus 1."
+/// Answers 0 or the refusal.
 pub fn judge(
     case: &[u8],
     start: &[u8],
     moves: &mut [u64],
     entries: &mut [u64],
-    answers: &mut [u8],
+    answers: &mut [u16],
 ) -> u64 {
     moves.fill(0);
     entries.fill(0);
     answers.fill(0);
-    match marks(case, start, lent_size(moves, entries), answers.len()) {
-        Ok(marks) => {
-            for (answer, mark) in answers.iter_mut().zip(marks) {
-                *answer = mark.into();
+    match won(case, start, lent_size(moves, entries), answers.len()) {
+        Ok(rounds) => {
+            for (answer, round) in answers.iter_mut().zip(rounds) {
+                *answer = round.map_or(0, |round| round as u16 + 1);
             }
             0
         }
@@ -114,20 +115,40 @@ pub fn judge(
     }
 }
 
-/// The mark of each start, or the refusal: 1 to 6, then 8, then 9.
-fn marks(case: &[u8], start: &[u8], lent: Size, answers: usize) -> Result<Vec<bool>, Refusal> {
+/// The round that a word of judge names, if it is a yes.
+pub fn round_of_answer(answer: u16) -> Option<usize> {
+    answer.checked_sub(1).map(usize::from)
+}
+
+/// The round in which each start was won, or the refusal: 1 to 6, then 8, which
+/// counts answer words, then 9.
+fn won(case: &[u8], start: &[u8], lent: Size, answers: usize) -> Result<Won, Refusal> {
     let case = decode_case(case)?;
     let file = decode_start(start, &case)?;
     if answers < file.starts.len() {
         return Err(8);
     }
     let table = saturated_table(&case, lent).ok_or(9u64)?;
-    Ok(marks_by(&table, &file))
+    Ok(won_by(&table, &file))
 }
 
-/// The mark of each start of the file: whether the table accepts it.
-fn marks_by(table: &Table, file: &StartFile) -> Vec<bool> {
-    let accepting = accepting(table, &file.cells);
+/// For each start the round in which it was won, if it is marked yes.
+type Won = Vec<Option<usize>>;
+
+/// "The least round whose table already accepts it": the tables of all rounds
+/// are asked, each by itself.
+fn won_by(table: &Table, file: &StartFile) -> Won {
+    let marks: Vec<Vec<bool>> = (0..=table.rounds())
+        .map(|round| marks_by(table.after_round(round), file))
+        .collect();
+    (0..file.starts.len())
+        .map(|number| marks.iter().position(|marks| marks[number]))
+        .collect()
+}
+
+/// For each start of the file whether the table accepts it from its control.
+fn marks_by(view: View, file: &StartFile) -> Vec<bool> {
+    let accepting = accepting(view, &file.cells);
     let root = |at: u16| accepting[usize::from(at)].states;
     let starts = file.starts.iter();
     starts
@@ -183,7 +204,7 @@ fn walk_start(
     trace: &mut [u16],
 ) -> GuideReply {
     let number = number as usize;
-    if !marks_by(table, file)[number] {
+    if !marks_by(table.whole(), file)[number] {
         return GuideReply::NoRun;
     }
     let lent_cells = lent_cells.min(MOST_CELLS);
@@ -223,7 +244,7 @@ pub fn listing(case: &[u8], start: &[u8]) -> String {
     }
 }
 
-/// The lines of a listing that is no refusal. It lends an answer byte for each
+/// The lines of a listing that is no refusal. It lends an answer word for each
 /// start, so the refusals are those of judge without 8.
 fn listing_lines(case: &[u8], start: &[u8]) -> Result<String, Refusal> {
     let case = decode_case(case)?;
@@ -235,23 +256,24 @@ fn listing_lines(case: &[u8], start: &[u8]) -> Result<String, Refusal> {
     let table = saturated_table(&case, lent).ok_or(9u64)?;
     let (moves, entries) = (table.moves().len(), table.entries().len());
     let mut text = format!("moves {moves} entries {entries}\n");
-    for number in 0..file.starts.len() as u64 {
+    for (number, round) in (0..).zip(won_by(&table, &file)) {
         let mut trace = [0; LISTING_TRACE];
         let reply = walk_start(&case, &table, &file, number, LISTING_CELLS, &mut trace);
-        text += &format!("start {number} {}\n", listing_answer(reply));
+        text += &format!("start {number} {}\n", listing_answer(round, reply));
     }
     Ok(text)
 }
 
-/// What the listing prints for a start after its number. "The fields after yes
-/// are steps and cells; before them stands `trace` or `cells` if the walk halted
-/// so."
-pub fn listing_answer(reply: GuideReply) -> String {
-    match reply {
-        GuideReply::Refused(refusal) => unreachable!("refusal {refusal} has a line of its own"),
-        GuideReply::NoRun => "no".to_string(),
-        GuideReply::Arrived { steps, cells } => format!("yes {steps} {cells}"),
-        GuideReply::TraceFull { steps, cells } => format!("yes trace {steps} {cells}"),
-        GuideReply::CellsShort { steps, cells } => format!("yes cells {steps} {cells}"),
+/// What the listing prints for a start after its number: "the round directly
+/// before the steps", then the cells; before them all "stands `trace` or `cells`
+/// if the walk halted so". Judge's round and guide's reply agree on yes and no.
+pub fn listing_answer(round: Option<usize>, reply: GuideReply) -> String {
+    use GuideReply::{Arrived, CellsShort, NoRun, TraceFull};
+    match (round, reply) {
+        (None, NoRun) => "no".to_string(),
+        (Some(round), Arrived { steps, cells }) => format!("yes {round} {steps} {cells}"),
+        (Some(round), TraceFull { steps, cells }) => format!("yes trace {round} {steps} {cells}"),
+        (Some(round), CellsShort { steps, cells }) => format!("yes cells {round} {steps} {cells}"),
+        _ => panic!("won in round {round:?}, guided to {reply:?}"),
     }
 }

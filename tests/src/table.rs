@@ -106,11 +106,6 @@ impl Table {
         self.edges.len() as u8
     }
 
-    /// The number of order-1 states.
-    pub fn order_one_states(&self) -> u8 {
-        self.inner_one + self.entries.len() as u8
-    }
-
     /// The size after each round, from round 0 on.
     pub fn sizes(&self) -> &[Size] {
         &self.sizes
@@ -146,12 +141,22 @@ impl Table {
         View { table: self, size }
     }
 
-    /// The table of the rounds before `round`, which is not 0.
-    pub fn before_round(&self, round: usize) -> View<'_> {
+    /// The number of rounds that added something.
+    pub fn rounds(&self) -> usize {
+        self.sizes.len() - 1
+    }
+
+    /// The table after the round of this number; 0 is the case's own.
+    pub fn after_round(&self, round: usize) -> View<'_> {
         View {
             table: self,
-            size: self.sizes[round - 1],
+            size: self.sizes[round],
         }
+    }
+
+    /// The table of the rounds before `round`, which is not 0.
+    pub fn before_round(&self, round: usize) -> View<'_> {
+        self.after_round(round - 1)
     }
 }
 
@@ -167,13 +172,18 @@ impl<'a> View<'a> {
         self.table
     }
 
+    /// The number of order-1 states.
+    pub fn order_one_states(self) -> u8 {
+        self.table.inner_one + self.size.entries as u8
+    }
+
     /// The edges of an order-2 state, by (order-1 state, S).
     pub fn edges_of(self, state: u8) -> impl Iterator<Item = Edge> {
-        let ones = usize::from(self.table.inner_one) + self.size.entries;
+        let ones = self.order_one_states();
         self.table.edges[usize::from(state)]
             .iter()
             .copied()
-            .filter(move |edge| usize::from(edge.one) < ones)
+            .filter(move |edge| edge.one < ones)
     }
 
     /// The numbers of the moves of an order-1 state on a symbol, rising.

@@ -5,21 +5,24 @@
 use second::compare::Both;
 use second::generate::{Pair, WIDE, pair};
 use second::lent::Lent;
-use second::pairs::{Searched, pairs};
+use second::pairs::{Searched, late_pairs, pairs};
+use second::proved;
 use second::random::{Random, seeds};
 use second::search::Bounds;
 use second::services::GuideReply::{self, Arrived, CellsShort, NoRun, Refused, TraceFull};
-use second::services::{CELL_WORDS, ENTRY_WORDS, LISTING_ENTRIES, LISTING_MOVES, MOVE_WORDS};
+use second::services::{
+    CELL_WORDS, ENTRY_WORDS, LISTING_ENTRIES, LISTING_MOVES, MOVE_WORDS, listing,
+};
 
 /// Memory in which nearly every walk of a generated pair arrives.
 fn ample() -> Both {
     Both::new(Lent::new(LISTING_MOVES, LISTING_ENTRIES, 1024, 2048))
 }
 
-fn marks(both: &mut Both, pair: &Pair) -> Option<Vec<bool>> {
+/// The rounds in which the pair's starts were won, if judge does not refuse.
+fn rounds(both: &mut Both, pair: &Pair) -> Option<Vec<Option<usize>>> {
     let code = both.judge(&pair.case_file, &pair.start_file);
-    let answers = &both.lent.answers[..pair.start.starts.len()];
-    (code == 0).then(|| answers.iter().map(|&answer| answer == 1).collect())
+    (code == 0).then(|| both.lent.rounds(pair.start.starts.len()))
 }
 
 /// Every service on every pair. What the guide answers is checked on nested
@@ -30,15 +33,15 @@ fn generated_files() {
     let (mut taken, mut too_large, mut no_run) = ([0; 9], 0, 0);
     for (name, pair) in pairs(250) {
         both.saturate(&pair.case_file);
-        let Some(marks) = marks(&mut both, &pair) else {
+        let Some(rounds) = rounds(&mut both, &pair) else {
             assert_eq!(both.guide(&pair.case_file, &pair.start_file, 0), Refused(9));
             too_large += 1;
             continue;
         };
-        for (number, &mark) in marks.iter().enumerate() {
+        for (number, round) in rounds.iter().enumerate() {
             let reply = both.guide(&pair.case_file, &pair.start_file, number as u64);
-            assert_eq!(reply != NoRun, mark, "{name} start {number}");
-            if !mark {
+            assert_eq!(reply != NoRun, round.is_some(), "{name} start {number}");
+            if round.is_none() {
                 no_run += 1;
                 continue;
             }
@@ -47,7 +50,7 @@ fn generated_files() {
                 taken[usize::from(pair.case.rules[usize::from(rule)].code)] += 1;
             }
         }
-        let after = marks.len() as u64;
+        let after = rounds.len() as u64;
         let reply = both.guide(&pair.case_file, &pair.start_file, after);
         assert_eq!(reply, Refused(7), "{name}");
     }
@@ -55,6 +58,18 @@ fn generated_files() {
     println!("{too_large} tables too large, {no_run} starts marked no");
     assert!(taken[1..].iter().all(|&steps| steps >= 20), "{taken:?}");
     assert!(too_large >= 5 && no_run >= 500);
+}
+
+/// Judge and the listing on starts won in many rounds.
+#[test]
+fn late_starts() {
+    let mut both = ample();
+    for (name, pair) in late_pairs() {
+        both.judge(&pair.case_file, &pair.start_file);
+        let printed = proved::listing(&pair.case_file, &pair.start_file);
+        let second = listing(&pair.case_file, &pair.start_file);
+        assert_eq!(printed, second, "{name}");
+    }
 }
 
 /// Files near the limits, from a few of their starts.
@@ -66,10 +81,10 @@ fn wide_files() {
         let pair = pair(seed, &WIDE);
         let name = format!("wide {seed}");
         both.saturate(&pair.case_file);
-        let marks = marks(&mut both, &pair).unwrap_or_default();
-        for (number, &mark) in marks.iter().enumerate().take(8) {
+        let rounds = rounds(&mut both, &pair).unwrap_or_default();
+        for (number, round) in rounds.iter().enumerate().take(8) {
             let reply = both.guide(&pair.case_file, &pair.start_file, number as u64);
-            if mark {
+            if round.is_some() {
                 pair.check_run(number, reply, &both.lent.trace, &name);
                 walks += 1;
             }
@@ -98,7 +113,8 @@ fn any_lengths() {
 }
 
 /// No start marked no reaches the target within the bounds, and no start marked
-/// yes is one whose reachable configurations are all outside the target.
+/// yes is one whose reachable configurations are all outside the target. Exactly
+/// the starts in the target are won in round 0.
 #[test]
 fn marks_agree_with_the_search() {
     let bounds = Bounds {
@@ -109,10 +125,10 @@ fn marks_agree_with_the_search() {
     let mut both = ample();
     let mut searched = Searched::default();
     for (name, pair) in pairs(120) {
-        let Some(marks) = marks(&mut both, &pair) else {
+        let Some(rounds) = rounds(&mut both, &pair) else {
             continue;
         };
-        searched.check(&name, &pair, &marks, bounds);
+        searched.check(&name, &pair, &rounds, bounds);
     }
     println!("{searched:?}");
     assert!(searched.reached >= 200 && searched.exhausted >= 200);
@@ -153,7 +169,7 @@ fn every_service(lent: &Lent, pair: &Pair) {
     both.guide(&pair.case_file, &pair.start_file, 0);
 }
 
-/// Answers of every length: 8 with fewer than starts.
+/// Answer words of every number: 8 with fewer than starts.
 #[test]
 fn every_number_of_answers() {
     let mut both = ample();

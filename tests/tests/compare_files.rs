@@ -1,9 +1,9 @@
 //! The proved library against the second implementation on files that came with
-//! document 01 and on files at its limits.
+//! documents 01 and 02, on the example of `src/won.rs` and on files at the limits.
 
 use second::compare::Both;
 use second::damage::changed;
-use second::data::{Vector, bytes, larger_files, vectors};
+use second::data::{Vector, bytes, larger_files, vectors, without_rounds};
 use second::encode::{encode_case, encode_start};
 use second::file::{Case, Cell, Entry, Move, Rule, Start, StartFile};
 use second::lent::Lent;
@@ -13,26 +13,33 @@ use second::models::{
 };
 use second::proved;
 use second::random::is_long;
-use second::services::{LISTING_ENTRIES, LISTING_MOVES, MOST_CELLS, listing_answer};
+use second::requests::check_examples;
+use second::services::{LISTING_ENTRIES, LISTING_MOVES, MOST_CELLS, listing, listing_answer};
+use second::won::{EXAMPLE_WORDS, example_case, example_start};
 
-// ---- the files that came with document 01
+// ---- the files that came with documents 01 and 02
 
-/// The proved listing is this text, and the services answer as it says, guide
-/// from every `step`th start.
-fn check_listing(both: &mut Both, (case, start): (&[u8], &[u8]), step: usize, printed: &str) {
-    assert_eq!(proved::listing(case, start), printed);
+/// The proved listing is this text, which has no rounds, and the services answer
+/// as it says, judge with its rounds, guide from every `step`th start.
+fn check_listing(both: &mut Both, (case, start): (&[u8], &[u8]), step: usize, text: &str) {
+    let printed = proved::listing(case, start);
+    let (without, rounds) = without_rounds(&printed);
+    assert_eq!(without, text);
     let refusal = both.judge(case, start);
     if refusal != 0 {
         assert_eq!(printed, format!("refused {refusal}\n"));
         return;
     }
+    // A sound start file has the number of its starts at byte 3.
+    let starts = usize::from(start[3]);
+    assert_eq!(rounds, both.lent.rounds(starts));
     let (_, moves, entries) = both.saturate(case);
     let lines: Vec<&str> = printed.lines().collect();
     assert_eq!(lines[0], format!("moves {moves} entries {entries}"));
-    // A sound start file has the number of its starts at byte 3.
-    assert_eq!(lines.len(), 1 + usize::from(start[3]));
+    assert_eq!(lines.len(), 1 + starts);
     for (number, line) in lines[1..].iter().enumerate().step_by(step) {
-        let answer = listing_answer(both.guide(case, start, number as u64));
+        let reply = both.guide(case, start, number as u64);
+        let answer = listing_answer(rounds[number], reply);
         assert_eq!(*line, format!("start {number} {answer}"));
     }
 }
@@ -45,6 +52,23 @@ fn every_vector() {
         let files = (&vector.case[..], &vector.start[..]);
         check_listing(&mut both, files, 1, &vector.printed);
     }
+}
+
+#[test]
+fn every_example_of_the_requests() {
+    check_examples(proved::judge, proved::listing);
+}
+
+/// Rounds that hang on each part of a stack, and on choices that are not least.
+#[test]
+fn example_of_rounds() {
+    let case = encode_case(&example_case());
+    let start = encode_start(&example_start());
+    let mut both = Both::new(Lent::as_listing());
+    assert_eq!(both.judge(&case, &start), 0);
+    let words = EXAMPLE_WORDS.as_flattened();
+    assert_eq!(both.lent.answers[..words.len()], *words);
+    assert_eq!(proved::listing(&case, &start), listing(&case, &start));
 }
 
 /// The vector with the longest runs, with cells from too few to more than count

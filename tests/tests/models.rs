@@ -1,4 +1,5 @@
-//! The worked models of document 01 and its sentence "At the edges".
+//! The worked models of document 01, with the rounds of document 02, §1, and the
+//! sentence "At the edges".
 
 use second::file::decode_case;
 use second::lent::Lent;
@@ -7,12 +8,12 @@ use second::models::{
     start_a_with_starts,
 };
 use second::saturation::saturate;
-use second::services::GuideReply::{Arrived, NoRun, Refused};
-use second::services::{LISTING_ENTRIES, LISTING_MOVES, listing};
+use second::services::GuideReply::{Arrived, NoRun, Refused, TraceFull};
+use second::services::{LISTING_ENTRIES, LISTING_MOVES, listing, listing_answer};
 use second::table::Size;
 
-/// Judges the starts; the answers after them and the tables must be zero.
-fn marks(case: &[u8], start: &[u8], starts: usize) -> Vec<u8> {
+/// Judge's words for the starts; those after them and the tables must be zero.
+fn words(case: &[u8], start: &[u8], starts: usize) -> Vec<u16> {
     let mut lent = Lent::as_listing();
     assert_eq!(lent.judge(case, start), 0);
     assert!(lent.tables_are_zero());
@@ -70,10 +71,11 @@ fn model_a_rounds() {
     assert_eq!(table.sizes(), sizes);
 }
 
-/// "Yes, by rules 0, 1. Yes, no step. No."
+/// "Yes, by rules 0, 1. Yes, no step. No." The first is won by the move of round
+/// 2, the second is in the target.
 #[test]
 fn model_a_starts() {
-    assert_eq!(marks(&CASE_A, &START_A, 3), [1, 1, 0]);
+    assert_eq!(words(&CASE_A, &START_A, 3), [3, 1, 0]);
     assert_eq!(arrived_trace(&CASE_A, &START_A, 0, 2, 9), [0, 1]);
     assert_eq!(arrived_trace(&CASE_A, &START_A, 1, 0, 6), []);
     assert_no_run(&CASE_A, &START_A, 2);
@@ -96,32 +98,42 @@ fn model_a_with_two_moves_lent() {
 fn model_a_listing() {
     let printed = "\
 moves 3 entries 3
-start 0 yes 2 9
-start 1 yes 0 6
+start 0 yes 2 2 9
+start 1 yes 0 0 6
 start 2 no
 ";
     assert_eq!(listing(&CASE_A, &START_A), printed);
 }
 
+/// A halt's word stands before the round, which stands "directly before the
+/// steps". No walk of the vectors fills the trace.
+#[test]
+fn a_full_trace_in_the_listing() {
+    let full = TraceFull { steps: 4, cells: 7 };
+    assert_eq!(listing_answer(Some(3), full), "yes trace 3 4 7");
+}
+
 /// "Symbol 0 above 1: yes. Symbol 0 alone: no, its top is empty after the pop."
+/// Round 1 has the pop's move.
 #[test]
 fn model_b() {
-    assert_eq!(marks(&CASE_B, &START_B, 2), [1, 0]);
+    assert_eq!(words(&CASE_B, &START_B, 2), [2, 0]);
     assert_eq!(arrived_trace(&CASE_B, &START_B, 0, 1, 8), [0]);
     assert_no_run(&CASE_B, &START_B, 1);
 }
 
-/// "[[0]], a file of four cells: yes, rules 0, 1, 8 cells."
+/// "[[0]], a file of four cells: yes, rules 0, 1, 8 cells." Round 1 gives [0,{1}]
+/// by the pop, round 2 [0,empty] by the copy.
 #[test]
 fn model_c_with_one_stack() {
-    assert_eq!(marks(&CASE_C, &START_C_ONE, 1), [1]);
+    assert_eq!(words(&CASE_C, &START_C_ONE, 1), [3]);
     assert_eq!(arrived_trace(&CASE_C, &START_C_ONE, 0, 2, 8), [0, 1]);
 }
 
-/// "[[0],[0]]: yes, rule 1 alone."
+/// "[[0],[0]]: yes, rule 1 alone." Its lower stack is in the target.
 #[test]
 fn model_c_with_two_stacks() {
-    assert_eq!(marks(&CASE_C, &START_C_TWO, 1), [1]);
+    assert_eq!(words(&CASE_C, &START_C_TWO, 1), [2]);
     assert_eq!(arrived_trace(&CASE_C, &START_C_TWO, 0, 1, 5), [1]);
 }
 
@@ -131,7 +143,7 @@ fn model_c_with_two_stacks() {
 fn at_the_edges() {
     let mut lent = Lent::as_listing();
     assert_eq!(lent.judge(&CASE_A, &start_a_with_starts(64)), 0);
-    assert_eq!(lent.answers[3..], [1; 61]);
+    assert_eq!(lent.answers[3..], [3; 61]);
     assert_eq!(lent.judge(&CASE_A, &start_a_with_starts(65)), 5);
     assert_eq!(lent.saturate(&case_a_with_rules(256)), (0, 3, 3));
     assert_eq!(lent.saturate(&case_a_with_rules(257)), (1, 0, 0));

@@ -1,4 +1,5 @@
-//! Each refusal of document 01, by one change to a sound pair of files.
+//! Each refusal of document 01, by one change to a sound pair of files. Refusal 8
+//! counts the words of document 02, §1.
 
 use second::encode::{encode_case, encode_start};
 use second::file::{Case, Cell, Edge, Entry, Move, Rule, Start, StartFile};
@@ -309,7 +310,8 @@ fn the_start_named() {
     }
 }
 
-/// "Judge: fewer answer bytes than starts", before 9.
+/// Judge: fewer answer words than starts, before 9. One word for two starts is
+/// too few, although it has two bytes.
 #[test]
 fn the_answers_lent() {
     let case = encode_case(&sound_case());

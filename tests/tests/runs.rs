@@ -19,13 +19,11 @@ fn ample() -> Lent {
     Lent::new(LISTING_MOVES, LISTING_ENTRIES, MOST_CELLS, 4096)
 }
 
-/// The marks of the pair's starts, or nothing if judge refuses with 9.
-fn marks(lent: &mut Lent, pair: &Pair, name: &str) -> Option<Vec<bool>> {
+/// The rounds in which the pair's starts were won, or nothing if judge refuses
+/// with 9.
+fn rounds(lent: &mut Lent, pair: &Pair, name: &str) -> Option<Vec<Option<usize>>> {
     match lent.judge(&pair.case_file, &pair.start_file) {
-        0 => {
-            let answers = &lent.answers[..pair.start.starts.len()];
-            Some(answers.iter().map(|&answer| answer == 1).collect())
-        }
+        0 => Some(lent.rounds(pair.start.starts.len())),
         9 => None,
         other => panic!("{name}: judge refuses a sound pair with {other}"),
     }
@@ -49,10 +47,10 @@ fn generated_files_are_sound() {
 fn cells_and_stacks_are_accepted_alike() {
     for (name, pair) in pairs(100) {
         let own = Table::new(&pair.case);
-        let by_cell = accepting(&own, &pair.start.cells);
+        let by_cell = accepting(own.whole(), &pair.start.cells);
         for (number, start) in pair.start.starts.iter().enumerate() {
             let states = by_cell[usize::from(start.root)].states;
-            let accepted = accepts(&own, &pair.configuration(number));
+            let accepted = accepts(own.whole(), &pair.configuration(number));
             assert_eq!(accepted, has(states, start.control), "{name}");
         }
     }
@@ -65,13 +63,14 @@ fn traces_are_runs_to_the_target() {
     let mut lent = ample();
     let mut taken = [0; 9];
     for (name, pair) in pairs(400) {
-        let Some(marks) = marks(&mut lent, &pair, &name) else {
+        let Some(rounds) = rounds(&mut lent, &pair, &name) else {
             continue;
         };
-        for (number, &mark) in marks.iter().enumerate() {
+        for (number, round) in rounds.iter().enumerate() {
             let reply = lent.guide(&pair.case_file, &pair.start_file, number as u64);
-            assert_eq!(reply != NoRun, mark, "{name} start {number}");
-            if mark {
+            let won = round.is_some();
+            assert_eq!(reply != NoRun, won, "{name} start {number}");
+            if won {
                 pair.check_run(number, reply, &lent.trace, &name);
             }
             if let Arrived { steps, .. } = reply {
@@ -86,7 +85,8 @@ fn traces_are_runs_to_the_target() {
 }
 
 /// No start marked no reaches the target within the bounds, and no start marked
-/// yes is one whose reachable configurations are all outside the target.
+/// yes is one whose reachable configurations are all outside the target. Exactly
+/// the starts in the target are won in round 0.
 #[test]
 fn marks_agree_with_the_search() {
     let bounds = Bounds {
@@ -97,10 +97,10 @@ fn marks_agree_with_the_search() {
     let mut lent = ample();
     let mut searched = Searched::default();
     for (name, pair) in pairs(300) {
-        let Some(marks) = marks(&mut lent, &pair, &name) else {
+        let Some(rounds) = rounds(&mut lent, &pair, &name) else {
             continue;
         };
-        searched.check(&name, &pair, &marks, bounds);
+        searched.check(&name, &pair, &rounds, bounds);
     }
     println!("{searched:?}");
     assert!(searched.reached >= 500 && searched.exhausted >= 500);

@@ -1,12 +1,16 @@
-//! The vectors and the larger files that came with document 01.
+//! The vectors and the larger files that came with document 01, and the examples
+//! of document 02's requests.
 
 use second::automaton::accepts;
-use second::data::{Vector, bytes, larger_files, vectors};
+use second::data::{Vector, bytes, larger_files, vectors, without_rounds};
 use second::file::decode_case;
 use second::lent::Lent;
+use second::requests::check_examples;
 use second::saturation::saturate;
 use second::services::GuideReply::{Arrived, CellsShort};
-use second::services::{LISTING_ENTRIES, LISTING_MOVES, MOST_CELLS, listing, listing_answer};
+use second::services::{
+    LISTING_ENTRIES, LISTING_MOVES, MOST_CELLS, judge, listing, listing_answer,
+};
 use second::stack::{configuration, replay};
 use second::start_file::decode_start;
 use second::table::{Size, Table};
@@ -16,9 +20,14 @@ fn every_vector() {
     let vectors = vectors();
     assert_eq!(vectors.len(), 254);
     for vector in vectors {
-        let printed = listing(&vector.case, &vector.start);
+        let (printed, _) = without_rounds(&listing(&vector.case, &vector.start));
         assert_eq!(printed, vector.printed, "{}", vector.name);
     }
+}
+
+#[test]
+fn every_example_of_the_requests() {
+    check_examples(judge, listing);
 }
 
 /// The services answer as the listing says, and the traces of the vectors are
@@ -42,16 +51,21 @@ fn check_traces(lent: &mut Lent, vector: &Vector) {
     let case = decode_case(&vector.case).expect("a sound case");
     let file = decode_start(&vector.start, &case).expect("a sound start file");
     let own = Table::new(&case);
-    let mut lines = vector.printed.lines().skip(1);
-    for (number, start) in (0..).zip(&file.starts) {
+    let rounds = lent.rounds(file.starts.len());
+    let printed = listing(&vector.case, &vector.start);
+    let mut lines = printed.lines().skip(1);
+    for ((number, start), round) in (0..).zip(&file.starts).zip(rounds) {
         let reply = lent.guide(&vector.case, &vector.start, number);
-        let line = format!("start {number} {}", listing_answer(reply));
+        let line = format!("start {number} {}", listing_answer(round, reply));
         assert_eq!(Some(line.as_str()), lines.next(), "{name}");
         let trace = &lent.trace[..reply.steps()];
         let end = replay(&case.rules, configuration(&file, start), trace);
         let end = end.unwrap_or_else(|| panic!("{name} start {number}: no run"));
         let arrived = matches!(reply, Arrived { .. });
-        assert!(!arrived || accepts(&own, &end), "{name} start {number}");
+        assert!(
+            !arrived || accepts(own.whole(), &end),
+            "{name} start {number}"
+        );
     }
 }
 
@@ -78,7 +92,7 @@ fn more_cells_than_count() {
 #[test]
 fn every_larger_file_with_an_expected_listing() {
     for file in larger_files() {
-        let printed = listing(&file.case, &file.start);
+        let (printed, _) = without_rounds(&listing(&file.case, &file.start));
         assert_eq!(printed, file.printed, "{}", file.name);
     }
 }
@@ -109,6 +123,6 @@ fn every_larger_table() {
         let table = saturate(&case, lent).expect("a table that fits");
         let size = (table.moves().len(), table.entries().len());
         assert_eq!(size, (moves, entries), "{name}");
-        assert_eq!(table.sizes().len() - 1, rounds, "{name}");
+        assert_eq!(table.rounds(), rounds, "{name}");
     }
 }

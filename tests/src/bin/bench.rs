@@ -18,7 +18,7 @@ use second::{proved, saturation};
 const MOST_SECONDS: f64 = 20.0;
 
 type Saturate = fn(&[u8], &mut [u64], &mut [u64]) -> (u64, u64, u64);
-type Judge = fn(&[u8], &[u8], &mut [u64], &mut [u64], &mut [u8]) -> u64;
+type Judge = fn(&[u8], &[u8], &mut [u64], &mut [u64], &mut [u16]) -> u64;
 type Guide = fn(&[u8], &[u8], u64, &mut [u64], &mut [u64], &mut [u16], &mut [u16]) -> GuideReply;
 
 /// The services of one of the two.
@@ -141,7 +141,7 @@ fn print_table(name: &str, case: &[u8]) {
     let case = decode_case(case).expect("a sound case");
     let table = saturation::saturate(&case, lent).expect("a table that fits");
     let (moves, entries) = (table.moves().len(), table.entries().len());
-    let rounds = table.sizes().len() - 1;
+    let rounds = table.rounds();
     println!("{name}: moves {moves} entries {entries} rounds {rounds}");
 }
 

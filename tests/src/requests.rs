@@ -1,0 +1,105 @@
+//! The examples of document 02's requests, in `tests/data/vectors02`.
+
+use crate::data::{bytes, bytes_of};
+use crate::services::{ENTRY_WORDS, LISTING_ENTRIES, LISTING_MOVES, MOVE_WORDS};
+
+/// The last request that has landed.
+const LANDED: u64 = 1;
+
+/// The requests whose files are here, and how many lines of each hold now.
+const FILES: [(u64, usize); 1] = [(1, 20)];
+
+/// The signatures of the services that the examples call.
+pub type Judge = fn(&[u8], &[u8], &mut [u64], &mut [u64], &mut [u16]) -> u64;
+pub type Listing = fn(&[u8], &[u8]) -> String;
+
+/// A line of a request's file.
+struct Example {
+    name: String,
+    call: String,
+    arguments: Vec<(String, String)>,
+    reply: String,
+}
+
+/// The services reply as every line says whose reply holds now.
+pub fn check_examples(judge: Judge, listing: Listing) {
+    for (request, holding) in FILES {
+        let file = format!("vectors02/{request:02}.txt");
+        let text = String::from_utf8(bytes(&file)).expect("text");
+        let examples: Vec<Example> = text.lines().filter_map(example).collect();
+        assert_eq!(examples.len(), holding, "lines of {file} that hold");
+        examples.into_iter().for_each(|e| e.check(judge, listing));
+    }
+}
+
+/// A line of six fields, if its reply holds after the last request that has
+/// landed: the second field is the first and the last such request.
+fn example(line: &str) -> Option<Example> {
+    let fields: Vec<&str> = line.split('\t').collect();
+    let [_, range, call, name, arguments, reply] = fields[..] else {
+        panic!("not six fields: {line}");
+    };
+    let request = |number: &str| number.parse::<u64>().expect("a request");
+    let (from, to) = range.split_once('-').expect("two requests");
+    (request(from) <= LANDED && LANDED <= request(to)).then(|| Example {
+        name: name.to_string(),
+        call: call.to_string(),
+        arguments: arguments.split(' ').map(named).collect(),
+        reply: reply.to_string(),
+    })
+}
+
+/// `name=value`.
+fn named(argument: &str) -> (String, String) {
+    let (name, value) = argument.split_once('=').expect("a name and a value");
+    (name.to_string(), value.to_string())
+}
+
+impl Example {
+    /// The services reply as the line says.
+    fn check(mut self, judge: Judge, listing: Listing) {
+        let case = bytes_of(&self.take("case").expect("a case"));
+        let start = bytes_of(&self.take("start").expect("a start file"));
+        let reply = match self.call.as_str() {
+            "judge" => self.judge(judge, &case, &start),
+            "listing" => in_one_line(&listing(&case, &start)),
+            call => panic!("{}: the call {call} is not known", self.name),
+        };
+        assert!(self.arguments.is_empty(), "{}: not all used", self.name);
+        assert_eq!(reply, self.reply, "{}", self.name);
+    }
+
+    /// Judge's reply. "Every lent slice that is not plainly zero" is in the
+    /// line's reply, so the tables are zero.
+    fn judge(&mut self, judge: Judge, case: &[u8], start: &[u8]) -> String {
+        let moves = self.number("moves").unwrap_or(LISTING_MOVES);
+        let entries = self.number("entries").unwrap_or(LISTING_ENTRIES);
+        let answers = self.number("answers").expect("answer words");
+        let mut moves = vec![u64::MAX; moves * MOVE_WORDS];
+        let mut entries = vec![u64::MAX; entries * ENTRY_WORDS];
+        let mut answers = vec![u16::MAX; answers];
+        let code = judge(case, start, &mut moves, &mut entries, &mut answers);
+        let tables = moves.iter().chain(&entries);
+        assert!(tables.copied().all(|word| word == 0), "{}", self.name);
+        let answers: Vec<String> = answers.iter().map(u16::to_string).collect();
+        format!("code={code} answers={}", answers.join(","))
+    }
+
+    /// Takes out the argument of this name, if the line has it.
+    fn take(&mut self, name: &str) -> Option<String> {
+        let at = self.arguments.iter().position(|(n, _)| n == name)?;
+        Some(self.arguments.remove(at).1)
+    }
+
+    fn number(&mut self, name: &str) -> Option<usize> {
+        let value = self.take(name)?;
+        Some(value.parse().expect("a number"))
+    }
+}
+
+/// "In the text of a listing `|` stands for a line end and `_` for a space";
+/// the last line's end is left out.
+fn in_one_line(text: &str) -> String {
+    let text = text.strip_suffix('\n').expect("a line end");
+    format!("text={}", text.replace('\n', "|").replace(' ', "_"))
+}
