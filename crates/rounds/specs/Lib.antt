@@ -16,3 +16,4 @@ pub mod Once
 pub mod Ends
 pub mod Least
 pub mod LeastChoice
+pub mod Won
