@@ -31,7 +31,7 @@ use Rattle.services.specs.Judge.{JudgeInput, JudgeDone, judgeLent, judgeLeft, j
 use Rattle.services.specs.Judge.Laws.{JudgeCase, start-refused, answers-short, judged, judge-cases}
 use Rattle.services.specs.Guide.{GuideInput, GuideDone, accepted, guideLent, startNamed, guideWalk, guideLeft, refused, guideService}
 use Rattle.services.specs.Guide.Laws.{GuideCase, Started, start-missing, no-run, cells-short, walked, guide-cases, walk-goes}
-use Rattle.demands.specs.Reach.{configurationAt, Runs, Marks}
+use Rattle.demands.specs.Reach.{configurationAt, Runs, WonIn, Marks}
 use Rattle.demands.specs.Size.{Exceeds}
 use Rattle.demands.specs.Size.Laws.{none-exceeds, exceeds-none}
 use Rattle.demands.specs.Refusals.{Returned, refusal, StartMissing, judgeRefusals, guideRefusals}
@@ -116,7 +116,10 @@ words-within x = record { by-rounds = λ n m e. go n m e (getD (judgeService x .
   where
     marked : (n m w : ℕ) → AddsNothing (x .case) m → Marks (x .case) (x .start) n w → w ≤ suc m
     marked n m zero e k = omega arith
-    marked n m (suc r) e k = let l : r ≤ m = rounds-within (x .case) (x .start) n r (k .round r .0 refl) m e in omega arith
+    marked n m (suc r) e k =
+        let w : WonIn (x .case) (x .start) n r = k .round r .0 refl in
+        let l : r ≤ m = rounds-within (x .case) (x .start) n r w m e in
+        omega arith
 
     go : (n m : ℕ) → AddsNothing (x .case) m → (w : ℕ) → WordOf x n w → w ≤ suc m
     go n m e w no-word = omega arith
