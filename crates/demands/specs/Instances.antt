@@ -6,7 +6,7 @@ use borrow.Author.Tests.{eqb-false}
 use Rattle.services.specs.Judge.{JudgeInput}
 use Rattle.models.specs.Computing.{computed}
 use Rattle.models.specs.Files.{caseA, startA, caseC, startC}
-use Rattle.demands.specs.Reach.{Runs}
+use Rattle.demands.specs.Reach.{Runs, WonIn}
 use Rattle.demands.specs.Refusals.{Returned, judgeRefusals}
 use Rattle.demands.specs.Demand1.Proof.{demand1-judge}
 use Rattle.demands.specs.Demand2.Proof.{judge-marks}
@@ -38,6 +38,11 @@ unrefused-A = demand1-judge inputA .number
 pub run-A : Runs caseA startA 0
 unfolding computed inputA
 run-A = judge-marks inputA unrefused-A .each-mark 0 (lit< tt) .yes .0 (eqb-false 3 0 refl)
+
+-- and 3 is its word, so round 2 is the least whose table accepts it
+pub won-A : WonIn caseA startA 0 2
+unfolding computed inputA
+won-A = judge-marks inputA unrefused-A .each-mark 0 (lit< tt) .round 2 .0 refl
 
 -- start 2 of model A is marked no, so there is no run
 pub no-run-A : Runs caseA startA 2 → ⊥

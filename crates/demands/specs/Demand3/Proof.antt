@@ -27,7 +27,7 @@ use Rattle.demands.specs.Demand1.{Answered}
 use Rattle.demands.specs.Demand1.Proof.{demand1-guide}
 use Rattle.demands.specs.Demand2.{judgeFor}
 use Rattle.demands.specs.Demand2.Proof.{unrefused}
-use Rattle.demands.specs.Laws.Accepted.{accepted-runs, table-marks, answer-at, WordOf, no-word, word-of, answer-word}
+use Rattle.demands.specs.Laws.Accepted.{accepted-runs, table-marks, answer-at, WordOf, no-word, word-of, answer-word, started-runs}
 use Rattle.demands.specs.Demand3.{MarkedYes, RunArrives, AnswersRun, guideFor, Demand3, Guides}
 use Rattle.demands.specs.Demand3.Answer.{run-arrives, answers-run}
 
@@ -159,8 +159,7 @@ accepted-marked x T s a =
     go d (answers-short _ _ h) = absurd (lt-irrefl _ h)
     go d (size-exceeded _ _ _ o) = absurd (Option·none-ne-some T (sym o ∙ s .table-is))
     go d (judged U c _ _ o) =
-        let runs = accepted-runs (guideLent x) (x .start) (s .sound-case) (s .table-is) (x .number) .0 a in
-        (refl, λ z. table-marks y U c o (x .number) .yes .1 runs (sym (answer-at y U (x .number) (s .start-there)) ∙ z))
+        (refl, λ z. table-marks y U c o (x .number) .yes .1 (started-runs x T s a) (sym (answer-at y U (x .number) (s .start-there)) ∙ z))
 
 -- Where no number applies to guide's input and there is a run, judge with as many answers as starts marks the start yes.
 pub runs-marked : (x : GuideInput) → Returned guideRefusals x 0 → Runs (x .case) (x .start) (x .number)
