@@ -11,6 +11,7 @@ use Rattle.automata.specs.Acceptance
 use Rattle.automata.specs.Automaton
 use Rattle.automata.specs.Derivation
 use Rattle.automata.specs.Saturation
+use Rattle.automata.specs.Won
 
 unfoldable pub open-lists : ℕ
 unfolding Lists.each Lists.when Lists.only Lists.every Lists.some-of Lists.first Lists.placesFrom Lists.places Lists.choices
@@ -45,9 +46,13 @@ unfolding Derivation.resultKey Derivation.clash Derivation.joinMove Derivation.j
 open-derivation = 0
 
 unfoldable pub open-saturation : ℕ
-unfolding Saturation.isResult Saturation.held Saturation.isEntry Saturation.entryNumber Saturation.withEntry Saturation.add Saturation.addAll Saturation.extend Saturation.results Saturation.round Saturation.tableAfter Saturation.sizeOf Saturation.within Saturation.saturateFrom Saturation.saturate Saturation.upTo Saturation.lastUpTo Saturation.before Saturation.ownMoves
+unfolding Saturation.isResult Saturation.held Saturation.isEntry Saturation.entryNumber Saturation.withEntry Saturation.add Saturation.addAll Saturation.extend Saturation.results Saturation.round Saturation.tableAfter Saturation.sizeOf Saturation.within Saturation.saturateFrom Saturation.saturate Saturation.roundsAdded Saturation.upTo Saturation.lastUpTo Saturation.before Saturation.roundOf Saturation.ownMoves
 open-saturation = 0
 
+unfoldable pub open-won : ℕ
+unfolding Won.leastFrom Won.won1 Won.won2
+open-won = 0
+
 unfoldable pub computed : ℕ
-unfolding open-lists open-order open-sets open-stack open-system open-acceptance open-automaton open-derivation open-saturation
+unfolding open-lists open-order open-sets open-stack open-system open-acceptance open-automaton open-derivation open-saturation open-won
 computed = 0

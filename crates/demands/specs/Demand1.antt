@@ -1,5 +1,5 @@
 -- Demand 1: whatever the files and the lengths of the lent slices, a service judges them or refuses with document 01's number, and every lent
--- word then holds what that paper states. The services' contracts equate their code with the definitions; this is what the definitions
+-- word then holds what the papers state. The services' contracts equate their code with the definitions; this is what the definitions
 -- say. The proof is `demand1` in Demand1/Proof.antt.
 -- Assumes nothing.
 pub mod Proof
@@ -50,14 +50,14 @@ pub record SaturateStates (x : Lent) (d : SaturateDone) : Type 0 where
 
 -- ---- judge
 
--- "Judge writes one byte per start, 1 or 0, the rest zero."
+-- "Judge then writes 16 bits per start: 0 for no, otherwise that round plus 1", "the rest zero".
 pub record Marked (x : JudgeInput) (answers : List ℕ) : Type 0 where
   pub marks : List ℕ
   pub one-a-start : length marks ≡ length (startsOf (x .start))
   pub each-mark : (n : ℕ) → n < length (startsOf (x .start)) → Marks (x .case) (x .start) n (getD marks n 0)
   pub answers-are : answers ≡ padded (x .answers) marks
 
--- what document 01 states of judge's answer d to x
+-- what the papers state of judge's answer d to x
 pub record JudgeStates (x : JudgeInput) (d : JudgeDone) : Type 0 where
   pub number : Returned judgeRefusals x (d .code)
   pub moves-zero : d .moves ≡ zeros (x .moves)

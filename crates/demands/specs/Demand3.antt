@@ -28,11 +28,11 @@ use Rattle.demands.specs.Reach.{configurationAt}
 use Rattle.demands.specs.FullRun.{FullRun, used, Stops}
 use Rattle.demands.specs.Demand2.{judgeFor}
 
--- judge, with these files and table lengths, marks start n yes
+-- judge, with these files and table lengths, marks start n yes: its word is not 0
 pub record MarkedYes (x : JudgeInput) (n : ℕ) : Type 0 where
   pub judged : judgeService x .code ≡ 0
   pub start-there : n < length (startsOf (x .start))
-  pub yes : getD (judgeService x .answers) n 0 ≡ 1
+  pub yes : getD (judgeService x .answers) n 0 ≡ 0 → ⊥
 
 -- The full run of start n arrives: its rule numbers are a finite run of the case's rules from the start's configuration into the target.
 pub record RunArrives (case start : List ℕ) (n : ℕ) : Type 0 where

@@ -1,6 +1,6 @@
 -- The demands leave nothing open: demand 1 leaves saturate and judge one answer to each input, and demands 1 and 3 leave guide one.
 -- Assumes nothing.
-use Prim.Native.Nat.{ℕ, _≤_, _<_}
+use Prim.Native.Nat.{ℕ, zero, suc, _≤_, _<_}
 use mathlib.Core.Path.{_≡_, refl, ap, ap₂, sym, _∙_, subst}
 use mathlib.Core.List.{List}
 use native.Mathlib.Omega.{arith}
@@ -20,7 +20,7 @@ use Rattle.services.specs.Saturate.{Lent, SaturateDone, saturateService}
 use Rattle.services.specs.Judge.{JudgeInput, JudgeDone, judgeService}
 use Rattle.services.specs.Guide.{GuideInput, GuideDone, cellsLent, guideService}
 use Rattle.guidance.specs.Halt.{Reason, haltBy}
-use Rattle.demands.specs.Reach.{Runs, Marks}
+use Rattle.demands.specs.Reach.{Runs, WonIn, Marks}
 use Rattle.demands.specs.Size.Laws.{one-saturated}
 use Rattle.demands.specs.Refusals.{Returned, saturateRefusals, judgeRefusals, guideRefusals}
 use Rattle.demands.specs.Refusals.Laws.{returned-one}
@@ -68,11 +68,10 @@ saturate-only x d s = saturate-one x s (demand1-saturate x)
 
 -- ---- judge
 
--- a start has one mark
+-- a start has one word
 mark-one : (case start : List ℕ) (n a b : ℕ) → Marks case start n a → Marks case start n b → a ≡ b
-mark-one case start n a b m k = by-test (eqb a 1)
-    (λ z. eqb-true a 1 z ∙ sym (k .yes .1 (m .yes .0 (eqb-true a 1 z))))
-    (λ z. let none : Runs case start n → ⊥ = λ r. eqb-false a 1 z (m .yes .1 r) in m .no-run .1 none ∙ sym (k .no-run .1 none))
+mark-one case start n zero b m k = sym (k .no-run .1 (m .no-run .0 refl))
+mark-one case start n (suc r) b m k = let w : WonIn case start n r = m .round r .0 refl in sym (k .round r .1 w)
 
 judge-done : {d e : JudgeDone} → d .code ≡ e .code → d .moves ≡ e .moves → d .entries ≡ e .entries → d .answers ≡ e .answers → d ≡ e
 judge-done c ms es bs = λ i. record { code = c i; moves = ms i; entries = es i; answers = bs i }

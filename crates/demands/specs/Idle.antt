@@ -1,4 +1,5 @@
--- Document 01's idle programs. The answer that each gives at a worked model contradicts the demand's statement, read alone.
+-- Document 01's idle programs, and those that report another round. The answer that each gives at a worked model contradicts the demand's
+-- statement, read alone.
 -- Assumes nothing.
 use Prim.Native.Nat.{ℕ, _*_}
 use mathlib.Core.Bool.{false≢true}
@@ -8,7 +9,7 @@ use mathlib.Core.List.{List, [], _∷_, map}
 use lib.ListN.{getD}
 use lib.Dec.{lit<}
 use borrow.Author.Tests.{eqb-false}
-use Rattle.automata.specs.Saturation.{tableAfter}
+use Rattle.automata.specs.Saturation.{Saturated, sizeOf, tableAfter}
 use Rattle.replies.specs.declared.Counts.{Counts}
 use Rattle.replies.specs.declared.Halt.the-variants.{Arrived, CellsShort}
 use Rattle.replies.specs.declared.Reply.{Reply}
@@ -25,7 +26,7 @@ use Rattle.services.specs.Guide.{GuideInput, GuideDone}
 use Rattle.guidance.specs.Halt.{isArrival}
 use Rattle.models.specs.Computing.{computed}
 use Rattle.models.specs.Files.{caseA, startA, startC, caseCircle}
-use Rattle.demands.specs.Reach.{startAt}
+use Rattle.demands.specs.Reach.{startAt, configurationAt}
 use Rattle.demands.specs.Refusals.{guideRefusals}
 use Rattle.demands.specs.Refusals.Laws.{returned-one}
 use Rattle.demands.specs.FullRun.{saturatedTable, walkFrom, fullWalk, fullTrace, fullNext, FullRun}
@@ -86,7 +87,7 @@ pub untouched-done : (d : SaturateDone)
 unfolding computed lentA
 untouched-done d h s = h (ap (λ (e : SaturateDone). e .moves) (saturate-only lentA d s))
 
-pub untouched-answers : (d : JudgeDone) → (d .answers ≡ 1 ∷ 1 ∷ 0 ∷ 0 ∷ 0 ∷ [] → ⊥) → JudgeStates inputA d → ⊥
+pub untouched-answers : (d : JudgeDone) → (d .answers ≡ 3 ∷ 1 ∷ 0 ∷ 0 ∷ 0 ∷ [] → ⊥) → JudgeStates inputA d → ⊥
 unfolding computed inputA
 untouched-answers d h s = h (ap (λ (e : JudgeDone). e .answers) (judge-only inputA d s))
 
@@ -106,16 +107,37 @@ one-round-saturate d e s =
     let z : getD (d .moves) 10 0 ≡ 2 = ap (λ (x : SaturateDone). getD (x .moves) 10 0) (saturate-only lentA d s) in
     eqb-false 0 2 refl (sym (ap (λ (l : List ℕ). getD l 10 0) e) ∙ z)
 
-pub one-round-judge : (d : JudgeDone)
-    → d .answers ≡ padded 5 (map (mark (tableAfter (rulesOf caseA) (ownOf caseA) 1) startA) (startsOf startA)) → JudgeMarks inputA d → ⊥
-unfolding computed
+-- the table after round 1 as the last, with the sizes after both rounds
+unfoldable pub afterOne : Saturated
+afterOne =
+    record {
+      table = tableAfter (rulesOf caseA) (ownOf caseA) 1;
+      sizes = sizeOf (ownOf caseA) ∷ sizeOf (tableAfter (rulesOf caseA) (ownOf caseA) 1) ∷ [];
+    }
+
+pub one-round-judge : (d : JudgeDone) → d .answers ≡ padded 5 (map (mark caseA afterOne startA) (startsOf startA)) → JudgeMarks inputA d → ⊥
+unfolding computed afterOne
 one-round-judge d e m = marks-no d (ap (λ (l : List ℕ). getD l 0 0) e) m
+
+-- ---- a word that says yes alone, the round without the 1, and the round of the last table: start 0 is won in round 2, start 1 in round 0
+
+pub yes-alone : (d : JudgeDone) → getD (d .answers) 0 0 ≡ 1 → JudgeMarks inputA d → ⊥
+unfolding computed inputA configurationAt startAt
+yes-alone d e m = false≢true (m unrefused-A .each-mark 0 (lit< tt) .round 0 .0 e .accepts)
+
+pub round-alone : (d : JudgeDone) → getD (d .answers) 0 0 ≡ 2 → JudgeMarks inputA d → ⊥
+unfolding computed inputA configurationAt startAt
+round-alone d e m = false≢true (m unrefused-A .each-mark 0 (lit< tt) .round 1 .0 e .accepts)
+
+pub last-round : (d : JudgeDone) → getD (d .answers) 1 0 ≡ 3 → JudgeMarks inputA d → ⊥
+unfolding computed inputA configurationAt startAt
+last-round d e m = false≢true (sym (m unrefused-A .each-mark 1 (lit< tt) .round 2 .0 e .least 0 (lit< tt)))
 
 -- ---- "Invented steps or cells"
 
 marked-A0 : MarkedYes (judgeFor (guideA 0) 3) 0
 unfolding computed guideA judgeFor
-marked-A0 = record { judged = refl; start-there = lit< tt; yes = refl }
+marked-A0 = record { judged = refl; start-there = lit< tt; yes = eqb-false 3 0 refl }
 
 pub invents-steps : (d : GuideDone) → (d .trace ≡ 0 ∷ 1 ∷ 0 ∷ [] → ⊥) → Guides (guideA 0) d → ⊥
 unfolding computed guideA
@@ -135,7 +157,7 @@ short-before d e g = false≢true (ap isArrival (sym e ∙ run-only (guideA 0) d
 
 marked-circle : MarkedYes (judgeFor guideCircle 1) 0
 unfolding computed guideCircle judgeFor
-marked-circle = record { judged = refl; start-there = lit< tt; yes = refl }
+marked-circle = record { judged = refl; start-there = lit< tt; yes = eqb-false 3 0 refl }
 
 pub circles : (d : GuideDone) (z : Counts) → d .reply ≡ Walked (CellsShort z) → Guides guideCircle d → ⊥
 unfolding computed guideCircle isArrival

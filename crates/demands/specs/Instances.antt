@@ -2,17 +2,18 @@
 -- Assumes nothing.
 use mathlib.Core.Path.{refl}
 use lib.Dec.{lit<}
+use borrow.Author.Tests.{eqb-false}
 use Rattle.services.specs.Judge.{JudgeInput}
 use Rattle.models.specs.Computing.{computed}
 use Rattle.models.specs.Files.{caseA, startA, caseC, startC}
-use Rattle.demands.specs.Reach.{Runs}
+use Rattle.demands.specs.Reach.{Runs, WonIn}
 use Rattle.demands.specs.Refusals.{Returned, judgeRefusals}
 use Rattle.demands.specs.Demand1.Proof.{demand1-judge}
 use Rattle.demands.specs.Demand2.Proof.{judge-marks}
 use Rattle.demands.specs.Demand3.{MarkedYes, GuidedRun}
 use Rattle.demands.specs.Demand3.Proof.{demand3}
 
--- judge with tables of 17 and 7 words and five answer bytes
+-- judge with tables of 17 and 7 words and five answers
 unfoldable pub inputA : JudgeInput
 inputA = record { case = caseA; start = startA; moves = 17; entries = 7; answers = 5 }
 
@@ -22,7 +23,7 @@ inputC = record { case = caseC; start = startC; moves = 17; entries = 7; answers
 -- start 0 of model A is marked yes, so its guided run arrives, whatever tables, cells and trace are lent
 pub marked-A : MarkedYes inputA 0
 unfolding computed inputA
-marked-A = record { judged = refl; start-there = lit< tt; yes = refl }
+marked-A = record { judged = refl; start-there = lit< tt; yes = eqb-false 3 0 refl }
 
 pub guided-A : GuidedRun caseA startA 0
 unfolding inputA
@@ -36,7 +37,12 @@ unrefused-A = demand1-judge inputA .number
 -- start 0 is marked yes, so there is a run of the published system
 pub run-A : Runs caseA startA 0
 unfolding computed inputA
-run-A = judge-marks inputA unrefused-A .each-mark 0 (lit< tt) .yes .0 refl
+run-A = judge-marks inputA unrefused-A .each-mark 0 (lit< tt) .yes .0 (eqb-false 3 0 refl)
+
+-- and 3 is its word, so round 2 is the least whose table accepts it
+pub won-A : WonIn caseA startA 0 2
+unfolding computed inputA
+won-A = judge-marks inputA unrefused-A .each-mark 0 (lit< tt) .round 2 .0 refl
 
 -- start 2 of model A is marked no, so there is no run
 pub no-run-A : Runs caseA startA 2 → ⊥
@@ -46,11 +52,11 @@ no-run-A = judge-marks inputA unrefused-A .each-mark 2 (lit< tt) .no-run .0 refl
 -- start 0 of model C is marked yes, so there is a run of the published system, and its guided run arrives
 pub marked-C : MarkedYes inputC 0
 unfolding computed inputC
-marked-C = record { judged = refl; start-there = lit< tt; yes = refl }
+marked-C = record { judged = refl; start-there = lit< tt; yes = eqb-false 3 0 refl }
 
 pub run-C : Runs caseC startC 0
 unfolding computed inputC
-run-C = judge-marks inputC (demand1-judge inputC .number) .each-mark 0 (lit< tt) .yes .0 refl
+run-C = judge-marks inputC (demand1-judge inputC .number) .each-mark 0 (lit< tt) .yes .0 (eqb-false 3 0 refl)
 
 pub guided-C : GuidedRun caseC startC 0
 unfolding inputC

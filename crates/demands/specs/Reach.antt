@@ -1,8 +1,8 @@
--- A configuration reaches the target by a finite run: in document 01's words, and in the published ones; and the mark of a start.
+-- A configuration reaches the target by a finite run: in document 01's words, and in the published ones; and a start's round and word.
 -- Assumes nothing.
 pub mod Laws
-use Prim.Native.Nat.{ℕ}
-use mathlib.Core.Bool.{true}
+use Prim.Native.Nat.{ℕ, suc, _<_}
+use mathlib.Core.Bool.{true, false}
 use mathlib.Core.Path.{_≡_}
 use mathlib.Core.Logic.{_↔_}
 use mathlib.Core.List.{List, map}
@@ -10,7 +10,8 @@ use lib.ListN.{getD}
 use Rattle.stacks.specs.System.{Configuration, Rule, Run}
 use Rattle.stacks.specs.Published.{Transitions, publishedRule}
 use Rattle.automata.specs.Automaton.{Automaton}
-use Rattle.automata.specs.Acceptance.{inTarget}
+use Rattle.automata.specs.Acceptance.{accepts2, inTarget}
+use Rattle.automata.specs.Saturation.{tableAfter}
 use Rattle.files.specs.Case.{ownOf, rulesOf}
 use Rattle.files.specs.Start.{Start, startsOf, configurationOf}
 
@@ -40,7 +41,18 @@ configurationAt file n = configurationOf file (startAt file n)
 abbrev pub Runs : List ℕ → List ℕ → ℕ → Type 0
 Runs case start n = PublishedReaches (rulesOf case) (ownOf case) (configurationAt start n)
 
--- A mark says yes exactly if there is a run, and no exactly if there is none.
-pub record Marks (case start : List ℕ) (n mark : ℕ) : Type 0 where
-  pub yes : (mark ≡ 1) ↔ Runs case start n
-  pub no-run : (mark ≡ 0) ↔ (Runs case start n → ⊥)
+-- the case's table after so many rounds
+abbrev pub roundTable : List ℕ → ℕ → Automaton
+roundTable case m = tableAfter (rulesOf case) (ownOf case) m
+
+-- "The least round whose table already accepts it": start n is won in round r.
+pub record WonIn (case start : List ℕ) (n r : ℕ) : Type 0 where
+  pub accepts : accepts2 (roundTable case r) (configurationAt start n .stack) (configurationAt start n .control) ≡ true
+  pub least : (m : ℕ) → m < r → accepts2 (roundTable case m) (configurationAt start n .stack) (configurationAt start n .control) ≡ false
+
+-- "0 for no, otherwise that round plus 1": the word of start n is not 0 exactly if there is a run, 0 exactly if there is none, and r + 1
+-- exactly if r is the least round whose table accepts it.
+pub record Marks (case start : List ℕ) (n word : ℕ) : Type 0 where
+  pub yes : (word ≡ 0 → ⊥) ↔ Runs case start n
+  pub no-run : (word ≡ 0) ↔ (Runs case start n → ⊥)
+  pub round : (r : ℕ) → (word ≡ suc r) ↔ WonIn case start n r

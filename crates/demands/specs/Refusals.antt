@@ -76,7 +76,7 @@ StartOrCellWrong f =
 abbrev pub StartMissing : GuideInput → Type 0
 StartMissing x = length (startsOf (x .start)) ≤ x .number
 
--- 8: "Judge: fewer answer bytes than starts."
+-- 8: judge has fewer answers, words of 16 bits, than starts. "Refusal 8 counts these words."
 abbrev pub AnswersShort : JudgeInput → Type 0
 AnswersShort x = x .answers < length (startsOf (x .start))
 

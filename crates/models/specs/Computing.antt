@@ -29,15 +29,19 @@ unfolding Start.startBodies Start.startOf Start.cellBytes Start.startsOf Start.c
 open-start = 0
 
 unfoldable pub open-guide : ℕ
-unfolding Guide.guideLent Guide.guideFiles Guide.numberTests Guide.guideRefusal Guide.cellWords Guide.cellsLent Guide.startNamed Guide.guideWalk Guide.guideRun Guide.guideLeft Guide.refused Guide.guideAnswer Guide.guideService
+unfolding Guide.guideLent Guide.guideFiles Guide.numberTests Guide.guideRefusal Guide.cellWords Guide.cellsLent Guide.startNamed Guide.guideWalk Guide.accepted Guide.guideRun Guide.guideLeft Guide.refused Guide.guideAnswer Guide.guideService
 open-guide = 0
 
+unfoldable pub open-replies : ℕ
+unfolding Numbers.answerWord Numbers.countsOf
+open-replies = 0
+
 unfoldable pub open-judge : ℕ
-unfolding Judge.judgeLent Judge.judgeFiles Judge.answerTests Judge.judgeRefusal Judge.accepted Judge.mark Judge.judgeLeft Judge.judgeAnswer Judge.judgeService
+unfolding Judge.judgeLent Judge.judgeFiles Judge.answerTests Judge.judgeRefusal Judge.won Judge.mark Judge.judgeLeft Judge.judgeAnswer Judge.judgeService
 open-judge = 0
 
 unfoldable pub open-listing : ℕ
-unfolding Listing.ascii Listing.digitsBefore Listing.decimal Listing.listingJudge Listing.listingGuide Listing.sizeLine Listing.countsText Listing.haltText Listing.replyText Listing.replyLine Listing.startLine Listing.startLines Listing.refusedText Listing.judgedText Listing.listingText
+unfolding Listing.ascii Listing.digitsBefore Listing.decimal Listing.listingJudge Listing.listingGuide Listing.sizeLine Listing.countsText Listing.haltText Listing.replyText Listing.replyLine Listing.roundWon Listing.startLine Listing.startLines Listing.refusedText Listing.judgedText Listing.listingText
 open-listing = 0
 
 unfoldable pub open-memory : ℕ
@@ -45,7 +49,7 @@ unfolding Lists.zeros Memory.padded Memory.moveWords Memory.entryWords Memory.mo
 open-memory = 0
 
 unfoldable pub open-run : ℕ
-unfolding Numbers.countsOf Run.runGuide Run.spacedNumbers Run.numbersText Run.traceLine Run.answerText Run.runText Run.noStart Run.withDigit Run.numberNamed
+unfolding Run.runGuide Run.spacedNumbers Run.numbersText Run.traceLine Run.answerText Run.runText Run.noStart Run.withDigit Run.numberNamed
 open-run = 0
 
 unfoldable pub open-saturate : ℕ
@@ -57,5 +61,5 @@ unfolding Files.two Files.line Files.head Files.rule Files.entry Files.plain Fil
 open-files = 0
 
 unfoldable pub computed : ℕ
-unfolding open-bytes open-case open-start open-guide open-judge open-listing open-memory open-run open-saturate open-files Computing.computed
+unfolding open-bytes open-case open-start open-replies open-guide open-judge open-listing open-memory open-run open-saturate open-files Computing.computed
 computed = 0

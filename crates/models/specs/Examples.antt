@@ -1,5 +1,5 @@
--- The sentences of document 01 that are marked *, and its sentence "At the edges": a table of examples from the bytes of the files to the
--- reply and all lent memory, and one theorem that covers it. It holds by computation of the definitions.
+-- The sentences of document 01 that are marked *, its sentence "At the edges", and what document 02 states by example: a table of examples
+-- from the bytes of the files to the reply and all lent memory, and one theorem that covers it. It holds by computation of the definitions.
 -- Assumes nothing.
 use Prim.Native.Nat.{ℕ, _*_}
 use mathlib.Core.Path.{_≡_, refl}
@@ -29,7 +29,7 @@ pub data Example : Type 0 where
   -- saturate, with 17 words lent for moves (three records and two words) or 14, and 7 for entries: its code and its two numbers, then
   -- what both slices hold
   saturates : List ℕ → ℕ → ℕ → ℕ → ℕ → List ℕ → List ℕ → Example
-  -- judge, with 17 and 7 words and so many answer bytes lent: its code, and what the answers hold
+  -- judge, with 17 and 7 words and so many answers lent, words of 16 bits: its code, and what the answers hold
   judges : List ℕ → List ℕ → ℕ → ℕ → List ℕ → Example
   -- guide to the start of this number, with 17 and 7 words, 10 cells and 3 trace words lent: its reply, and what the trace holds
   guides : List ℕ → List ℕ → ℕ → Reply → List ℕ → Example
@@ -44,9 +44,9 @@ Holds (table case n A) = tableAfter (rulesOf case) (ownOf case) n ≡ A
 Holds (saturates case lent code moves entries moveWords entryWords) =
     saturateService (record { case = case; moves = lent; entries = 7 })
     ≡ record { reply = record { code = code; moves = moves; entries = entries }; moves = moveWords; entries = entryWords }
-Holds (judges case start answers code bytes) =
+Holds (judges case start answers code words) =
     judgeService (record { case = case; start = start; moves = 17; entries = 7; answers = answers })
-    ≡ record { code = code; moves = zeros 17; entries = zeros 7; answers = bytes }
+    ≡ record { code = code; moves = zeros 17; entries = zeros 7; answers = words }
 Holds (guides case start number reply trace) =
     guideService (record { case = case; start = start; number = number; moves = 17; entries = 7; cells = 10 * 68; trace = 3 })
     ≡ record { reply = reply; moves = zeros 17; entries = zeros 7; cells = zeros (10 * 68); trace = trace }
@@ -79,28 +79,31 @@ examples =
     ∷ saturates caseA 17 0 3 3
     (0 ∷ 1 ∷ 0 ∷ 0 ∷ 0 ∷ 1 ∷ 1 ∷ 2 ∷ 2 ∷ 0 ∷ 2 ∷ 0 ∷ 0 ∷ 0 ∷ 0 ∷ 0 ∷ 0 ∷ [])
     (1 ∷ 0 ∷ 0 ∷ 0 ∷ 0 ∷ 2 ∷ 0 ∷ [])
-    -- "Starts (0,5), (1,3), (0,3). Yes, by rules 0, 1. Yes, no step. No."
-    ∷ judges caseA startA 5 0 (1 ∷ 1 ∷ 0 ∷ 0 ∷ 0 ∷ [])
+    -- "Starts (0,5), (1,3), (0,3). Yes, by rules 0, 1. Yes, no step. No." Won in round 2 and in round 0: "0 for no, otherwise that round plus 1."
+    ∷ judges caseA startA 5 0 (3 ∷ 1 ∷ 0 ∷ 0 ∷ 0 ∷ [])
+    -- "Refusal 8 counts these words": three are enough for three starts, two are not.
+    ∷ judges caseA startA 3 0 (3 ∷ 1 ∷ 0 ∷ [])
+    ∷ judges caseA startA 2 8 (zeros 2)
     ∷ guides caseA startA 0 (arrived 2 9) (0 ∷ 1 ∷ 0 ∷ [])
     ∷ guides caseA startA 1 (arrived 0 6) (0 ∷ 0 ∷ 0 ∷ [])
     ∷ guides caseA startA 2 NoRun (0 ∷ 0 ∷ 0 ∷ [])
     -- "With two moves lent: 9."
     ∷ saturates caseA 14 9 0 0 (zeros 14) (zeros 7)
-    -- what the printing program prints for A
-    ∷ lists caseA startA (ascii "moves 3 entries 3\nstart 0 yes 2 9\nstart 1 yes 0 6\nstart 2 no\n")
+    -- "Model A's first start prints `start 0 yes 2 2 9`."
+    ∷ lists caseA startA (ascii "moves 3 entries 3\nstart 0 yes 2 2 9\nstart 1 yes 0 0 6\nstart 2 no\n")
     -- and `run` for each of its starts, and for one that is not in the file
-    ∷ runs caseA startA (ascii "0") (ascii "start 0 yes 2 9\n0 1\n")
-    ∷ runs caseA startA (ascii "1") (ascii "start 1 yes 0 6\n\n")
+    ∷ runs caseA startA (ascii "0") (ascii "start 0 yes 2 2 9\n0 1\n")
+    ∷ runs caseA startA (ascii "1") (ascii "start 1 yes 0 0 6\n\n")
     ∷ runs caseA startA (ascii "2") (ascii "start 2 no\n")
     ∷ runs caseA startA (ascii "18446744073709551616") (ascii "refused 7\n")
     -- "Symbol 0 above 1: yes. Symbol 0 alone: no, its top is empty after the pop."
-    ∷ judges caseB startB 2 0 (1 ∷ 0 ∷ [])
+    ∷ judges caseB startB 2 0 (2 ∷ 0 ∷ [])
     ∷ guides caseB startB 0 (arrived 1 8) (0 ∷ 0 ∷ 0 ∷ [])
     ∷ guides caseB startB 1 NoRun (0 ∷ 0 ∷ 0 ∷ [])
     -- "[[0]], a file of four cells: yes, rules 0, 1, 8 cells. [[0],[0]]: yes, rule 1 alone."
-    ∷ judges caseC startC 1 0 (1 ∷ [])
+    ∷ judges caseC startC 1 0 (3 ∷ [])
     ∷ guides caseC startC 0 (arrived 2 8) (0 ∷ 1 ∷ 0 ∷ [])
-    ∷ judges caseC startCC 1 0 (1 ∷ [])
+    ∷ judges caseC startCC 1 0 (2 ∷ [])
     ∷ guides caseC startCC 0 (arrived 1 5) (1 ∷ 0 ∷ 0 ∷ [])
     -- "At the edges: 64 starts pass, 65 give 5; 256 rules pass, 257 give 1; a cell naming itself gives 6."
     ∷ judges caseA (startsA 64) 64 0 (replicate 64 1)
@@ -115,4 +118,4 @@ examples =
 pub all-hold : AllHold examples
 unfolding computed Models.ownA Models.firstA Models.tableA
 all-hold =
-    (refl, (refl, (refl, (refl, (refl, (refl, (refl, (refl, (refl, (refl, (refl, (refl, (refl, (refl, (refl, (refl, (refl, (refl, (refl, (refl, (refl, (refl, (refl, (refl, (refl, (refl, (refl, tt)))))))))))))))))))))))))))
+    (refl, (refl, (refl, (refl, (refl, (refl, (refl, (refl, (refl, (refl, (refl, (refl, (refl, (refl, (refl, (refl, (refl, (refl, (refl, (refl, (refl, (refl, (refl, (refl, (refl, (refl, (refl, (refl, (refl, tt)))))))))))))))))))))))))))))

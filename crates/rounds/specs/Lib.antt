@@ -5,7 +5,6 @@ pub mod Kept
 pub mod Bounded
 pub mod First
 pub mod Sizes
-pub mod Won
 pub mod Before
 pub mod Limits
 pub mod Contains
@@ -17,3 +16,4 @@ pub mod Once
 pub mod Ends
 pub mod Least
 pub mod LeastChoice
+pub mod Won

@@ -4,6 +4,7 @@
 pub mod Answers
 pub mod Shown
 pub mod Laws
+pub mod Few
 use Prim.Native.Nat.{ℕ, zero, suc, max, min}
 use mathlib.Core.Bool.{Bool, true, false, _&&_}
 use mathlib.Core.List.{List, [], _∷_}

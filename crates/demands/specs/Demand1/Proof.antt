@@ -20,9 +20,9 @@ use Rattle.services.specs.Memory.{padded, moveTable, entryTable, lent}
 use Rattle.services.specs.Memory.Laws.{padded-none, length-padded, length-moveTable, length-entryTable}
 use Rattle.services.specs.Saturate.{Lent, saturated, SaturateDone, saturateRefused, saturateFilled, saturateService}
 use Rattle.services.specs.Saturate.Laws.{SaturateCase, case-refused, size-exceeded, filled, saturate-cases}
-use Rattle.services.specs.Judge.{JudgeInput, JudgeDone, judgeFiles, judgeLent, accepted, mark, judgeLeft, judgeService}
+use Rattle.services.specs.Judge.{JudgeInput, JudgeDone, judgeFiles, judgeLent, mark, judgeLeft, judgeService}
 use Rattle.services.specs.Judge.Laws.{JudgeCase, start-refused, answers-short, judged, judge-cases}
-use Rattle.services.specs.Guide.{GuideInput, GuideDone, guideFiles, guideLent, startNamed, guideWalk, guideLeft, refused, guideService}
+use Rattle.services.specs.Guide.{GuideInput, GuideDone, accepted, guideFiles, guideLent, startNamed, guideWalk, guideLeft, refused, guideService}
 use Rattle.services.specs.Guide.Laws.{GuideCase, Started, start-missing, no-run, cells-short, walked, guide-cases, walk-goes, walk-short}
 use Rattle.demands.specs.Size.{Exceeds}
 use Rattle.demands.specs.Size.Laws.{saturated-table, none-exceeds, exceeds-none}
@@ -132,16 +132,16 @@ module _ (x : JudgeInput) where
       go d (JudgeCase.size-exceeded s f h o) =
           judge-refused 9 (eqb-false 9 0 refl) (past-files x (λ y. y .case) judgeFiles answerLines 9 s f (enough-judge 9 h (size-applies judgeLent x s o)))
       go d (judged T s f h o) =
-          let starts = length-map (startsOf (x .start)) (mark (T .table) (x .start)) in
+          let starts = length-map (startsOf (x .start)) (mark (x .case) T (x .start)) in
           record {
             number = past-files x (λ y. y .case) judgeFiles answerLines 0 s f (enough-judge 0 h (size-passes judgeLent x s o));
             moves-zero = refl;
             entries-zero = refl;
             answers-length = length-padded (x .answers) _ (rw starts h);
             done = λ _. record {
-              marks = map (mark (T .table) (x .start)) (startsOf (x .start));
+              marks = map (mark (x .case) T (x .start)) (startsOf (x .start));
               one-a-start = starts;
-              each-mark = λ n l. rw (mark-at (T .table) (x .start) n l) (table-marks x T s o n);
+              each-mark = λ n l. rw (mark-at (x .case) T (x .start) n l) (table-marks x T s o n);
               answers-are = refl;
             };
             refused = λ z. absurd (z refl);

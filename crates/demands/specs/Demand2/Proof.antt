@@ -1,46 +1,51 @@
--- Demand 2, proved: marks and runs by what demand 1 says of each answer, and 9 by the size of the saturated table.
+-- Demand 2, proved: words and runs by what demand 1 says of each answer, rounds by those that add no move, and 9 by the size of the saturated
+-- table.
 -- Assumes nothing.
-use Prim.Native.Nat.{ℕ, _<_}
+use Prim.Native.Nat.{ℕ, zero, suc, _≤_, _<_}
 use mathlib.Core.Path.{_≡_, refl, ap, sym, _∙_, subst}
 use mathlib.Core.Logic.{_↔_}
 use mathlib.Core.Option.{Option, none, some, Option·none-ne-some}
 use native.Mathlib.Nat.{lt-irrefl, lt-of-lt-of-le}
 use native.Mathlib.Omega.{arith}
-use mathlib.Core.Bool.{true}
+use mathlib.Core.Bool.{true, false≢true}
 use mathlib.Core.List.{List}
-use lib.ListN.{length, getD, List·getD-append}
-use lib.Dec.{leb}
-use borrow.Author.Tests.{eqb-false, leb-true, leb-false}
+use lib.ListN.{length, getD}
+use lib.Dec.{leb, ltb}
+use borrow.Author.Tests.{eqb-false, leb-true, leb-false, ltb-true, ltb-false}
 use Rattle.words.specs.Laws.Tests.{by-test}
+use Rattle.automata.specs.Automaton.{Automaton}
+use Rattle.automata.specs.Acceptance.{accepts2}
 use Rattle.automata.specs.Saturation.{Saturated}
+use Rattle.rounds.specs.Won.Few.{after-still}
 use Rattle.replies.specs.declared.Halt.{Halt}
 use Rattle.replies.specs.declared.Reply.{Reply}
 use Rattle.replies.specs.declared.Reply.the-variants.{Refused, NoRun, Walked}
 use Rattle.replies.specs.Numbers.{refusalOf}
 use Rattle.walks.specs.Guide.{Report, walkedBy, noRun}
+use Rattle.files.specs.Case.{ownOf, rulesOf}
 use Rattle.files.specs.Start.{startsOf}
-use Rattle.services.specs.Memory.{padded}
+use Rattle.services.specs.Memory.Laws.{getD-padded}
 use Rattle.services.specs.Saturate.{Lent, SaturateDone, saturated, saturateRefused, saturateFilled, saturateService}
 use Rattle.services.specs.Saturate.Laws.{SaturateCase, case-refused, size-exceeded, filled, saturate-cases}
-use Rattle.services.specs.Judge.{JudgeInput, JudgeDone, judgeLent, accepted, judgeLeft, judgeService}
+use Rattle.services.specs.Judge.{JudgeInput, JudgeDone, judgeLent, judgeLeft, judgeService}
 use Rattle.services.specs.Judge.Laws.{JudgeCase, start-refused, answers-short, judged, judge-cases}
-use Rattle.services.specs.Guide.{GuideInput, GuideDone, guideLent, startNamed, guideWalk, guideLeft, refused, guideService}
+use Rattle.services.specs.Guide.{GuideInput, GuideDone, accepted, guideLent, startNamed, guideWalk, guideLeft, refused, guideService}
 use Rattle.services.specs.Guide.Laws.{GuideCase, Started, start-missing, no-run, cells-short, walked, guide-cases, walk-goes}
-use Rattle.demands.specs.Reach.{Runs}
+use Rattle.demands.specs.Reach.{configurationAt, Runs, WonIn, Marks}
 use Rattle.demands.specs.Size.{Exceeds}
 use Rattle.demands.specs.Size.Laws.{none-exceeds, exceeds-none}
 use Rattle.demands.specs.Refusals.{Returned, refusal, StartMissing, judgeRefusals, guideRefusals}
 use Rattle.demands.specs.Refusals.Laws.{returned-one, unreturned}
 use Rattle.demands.specs.Demand1.{JudgeStates, Answered}
 use Rattle.demands.specs.Demand1.Proof.{demand1-judge, demand1-guide}
-use Rattle.demands.specs.Demand2.{judgeFor, JudgeMarks, GuideRuns, Demand2, SaturateSize, JudgeSize, GuideSize, Demand2Size}
+use Rattle.demands.specs.Demand2.{judgeFor, JudgeMarks, GuideRuns, Demand2, AddsNothing, RoundsWithin, WordsWithin, Demand2Rounds, SaturateSize, JudgeSize, GuideSize, Demand2Size}
+use Rattle.demands.specs.Laws.Accepted.{table-marks, WordOf, no-word, word-of, answer-word, answer-small}
 use Rattle.demands.specs.Demand3.Answer.{walk-report}
 
 -- ---- judge
 
--- what demand 1 says of an answer gives the marks
+-- what demand 1 says of an answer gives the words
 states-marks : (x : JudgeInput) (d : JudgeDone) → JudgeStates x d → JudgeMarks x d
-unfolding padded
 states-marks x d s r =
     let z : d .code ≡ 0 = returned-one judgeRefusals x (s .number) r in
     let m = s .done z in
@@ -48,7 +53,7 @@ states-marks x d s r =
       judged = z;
       each-mark = λ n l.
           let e : getD (d .answers) n 0 ≡ getD (m .marks) n 0 =
-          ap (λ (w : List ℕ). getD w n 0) (m .answers-are) ∙ List·getD-append (m .marks) _ 0 n (rw (m .one-a-start) l) in
+          ap (λ (w : List ℕ). getD w n 0) (m .answers-are) ∙ getD-padded (x .answers) (m .marks) n in
           rw e (m .each-mark n l);
     }
 
@@ -94,6 +99,34 @@ guide-runs x r =
 
 pub demand2 : Demand2
 demand2 = (judge-marks, guide-runs)
+
+-- ---- rounds
+
+pub rounds-within : RoundsWithin
+rounds-within case start n r w m e =
+    by-test (ltb m r)
+    (λ l.
+    let h : m < r = ltb-true m r l in
+    let same = ap (λ (A : Automaton). accepts2 A (configurationAt start n .stack) (configurationAt start n .control)) (after-still (rulesOf case) (ownOf case) m r (omega arith) e) in
+    absurd (false≢true (sym (w .least m h) ∙ sym same ∙ w .accepts)))
+    (λ l. ltb-false m r l)
+
+pub words-within : (x : JudgeInput) → WordsWithin (x .case) (judgeService x .answers)
+words-within x = record { by-rounds = λ n m e. go n m e (getD (judgeService x .answers) n 0) (answer-word x n); by-moves = answer-small x }
+  where
+    marked : (n m w : ℕ) → AddsNothing (x .case) m → Marks (x .case) (x .start) n w → w ≤ suc m
+    marked n m zero e k = omega arith
+    marked n m (suc r) e k =
+        let w : WonIn (x .case) (x .start) n r = k .round r .0 refl in
+        let l : r ≤ m = rounds-within (x .case) (x .start) n r w m e in
+        omega arith
+
+    go : (n m : ℕ) → AddsNothing (x .case) m → (w : ℕ) → WordOf x n w → w ≤ suc m
+    go n m e w no-word = omega arith
+    go n m e w (word-of T s f o) = marked n m _ e (table-marks x T s o n)
+
+pub demand2-rounds : Demand2Rounds
+demand2-rounds = (rounds-within, words-within)
 
 -- ---- refusal for size
 

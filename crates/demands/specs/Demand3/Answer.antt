@@ -28,8 +28,7 @@ use Rattle.files.specs.Start.Laws.{start-facts, start-cells}
 use Rattle.services.specs.Memory.{lent}
 use Rattle.services.specs.Memory.Laws.{padded-none}
 use Rattle.services.specs.Saturate.{saturated}
-use Rattle.services.specs.Judge.{accepted}
-use Rattle.services.specs.Guide.{GuideInput, GuideDone, guideFiles, guideLent, cellsLent, startNamed, guideWalk, guideLeft}
+use Rattle.services.specs.Guide.{GuideInput, GuideDone, accepted, guideFiles, guideLent, cellsLent, startNamed, guideWalk, guideLeft}
 use Rattle.services.specs.Guide.Laws.{Started, walk-goes, walk-short}
 use Rattle.guidance.specs.Run.{trace-take}
 use Rattle.guidance.specs.Halt

@@ -8,17 +8,15 @@ use mathlib.Core.List.{List}
 use native.Mathlib.Nat.{lt-irrefl, lt-of-lt-of-le}
 use lib.ListN.{length, getD}
 use borrow.Author.Tests.{eqb-false}
-use Rattle.words.specs.Laws.Tests.{by-test}
-use Rattle.automata.specs.Automaton.{Automaton}
 use Rattle.automata.specs.Saturation.{Saturated}
 use Rattle.replies.specs.Numbers.{refusalOf}
 use Rattle.walks.specs.Guide.{Report, walkedBy, noRun}
 use Rattle.files.specs.Case.{caseRefusal}
-use Rattle.files.specs.Start.{Start, startRefusal, startsOf}
+use Rattle.files.specs.Start.{startRefusal, startsOf}
 use Rattle.services.specs.Saturate.{saturated}
-use Rattle.services.specs.Judge.{JudgeInput, JudgeDone, judgeLent, judgeFiles, accepted, mark, judgeLeft, judgeService}
+use Rattle.services.specs.Judge.{JudgeInput, JudgeDone, judgeLent, judgeFiles, judgeLeft, judgeService}
 use Rattle.services.specs.Judge.Laws.{JudgeCase, case-refused, start-refused, answers-short, size-exceeded, judged, judge-cases}
-use Rattle.services.specs.Guide.{GuideInput, GuideDone, guideFiles, guideLent, startNamed, guideWalk, guideLeft, refused, guideService}
+use Rattle.services.specs.Guide.{GuideInput, GuideDone, accepted, guideFiles, guideLent, startNamed, guideWalk, guideLeft, refused, guideService}
 use Rattle.services.specs.Guide.Laws.{GuideCase, Started, start-missing, no-run, cells-short, walked, guide-cases, walk-goes, walk-short}
 use Rattle.demands.specs.Reach.{startAt, Runs}
 use Rattle.demands.specs.Refusals.{Returned, guideRefusals}
@@ -29,16 +27,11 @@ use Rattle.demands.specs.Demand1.{Answered}
 use Rattle.demands.specs.Demand1.Proof.{demand1-guide}
 use Rattle.demands.specs.Demand2.{judgeFor}
 use Rattle.demands.specs.Demand2.Proof.{unrefused}
-use Rattle.demands.specs.Laws.Accepted.{answer-at}
+use Rattle.demands.specs.Laws.Accepted.{accepted-runs, table-marks, answer-at, WordOf, no-word, word-of, answer-word, started-runs}
 use Rattle.demands.specs.Demand3.{MarkedYes, RunArrives, AnswersRun, guideFor, Demand3, Guides}
 use Rattle.demands.specs.Demand3.Answer.{run-arrives, answers-run}
 
 -- ---- the table that judge and guide share
-
--- a mark of 1 is given to what is accepted
-mark-accepted : (A : Automaton) (file : List ℕ) (s : Start) → mark A file s ≡ 1 → accepted A file s ≡ true
-unfolding mark
-mark-accepted A file s e = by-test (accepted A file s) (λ h. h) (λ h. absurd (eqb-false 0 1 refl (rw (mark, h) at e)))
 
 -- the table of a start marked yes, which accepts it
 record Basis (x : JudgeInput) (n : ℕ) : Type 0 where
@@ -50,22 +43,19 @@ record Basis (x : JudgeInput) (n : ℕ) : Type 0 where
   start-accepted : accepted (table .table) (x .start) (startAt (x .start) n) ≡ true
 
 basis : (x : JudgeInput) (n : ℕ) → MarkedYes x n → Basis x n
-unfolding judgeLeft
-basis x n y = go (judgeService x) (judge-cases x) (y .judged) (y .yes)
+unfolding judgeLent
+basis x n y = go (getD (judgeService x .answers) n 0) (answer-word x n) (y .yes)
   where
-    go : (d : JudgeDone) → JudgeCase x d → d .code ≡ 0 → getD (d .answers) n 0 ≡ 1 → Basis x n
-    go d (case-refused bad) z m = absurd (bad z)
-    go d (start-refused s bad) z m = absurd (bad z)
-    go d (answers-short s f h) z m = absurd (eqb-false 8 0 refl z)
-    go d (size-exceeded s f h o) z m = absurd (eqb-false 9 0 refl z)
-    go d (judged T s f h o) z m =
+    go : (w : ℕ) → WordOf x n w → (w ≡ 0 → ⊥) → Basis x n
+    go w no-word h = absurd (h refl)
+    go w (word-of T s f o) h =
         record {
           table = T;
           sound-case = s;
           sound-start = f;
           start-there = y .start-there;
           table-is = o;
-          start-accepted = mark-accepted (T .table) (x .start) (startAt (x .start) n) (sym (answer-at x (T .table) n (y .start-there)) ∙ m);
+          start-accepted = accepted-runs (judgeLent x) (x .start) s o n .1 (table-marks x T s o n .yes .0 h);
         }
 
 -- ---- guide's answer for that start
@@ -152,11 +142,6 @@ guides x answers y =
 
 -- ---- a start with a run
 
--- what is accepted is given a mark of 1
-accepted-mark : (A : Automaton) (file : List ℕ) (s : Start) → accepted A file s ≡ true → mark A file s ≡ 1
-unfolding mark
-accepted-mark A file s e = rw (mark, e)
-
 -- judge with as many answers as starts marks an accepted start yes
 accepted-marked : (x : GuideInput) (T : Saturated) → Started x T → accepted (T .table) (x .start) (startNamed x) ≡ true
     → MarkedYes (judgeFor x (length (startsOf (x .start)))) (x .number)
@@ -168,15 +153,13 @@ accepted-marked x T s a =
     y : JudgeInput
     y = judgeFor x (length (startsOf (x .start)))
 
-    go : (d : JudgeDone) → JudgeCase y d → (d .code ≡ 0) × (getD (d .answers) (x .number) 0 ≡ 1)
+    go : (d : JudgeDone) → JudgeCase y d → (d .code ≡ 0) × (getD (d .answers) (x .number) 0 ≡ 0 → ⊥)
     go d (case-refused bad) = absurd (bad (s .sound-case))
     go d (start-refused _ bad) = absurd (bad (s .sound-start))
     go d (answers-short _ _ h) = absurd (lt-irrefl _ h)
     go d (size-exceeded _ _ _ o) = absurd (Option·none-ne-some T (sym o ∙ s .table-is))
-    go d (judged U _ _ _ o) =
-        let e : T ≡ U = Option·some-injective T U (sym (s .table-is) ∙ o) in
-        let b = ap (λ (z : Saturated). accepted (z .table) (x .start) (startAt (x .start) (x .number))) (sym e) ∙ a in
-        (refl, answer-at y (U .table) (x .number) (s .start-there) ∙ accepted-mark (U .table) (x .start) (startAt (x .start) (x .number)) b)
+    go d (judged U c _ _ o) =
+        (refl, λ z. table-marks y U c o (x .number) .yes .1 (started-runs x T s a) (sym (answer-at y U (x .number) (s .start-there)) ∙ z))
 
 -- Where no number applies to guide's input and there is a run, judge with as many answers as starts marks the start yes.
 pub runs-marked : (x : GuideInput) → Returned guideRefusals x 0 → Runs (x .case) (x .start) (x .number)

@@ -1,11 +1,11 @@
--- How long the words of lent memory are.
+-- How long the words of lent memory are, and where they stand.
 -- Assumes nothing.
-use Prim.Native.Nat.{ℕ, suc, _+_, _-_, _*_, _≤_}
+use Prim.Native.Nat.{ℕ, zero, suc, _+_, _-_, _*_, _≤_}
 use mathlib.Core.Path.{_≡_, refl, ap, sym, _∙_}
 use mathlib.Core.List.{List, [], _∷_, _++_}
 use native.Mathlib.Nat.{zero-mul, suc-mul, sub-zero}
 use native.Mathlib.Omega.{arith}
-use lib.ListN.{length, length-append}
+use lib.ListN.{length, getD, length-append}
 use Rattle.words.specs.Lists.{each, zeros}
 use Rattle.words.specs.Lists.Laws.{length-zeros}
 use Rattle.automata.specs.Automaton.{Automaton}
@@ -20,6 +20,19 @@ unfolding padded
 length-padded n ws h =
     let e : length (padded n ws) ≡ length ws + (n - length ws) = length-append ws (zeros (n - length ws)) ∙ ap (λ (k : ℕ). length ws + k) (length-zeros (n - length ws)) in
     omega arith
+
+-- zeros behind words change none, as there is 0 past their end
+getD-zeros : (ws : List ℕ) (k i : ℕ) → getD (ws ++ zeros k) i 0 ≡ getD ws i 0
+unfolding zeros
+getD-zeros [] zero i = refl
+getD-zeros [] (suc k) zero = refl
+getD-zeros [] (suc k) (suc i) = getD-zeros [] k i
+getD-zeros (w ∷ ws) k zero = refl
+getD-zeros (w ∷ ws) k (suc i) = getD-zeros ws k i
+
+pub getD-padded : (n : ℕ) (ws : List ℕ) (i : ℕ) → getD (padded n ws) i 0 ≡ getD ws i 0
+unfolding padded
+getD-padded n ws i = getD-zeros ws (n - length ws) i
 
 -- records of one size, one after another
 length-each : {A : Type 0} (k : ℕ) (f : A → List ℕ) (l : List A) → ((x : A) → length (f x) ≡ k) → length (each l f) ≡ length l * k
