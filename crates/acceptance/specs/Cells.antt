@@ -1,23 +1,20 @@
--- The states that accept each cell of a start file, one word a cell.
+-- Since when each cell of a start file is accepted from each state.
 -- Assumes nothing.
 pub mod Body
 pub mod Laws
 pub mod Turns
-use Prim.Native.Nat.{ℕ}
-use mathlib.Core.List.{List, []}
-use lib.ListN.{getD}
-use Rattle.automata.specs.Automaton.{Automaton, edges}
-use Rattle.walks.specs.Cell.{Cell, empty1, symbol, empty2, above}
+use Prim.Native.Nat.{ℕ, _+_, _*_, _≤_, _<_}
+use mathlib.Core.Path.{_≡_}
+use mathlib.Core.List.{List}
+use lib.ListN.{length, getD}
+use Rattle.replies.specs.declared.Acceptance.{Acceptance}
+use Rattle.replies.specs.Numbers.{answerWord}
+use Rattle.automata.specs.Automaton.{edges}
+use Rattle.automata.specs.Saturation.{Saturated}
+use Rattle.rounds.specs.Won.{finalRound, symbolRound, aboveRound, roundOfStack}
+use Rattle.walks.specs.Cell.{Cell, empty1, symbol, empty2, above, stacks, stackAt}
 use Rattle.walks.specs.Cell.Formed.{orderAt}
-use Rattle.walks.specs.Cell.Values.{pass}
-use Rattle.acceptance.specs.Words.{moveMet, edgeMet, statesMet}
-
--- the states that accept a cell, by the words of the cells before it
-unfoldable pub cellWord : Automaton → List Cell → List ℕ → Cell → ℕ
-cellWord A cells ws empty1 = A .final1
-cellWord A cells ws (symbol a u s) = statesMet (λ m. m .state) (moveMet a (orderAt cells u) (getD ws u 0) (getD ws s 0)) (A .moves)
-cellWord A cells ws empty2 = A .final2
-cellWord A cells ws (above w t) = statesMet (λ e. e .state) (edgeMet (getD ws w 0) (getD ws t 0)) (edges A)
+use Rattle.acceptance.specs.Rows.{roundIn}
 
 -- the order of the annotation of a symbol
 unfoldable pub annotationOrderAt : List Cell → Cell → ℕ
@@ -26,13 +23,22 @@ annotationOrderAt cells (symbol a u s) = orderAt cells u
 annotationOrderAt cells empty2 = 0
 annotationOrderAt cells (above w t) = 0
 
--- the states that accept a cell, by the words of the cells before it, where a symbol's annotation is of order k
-unfoldable pub wordBy : Automaton → ℕ → List ℕ → Cell → ℕ
-wordBy A k ws empty1 = A .final1
-wordBy A k ws (symbol a u s) = statesMet (λ m. m .state) (moveMet a k (getD ws u 0) (getD ws s 0)) (A .moves)
-wordBy A k ws empty2 = A .final2
-wordBy A k ws (above w t) = statesMet (λ e. e .state) (edgeMet (getD ws w 0) (getD ws t 0)) (edges A)
+-- the cell refers to cells before cell n
+abbrev pub PartsBelow : ℕ → Cell → Type 0
+PartsBelow n empty1 = Unit {0}
+PartsBelow n (symbol a u s) = (u < n) × (s < n)
+PartsBelow n empty2 = Unit {0}
+PartsBelow n (above w t) = (w < n) × (t < n)
 
--- the words of all cells
-unfoldable pub cellWords : Automaton → List Cell → List ℕ
-cellWords A cells = pass (cellWord A cells) [] cells
+-- since when a cell is accepted from state q, by the words of the cells that it refers to, where a symbol's annotation is of order k
+unfoldable pub cellRound : Saturated → ℕ → List ℕ → Cell → ℕ → Acceptance
+cellRound T k rounds empty1 q = finalRound (T .table .final1) q
+cellRound T k rounds (symbol a u s) q = symbolRound (T .sizes) a k (roundIn rounds u) (roundIn rounds s) (T .table .moves) q
+cellRound T k rounds empty2 q = finalRound (T .table .final2) q
+cellRound T k rounds (above w t) q = aboveRound (roundIn rounds w) (roundIn rounds t) (edges (T .table)) q
+
+-- The words of the first n cells say since when their stacks are accepted, and all others are as they were.
+pub record RoundsFilled (T : Saturated) (cells : List Cell) (before after : List ℕ) (n : ℕ) : Type 0 where
+  pub long : length after ≡ length before
+  pub filled : (i q : ℕ) → i < n → q < 64 → getD after (i * 64 + q) 0 ≡ answerWord (roundOfStack T (stackAt (stacks cells) i) q)
+  pub others : (x : ℕ) → n * 64 ≤ x → getD after x 0 ≡ getD before x 0

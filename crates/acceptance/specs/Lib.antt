@@ -1,6 +1,5 @@
-pub mod Words
-pub mod Cells
+pub mod Rows
 pub mod Named
-pub mod WrittenBelow
+pub mod Cells
 pub mod Table
 pub mod Laws

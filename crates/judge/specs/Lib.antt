@@ -1,2 +1,3 @@
+pub mod WrittenBelow
 pub mod Marks
 pub mod Service

@@ -5,6 +5,7 @@ pub mod Kept
 pub mod Bounded
 pub mod First
 pub mod Sizes
+pub mod RoundOf
 pub mod Before
 pub mod Limits
 pub mod Contains

@@ -1,45 +1,41 @@
--- The word of a cell by value, by the words of the cells before it.
+-- The words of a cell by value.
 -- Assumes nothing.
-use Prim.Native.Nat.{ℕ, _≤_, _<_}
-use mathlib.Core.Path.{_≡_, sym}
+use Prim.Native.Nat.{ℕ, _<_}
+use mathlib.Core.Path.{_≡_, sym, subst}
 use mathlib.Core.List.{List}
-use native.Mathlib.Omega.{arith}
-use lib.ListN.{length, getD, take, List·getD-eq-default}
-use lib.Seq.{getD-take, length-take-le}
-use Rattle.automata.specs.Automaton.{Automaton, edges}
+use Rattle.automata.specs.Automaton.{edges}
+use Rattle.automata.specs.Saturation.{Saturated}
+use Rattle.rounds.specs.Won.{finalRound, symbolRound, aboveRound}
 use Rattle.cell_memory.specs.declared.Cell.{Cell}
 use Rattle.cell_memory.specs.declared.Cell.the-variants.{Empty1, Symbol, Empty2, Above}
 use Rattle.cell_memory.specs.Memory.{cellOf}
-use Rattle.acceptance.specs.Words.{moveMet, edgeMet, statesMet}
-use Rattle.acceptance.specs.Cells.{wordBy}
+use Rattle.acceptance.specs.Rows.{roundIn, RowPut}
+use Rattle.acceptance.specs.Cells.{PartsBelow, cellRound}
 
--- ---- the word of an earlier cell
+module _ {c : Cell} {n : ℕ} where
+  pub parts-symbol : (a u s : ℕ) → c ≡ Symbol a u s → PartsBelow n (cellOf c) → (u < n) × (s < n)
+  unfolding cellOf
+  parts-symbol a u s e = subst (λ (d : Cell). PartsBelow n (cellOf d)) e
 
-pub word-there : (ws : List ℕ) (n i : ℕ) → i < n → getD ws i 0 ≡ getD (take n ws) i 0
-word-there ws n i h = sym (getD-take n ws i 0 h)
+  pub parts-above : (w t : ℕ) → c ≡ Above w t → PartsBelow n (cellOf c) → (w < n) × (t < n)
+  unfolding cellOf
+  parts-above w t e = subst (λ (d : Cell). PartsBelow n (cellOf d)) e
 
-pub word-none : (ws : List ℕ) (n i : ℕ) → n ≤ length ws → n ≤ i → 0 ≡ getD (take n ws) i 0
-word-none ws n i h l =
-    let e : length (take n ws) ≡ n = length-take-le n ws h in
-    sym (List·getD-eq-default (take n ws) 0 {n = i} (omega arith))
+module _ (T : Saturated) (k : ℕ) {b : List ℕ} {i : ℕ} {c : Cell} {now : List ℕ} where
+  pub by-empty1 : c ≡ Empty1 → RowPut b i (finalRound (T .table .final1)) now → RowPut b i (cellRound T k b (cellOf c)) now
+  unfolding cellRound cellOf
+  by-empty1 e = subst (λ (d : Cell). RowPut b i (cellRound T k b (cellOf d)) now) (sym e)
 
--- ---- the word of a cell by value
+  pub by-symbol : (a u s : ℕ) → c ≡ Symbol a u s → RowPut b i (symbolRound (T .sizes) a k (roundIn b u) (roundIn b s) (T .table .moves)) now
+      → RowPut b i (cellRound T k b (cellOf c)) now
+  unfolding cellRound cellOf
+  by-symbol a u s e = subst (λ (d : Cell). RowPut b i (cellRound T k b (cellOf d)) now) (sym e)
 
-module _ (A : Automaton) (k : ℕ) (ws : List ℕ) (c : Cell) where
-  pub by-empty1 : c ≡ Empty1 → A .final1 ≡ wordBy A k ws (cellOf c)
-  unfolding wordBy cellOf
-  by-empty1 e = rw e
+  pub by-empty2 : c ≡ Empty2 → RowPut b i (finalRound (T .table .final2)) now → RowPut b i (cellRound T k b (cellOf c)) now
+  unfolding cellRound cellOf
+  by-empty2 e = subst (λ (d : Cell). RowPut b i (cellRound T k b (cellOf d)) now) (sym e)
 
-  pub by-symbol : (a u s : ℕ) {annotation rest r : ℕ} → c ≡ Symbol a u s → annotation ≡ getD ws u 0 → rest ≡ getD ws s 0
-      → r ≡ statesMet (λ m. m .state) (moveMet a k annotation rest) (A .moves) → r ≡ wordBy A k ws (cellOf c)
-  unfolding wordBy cellOf
-  by-symbol a u s e f g h = rw (e, ← f, ← g) h
-
-  pub by-empty2 : c ≡ Empty2 → A .final2 ≡ wordBy A k ws (cellOf c)
-  unfolding wordBy cellOf
-  by-empty2 e = rw e
-
-  pub by-above : (w t : ℕ) {top rest r : ℕ} → c ≡ Above w t → top ≡ getD ws w 0 → rest ≡ getD ws t 0
-      → r ≡ statesMet (λ e. e .state) (edgeMet top rest) (edges A) → r ≡ wordBy A k ws (cellOf c)
-  unfolding wordBy cellOf
-  by-above w t e f g h = rw (e, ← f, ← g) h
+  pub by-above : (w t : ℕ) → c ≡ Above w t → RowPut b i (aboveRound (roundIn b w) (roundIn b t) (edges (T .table))) now
+      → RowPut b i (cellRound T k b (cellOf c)) now
+  unfolding cellRound cellOf
+  by-above w t e = subst (λ (d : Cell). RowPut b i (cellRound T k b (cellOf d)) now) (sym e)

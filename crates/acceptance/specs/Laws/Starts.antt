@@ -1,19 +1,22 @@
--- The words of a start file's cells say which starts are accepted.
+-- The words of a start file's cells say since when each start is accepted.
 -- Assumes nothing.
 use Prim.Native.Nat.{ℕ, _<_}
 use mathlib.Core.Path.{_≡_, ap, sym, _∙_}
 use mathlib.Core.List.{List, map, map-map}
 use lib.ListN.{length, getD}
-use Rattle.words.specs.Sets.{member}
-use Rattle.automata.specs.Automaton.{Automaton}
+use Rattle.automata.specs.Saturation.{Saturated}
+use Rattle.replies.specs.declared.Acceptance.{Acceptance}
+use Rattle.rounds.specs.Won.{round1, round2, roundOfStack}
+use Rattle.walks.specs.Cell.{stacks, stackAt}
+use Rattle.walks.specs.Cell.Laws.{stack-order, annotation-of2}
 use Rattle.walks.specs.Cell.Formed.{Formed, orderAt}
 use Rattle.files.specs.Bytes.{countOf, recordsOf}
 use Rattle.files.specs.Start.{Start, cellBytes, cellOf, cellRecords, cellsOf, configurationOf}
-use Rattle.services.specs.Judge.{accepted}
 use Rattle.bytes_in.specs.Records.{bodyOf}
 use Rattle.bytes_in.specs.Records.Laws.{body-records}
-use Rattle.acceptance.specs.Cells.{cellWords}
-use Rattle.acceptance.specs.Cells.Laws.{cell-accepts2}
+use Rattle.acceptance.specs.Rows.{roundIn}
+use Rattle.acceptance.specs.Cells.{RoundsFilled}
+use Rattle.acceptance.specs.Cells.Laws.{StatesBelow, round-filled}
 use Rattle.acceptance.specs.Cells.Body.{cellRead, cellsIn}
 
 -- the cells of the file are those of its second body
@@ -22,8 +25,12 @@ unfolding cellsIn cellsOf cellRecords
 cells-body file =
     ap (map cellRead) (sym (body-records file 1 6)) ∙ sym (map-map cellOf cellBytes (recordsOf file 1 6))
 
--- the control is a member of the root's word exactly if the start is accepted
-pub start-accepted : (A : Automaton) (file : List ℕ) → Formed (cellsOf file) → (x : Start) → x .root < length (cellsOf file)
-    → orderAt (cellsOf file) (x .root) ≡ 2 → member (getD (cellWords A (cellsOf file)) (x .root) 0) (x .control) ≡ accepted A file x
-unfolding accepted configurationOf
-start-accepted A file formed x h e = cell-accepts2 A (cellsOf file) formed (x .root) (x .control) h e
+-- the word of the root and the control says since when the start is accepted
+pub start-round : (T : Saturated) → StatesBelow (T .table) → (file : List ℕ) {before rounds : List ℕ} {n : ℕ}
+    → RoundsFilled T (cellsOf file) before rounds n → Formed (cellsOf file) → (x : Start) → x .root < n → x .root < length (cellsOf file)
+    → orderAt (cellsOf file) (x .root) ≡ 2 → roundIn rounds (x .root) (x .control) ≡ round2 T (configurationOf file x .stack) (x .control)
+unfolding configurationOf round1
+start-round T B file F formed x h there e =
+    ap (λ (f : ℕ → Acceptance). f (x .control))
+    (round-filled T B (cellsOf file) formed F (x .root) h
+    ∙ ap (roundOfStack T) (annotation-of2 (stackAt (stacks (cellsOf file)) (x .root)) (stack-order (cellsOf file) (x .root) there ∙ e)))

@@ -6,6 +6,7 @@ use mathlib.Core.Option.{some}
 use mathlib.Core.List.{List, List·Memᴰ}
 use native.Mathlib.Omega.{arith}
 use lib.ListN.{length, getD}
+use Rattle.words.specs.Sets.Laws.{All, Has}
 use Rattle.words.specs.Lists.Laws.{getD-in}
 use Rattle.automata.specs.Automaton.{Automaton, Edge, noMove, noEdge, noEntry}
 use Rattle.automata.specs.Facts.{TableFacts}
@@ -55,6 +56,11 @@ stands {A} {z} {inner} {entries} {moves} s h =
             states-small = λ i l.
                 s .states-small _ (row-in moveRow (z .moves) moves noMove (A .moves) (ap (λ (B : Automaton). B .moves) (h .is)) i l);
           };
+      finals-named =
+          record {
+            final1-small = subst (λ (f : ℕ). All f (λ r. r < 64)) (sym (ap (λ (B : Automaton). B .final1) (h .is))) (s .final1-small);
+            final2-small = subst (λ (f : ℕ). All f (λ q. q < 64)) (sym (ap (λ (B : Automaton). B .final2) (h .is))) (s .final2-small);
+          };
     }
 
 -- ---- the saturated table of a sound case
@@ -81,6 +87,7 @@ module _ (x : Lent) (sound : caseRefusal (x .case) ≡ 0) {T : Saturated} (is : 
       rw (r .3) (omega arith)
 
   pub table-small : AutomatonSmall (T .table)
+  unfolding ownOf
   table-small =
       let few : T .table .J + length (T .table .entries) ≤ 64 = within-keeps (lent (x .moves) (x .entries)) (T .table) (is-saturated .limits-kept) .states-fit in
       let c : head (x .case) .P ≤ 8 = case-head (x .case) sound .controls-few in
@@ -89,4 +96,10 @@ module _ (x : Lent) (sound : caseRefusal (x .case) ≡ 0) {T : Saturated} (is : 
         inner-small = λ e j. let f : e .first < T .table .J = table-facts .inner-facts e j .to-inner in (inner-exists e j, omega arith);
         controls-small = λ e j. let l : e .control < head (x .case) .P = table-facts .entry-control e j in omega arith;
         states-small = λ m j. let l : m .state < T .table .J + length (T .table .entries) = table-facts .move-facts m j .state-exists in omega arith;
+        final1-small = λ r i. let l : r < T .table .J = table-facts .final1-inner r i in omega arith;
+        final2-small = λ q i.
+            let e : T .table .final2 ≡ head (x .case) .final2 = table-extends (is-saturated .after) .same-final2 in
+            let l = case-head (x .case) sound .final2-inner q (subst (λ (f : ℕ). Has f q) e i) .1 in
+            let n : head (x .case) .I ≤ 8 = case-head (x .case) sound .inner2-few in
+            omega arith;
       }

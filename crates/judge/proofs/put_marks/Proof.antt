@@ -4,8 +4,8 @@ use Prim.Native.Nat.{_-_, _≤_}
 use mathlib.Core.Path.{refl}
 use mathlib.Core.List.{map}
 use borrow.Author.Needs.{needs}
-use Rattle.acceptance.specs.WrittenBelow.{WrittenBelow}
-use Rattle.acceptance.specs.WrittenBelow.Laws.{written-none}
+use Rattle.judge.specs.WrittenBelow.{WrittenBelow}
+use Rattle.judge.specs.WrittenBelow.Laws.{written-none}
 use Rattle.sound_files.specs.Starts.{startsIn}
 use Rattle.sound_files.specs.Starts.Laws.{start-stands}
 use Rattle.judge.specs.Marks.{markBy}

@@ -13,8 +13,8 @@ use Rattle.files.specs.Bytes.Laws.{length-records, records-at}
 use Rattle.files.specs.Start.{Start, startOf}
 use Rattle.bytes_in.specs.Records.{recordAt}
 use Rattle.sound_files.specs.Starts.{startsIn}
-use Rattle.acceptance.specs.WrittenBelow.{WrittenBelow}
-use Rattle.acceptance.specs.WrittenBelow.Laws.{written-more, written-all}
+use Rattle.judge.specs.WrittenBelow.{WrittenBelow}
+use Rattle.judge.specs.WrittenBelow.Laws.{written-more, written-all}
 use Rattle.judge.specs.Marks.{markBy}
 
 pub mark-yes : (words : List ℕ) (x : Start) {b : Bool} → b ≡ true → b ≡ member (getD words (x .root) 0) (x .control) → 1 ≡ markBy words x
