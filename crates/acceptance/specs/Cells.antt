@@ -37,8 +37,12 @@ cellRound T k rounds (symbol a u s) q = symbolRound (T .sizes) a k (roundIn roun
 cellRound T k rounds empty2 q = finalRound (T .table .final2) q
 cellRound T k rounds (above w t) q = aboveRound (roundIn rounds w) (roundIn rounds t) (edges (T .table)) q
 
--- The words of the first n cells say since when their stacks are accepted, and all others are as they were.
+-- The words of the first n cells say since when their stacks are accepted from each of 64 states.
+pub record RoundsStand (T : Saturated) (cells : List Cell) (rounds : List ℕ) (n : ℕ) : Type 0 where
+  pub word-is : (i q : ℕ) → i < n → q < 64 → getD rounds (i * 64 + q) 0 ≡ answerWord (roundOfStack T (stackAt (stacks cells) i) q)
+
+-- They do, and all other words are as they were.
 pub record RoundsFilled (T : Saturated) (cells : List Cell) (before after : List ℕ) (n : ℕ) : Type 0 where
   pub long : length after ≡ length before
-  pub filled : (i q : ℕ) → i < n → q < 64 → getD after (i * 64 + q) 0 ≡ answerWord (roundOfStack T (stackAt (stacks cells) i) q)
+  pub filled : RoundsStand T cells after n
   pub others : (x : ℕ) → n * 64 ≤ x → getD after x 0 ≡ getD before x 0

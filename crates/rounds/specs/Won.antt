@@ -15,7 +15,8 @@ use Rattle.words.specs.Lists.{places}
 use Rattle.stacks.specs.Stack.{Stack1, nil1, cons1, Stack2, nil2, cons2, Annotation, of1, of2, annotationOrder}
 use Rattle.replies.specs.declared.Acceptance.{Acceptance}
 use Rattle.replies.specs.declared.Acceptance.the-variants.{Never, Since}
-use Rattle.automata.specs.Automaton.{Move, Edge, noMove, noEdge, edges}
+use Rattle.automata.specs.Automaton.{Automaton, Move, Edge, noMove, noEdge, edges}
+use Rattle.automata.specs.Acceptance.{accepts1, accepts2}
 use Rattle.automata.specs.Saturation.{Size, Saturated, roundOf}
 
 -- the answer is a round
@@ -87,3 +88,8 @@ module _ (T : Saturated) where
     pub roundOfStack : Annotation → ℕ → Acceptance
     roundOfStack (of1 u) q = round1 u q
     roundOfStack (of2 u) q = round2 u q
+
+-- the automaton accepts a stack of either order from state q
+unfoldable pub acceptsStack : Automaton → Annotation → ℕ → Bool
+acceptsStack A (of1 u) q = accepts1 A u q
+acceptsStack A (of2 u) q = accepts2 A u q

@@ -20,7 +20,8 @@ use Rattle.replies.specs.declared.Acceptance.the-variants.{Never, Since}
 use Rattle.replies.specs.Numbers.{answerWord}
 use Rattle.automata.specs.Automaton.{Automaton, Move, Edge, noMove, noEdge, edges}
 use Rattle.automata.specs.Saturation.{Saturated}
-use Rattle.rounds.specs.Won.{earliest, finalRound, symbolRound, aboveRound, round1, round2, roundOfStack}
+use Rattle.rounds.specs.Won.{earliest, finalRound, symbolRound, aboveRound, isWon, round1, round2, roundOfStack, acceptsStack}
+use Rattle.rounds.specs.Won.Laws.{stack-accepts}
 use Rattle.walks.specs.Cell.{Cell, empty1, symbol, empty2, above, stacks, stackAt, stackOf, order1, order2}
 use Rattle.walks.specs.Cell.Formed.{Formed, Refers, cellAt, orderAt}
 use Rattle.walks.specs.Cell.Laws.{stack-at, stack-order, annotation-of1, annotation-of2}
@@ -34,7 +35,7 @@ use Rattle.acceptance.specs.Rows.{acceptanceOf, roundIn, RowZero, RowPut
 use Rattle.acceptance.specs.Rows.Laws.{acceptance-word, round-there, round-past}
 use Rattle.acceptance.specs.Named.{TablesNamed}
 use Rattle.acceptance.specs.Named.Laws.{move-small, edge-small}
-use Rattle.acceptance.specs.Cells.{annotationOrderAt, PartsBelow, cellRound, RoundsFilled}
+use Rattle.acceptance.specs.Cells.{annotationOrderAt, PartsBelow, cellRound, RoundsStand, RoundsFilled}
 
 -- ---- states from 64 on
 
@@ -88,15 +89,19 @@ module _ (T : Saturated) (B : StatesBelow (T .table)) where
 
   -- ---- the words of the cells before
 
-  module _ (cells : List Cell) (F : Formed cells) {before now : List ℕ} {n : ℕ} (R : RoundsFilled T cells before now n) where
-    -- a cell whose words are filled, from every state
+  module _ (cells : List Cell) {now : List ℕ} {n : ℕ} (R : RoundsStand T cells now n) where
+    -- a cell whose words stand, from every state
     pub round-filled : (j : ℕ) → j < n → roundIn now j ≡ roundOfStack T (stackAt (stacks cells) j)
     round-filled j l = λ i q. pointwise q i
       where
         pointwise : (q : ℕ) → roundIn now j q ≡ roundOfStack T (stackAt (stacks cells) j) q
         pointwise q = by-test (ltb q 64)
-            (λ t. let small : q < 64 = ltb-true q 64 t in round-there now j q small ∙ ap acceptanceOf (R .filled j q l small) ∙ acceptance-word _)
+            (λ t. let small : q < 64 = ltb-true q 64 t in round-there now j q small ∙ ap acceptanceOf (R .word-is j q l small) ∙ acceptance-word _)
             (λ t. let large : 64 ≤ q = ltb-false q 64 t in round-past now j q large ∙ sym (past-none (stackAt (stacks cells) j) q large))
+
+    -- it is accepted exactly if there is a round
+    pub cell-won : (j : ℕ) → j < n → (q : ℕ) → isWon (roundIn now j q) ≡ acceptsStack (T .table) (stackAt (stacks cells) j) q
+    cell-won j l q = ap (λ (f : ℕ → Acceptance). isWon (f q)) (round-filled j l) ∙ stack-accepts T (stackAt (stacks cells) j) q
 
     -- ---- one cell more
 
@@ -121,24 +126,25 @@ module _ (T : Saturated) (B : StatesBelow (T .table)) where
         let rest : stackAt (stacks cells) t ≡ of2 (order2 (stackAt (stacks cells) t)) = annotation-of2 _ (stack-order cells t (omega (arith, x .1)) ∙ x .3) in
         ap₂ (λ (f g : ℕ → Acceptance). aboveRound f g (edges (T .table)) q) (first ∙ ap (roundOfStack T) top) (second ∙ ap (roundOfStack T) rest)
 
+  module _ (cells : List Cell) (F : Formed cells) {before now : List ℕ} {n : ℕ} (R : RoundsFilled T cells before now n) where
     pub filled-more : {c : Cell} {k : ℕ} {now′ : List ℕ} → n < length cells → c ≡ cellAt cells n → k ≡ annotationOrderAt cells c
         → RowPut now n (cellRound T k now c) now′ → RoundsFilled T cells before now′ (n + 1)
     filled-more {c} {k} {now′} l e o p =
         let here : (q : ℕ) → q < 64 → getD now′ (n * 64 + q) 0 ≡ answerWord (roundOfStack T (stackAt (stacks cells) n) q) =
         λ q h. p .here q h ∙ ap answerWord (ap (λ (j : ℕ). cellRound T j now c q) o
         ∙ ap (λ (d : Cell). cellRound T (annotationOrderAt cells d) now d q) e
-        ∙ cell-right (cellAt cells n) (F .refers n) q (omega arith)
+        ∙ cell-right cells (R .filled) (cellAt cells n) (F .refers n) q (omega arith)
         ∙ ap (λ (v : Annotation). roundOfStack T v q) (sym (stack-at F n l))) in
         record {
           long = p .long ∙ R .long;
-          filled = λ i q h small. by-test (eqb i n)
+          filled = record { word-is = λ i q h small. by-test (eqb i n)
               (λ t.
               let z : i ≡ n = eqb-true i n t in
               ap (λ (j : ℕ). getD now′ (j * 64 + q) 0) z ∙ here q small ∙ ap (λ (j : ℕ). answerWord (roundOfStack T (stackAt (stacks cells) j) q)) (sym z))
               (λ t.
               let d : i ≡ n → ⊥ = eqb-false i n t in
               let b : i < n = omega arith in
-              p .below (i * 64 + q) (omega arith) ∙ R .filled i q b small);
+              p .below (i * 64 + q) (omega arith) ∙ R .filled .word-is i q b small) };
           others = λ x h. p .above x (omega arith) ∙ R .others x (omega arith);
         }
 
@@ -153,7 +159,7 @@ module _ (T : Saturated) (B : StatesBelow (T .table)) where
 -- ---- none
 
 pub filled-none : (T : Saturated) (cells : List Cell) (rounds : List ℕ) → RoundsFilled T cells rounds rounds 0
-filled-none T cells rounds = record { long = refl; filled = λ i q h small. absurd (omega arith); others = λ x h. refl }
+filled-none T cells rounds = record { long = refl; filled = record { word-is = λ i q h small. absurd (omega arith) }; others = λ x h. refl }
 
 -- ---- all
 

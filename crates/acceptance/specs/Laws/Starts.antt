@@ -9,13 +9,13 @@ use Rattle.replies.specs.declared.Acceptance.{Acceptance}
 use Rattle.rounds.specs.Won.{round1, round2, roundOfStack}
 use Rattle.walks.specs.Cell.{stacks, stackAt}
 use Rattle.walks.specs.Cell.Laws.{stack-order, annotation-of2}
-use Rattle.walks.specs.Cell.Formed.{Formed, orderAt}
+use Rattle.walks.specs.Cell.Formed.{orderAt}
 use Rattle.files.specs.Bytes.{countOf, recordsOf}
 use Rattle.files.specs.Start.{Start, cellBytes, cellOf, cellRecords, cellsOf, configurationOf}
 use Rattle.bytes_in.specs.Records.{bodyOf}
 use Rattle.bytes_in.specs.Records.Laws.{body-records}
 use Rattle.acceptance.specs.Rows.{roundIn}
-use Rattle.acceptance.specs.Cells.{RoundsFilled}
+use Rattle.acceptance.specs.Cells.{RoundsStand}
 use Rattle.acceptance.specs.Cells.Laws.{StatesBelow, round-filled}
 use Rattle.acceptance.specs.Cells.Body.{cellRead, cellsIn}
 
@@ -26,11 +26,11 @@ cells-body file =
     ap (map cellRead) (sym (body-records file 1 6)) ∙ sym (map-map cellOf cellBytes (recordsOf file 1 6))
 
 -- the word of the root and the control says since when the start is accepted
-pub start-round : (T : Saturated) → StatesBelow (T .table) → (file : List ℕ) {before rounds : List ℕ} {n : ℕ}
-    → RoundsFilled T (cellsOf file) before rounds n → Formed (cellsOf file) → (x : Start) → x .root < n → x .root < length (cellsOf file)
+pub start-round : (T : Saturated) → StatesBelow (T .table) → (file : List ℕ) {rounds : List ℕ} {n : ℕ} → RoundsStand T (cellsOf file) rounds n
+    → (x : Start) → x .root < n → x .root < length (cellsOf file)
     → orderAt (cellsOf file) (x .root) ≡ 2 → roundIn rounds (x .root) (x .control) ≡ round2 T (configurationOf file x .stack) (x .control)
 unfolding configurationOf round1
-start-round T B file F formed x h there e =
+start-round T B file F x h there e =
     ap (λ (f : ℕ → Acceptance). f (x .control))
-    (round-filled T B (cellsOf file) formed F (x .root) h
+    (round-filled T B (cellsOf file) F (x .root) h
     ∙ ap (roundOfStack T) (annotation-of2 (stackAt (stacks (cellsOf file)) (x .root)) (stack-order (cellsOf file) (x .root) there ∙ e)))

@@ -16,13 +16,13 @@ use Rattle.words.specs.Sets.{member}
 use Rattle.words.specs.Sets.Laws.{Has}
 use Rattle.words.specs.Lists.{only, some-of, places}
 use Rattle.words.specs.Lists.Laws.{only-in, only-out, some-of-in, some-of-out, getD-in, in-getD, places-in, places-out}
-use Rattle.stacks.specs.Stack.{Stack1, nil1, cons1, Stack2}
+use Rattle.stacks.specs.Stack.{Stack1, nil1, cons1, Stack2, Annotation, annotationOrder}
 use Rattle.stacks.specs.System.{Rule}
 use Rattle.replies.specs.declared.Acceptance.{Acceptance}
 use Rattle.replies.specs.declared.Acceptance.the-variants.{Never, Since}
 use Rattle.automata.specs.Automaton.{Automaton, Move, Edge, noMove, noEdge, edges, entryEdges, moveAt, edgeAt}
 use Rattle.automata.specs.Automaton.Laws.{length-entryEdges, entryEdges-at}
-use Rattle.automata.specs.Acceptance.{accepts1, accepts2}
+use Rattle.automata.specs.Acceptance.{accepts1, accepts2, moveFits, edgeFits}
 use Rattle.automata.specs.Facts.{RuleFacts, TableFacts, Extends, states}
 use Rattle.automata.specs.Facts.Laws.{extends-refl, moves-grow, moveAt-kept, edges-more, edgeAt-kept}
 use Rattle.automata.specs.Saturation.{Saturated, sizeOf, tableAfter, roundOf, roundsAdded}
@@ -31,8 +31,8 @@ use Rattle.automata.specs.Won.Laws.{least-some, least-none}
 use Rattle.rounds.specs.Rounds.{after-extends}
 use Rattle.rounds.specs.Kept.{after-facts}
 use Rattle.rounds.specs.Sizes.{AfterRounds, sizesBefore, sizesFrom, sizes-split, rounds-are}
-use Rattle.rounds.specs.Won.{isWon, round1, round2}
-use Rattle.rounds.specs.Won.Shown.{Downward, any-round, up-to, passes, Shows, shown1, shown2}
+use Rattle.rounds.specs.Won.{isWon, moveRound, edgeRound, round1, round2, roundOfStack, acceptsStack}
+use Rattle.rounds.specs.Won.Shown.{any-round, up-to, passes, Shows, shown-move, shown-edge, shown1, shown2, shown-stack}
 
 -- ---- a table that is a part of the saturated one
 
@@ -99,20 +99,35 @@ module _ (T : Saturated) {A : Automaton} (X : Extends A (T .table)) (test : ℕ 
 
 -- ---- the recursion says yes exactly if the saturated table accepts
 
+-- is a round: passes where every round does
+isWon-passes : (a : Acceptance) → isWon a ≡ passes (λ n. true) a
+unfolding isWon passes
+isWon-passes Never = refl
+isWon-passes (Since r) = refl
+
+-- one move and one edge, by answers that say yes exactly if the automaton accepts
+pub move-won : (A : Automaton) (u : Annotation) (s : Stack1) (f g : ℕ → Acceptance) → ((q : ℕ) → isWon (f q) ≡ acceptsStack A u q)
+    → ((q : ℕ) → isWon (g q) ≡ accepts1 A s q) → (m : Move) → isWon (moveRound (annotationOrder u) f g m) ≡ moveFits A u s m
+move-won A u s f g annotation rest m =
+    isWon-passes _ ∙ shown-move any-round A u s f g (λ q. sym (isWon-passes (f q)) ∙ annotation q) (λ q. sym (isWon-passes (g q)) ∙ rest q) m
+
+pub edge-won : (A : Automaton) (w : Stack1) (t : Stack2) (f g : ℕ → Acceptance) → ((r : ℕ) → isWon (f r) ≡ accepts1 A w r)
+    → ((q : ℕ) → isWon (g q) ≡ accepts2 A t q) → (e : Edge) → isWon (edgeRound f g e) ≡ edgeFits A w t e
+edge-won A w t f g top rest e =
+    isWon-passes _ ∙ shown-edge any-round A w t f g (λ r. sym (isWon-passes (f r)) ∙ top r) (λ q. sym (isWon-passes (g q)) ∙ rest q) e
+
 module _ (T : Saturated) where
   all-shown : Shows T (λ n. true) (T .table)
   all-shown = part-shows T (extends-refl (T .table)) (λ n. true) (λ i l. sym (lt-ltb i (length (T .table .moves)) l)) (λ i l h w. absurd (omega arith))
-
-  isWon-passes : (a : Acceptance) → isWon a ≡ passes (λ n. true) a
-  unfolding isWon passes
-  isWon-passes Never = refl
-  isWon-passes (Since r) = refl
 
   pub round1-accepts : (s : Stack1) (r : ℕ) → isWon (round1 T s r) ≡ accepts1 (T .table) s r
   round1-accepts s r = isWon-passes (round1 T s r) ∙ shown1 any-round all-shown s r
 
   pub round2-accepts : (t : Stack2) (q : ℕ) → isWon (round2 T t q) ≡ accepts2 (T .table) t q
   round2-accepts t q = isWon-passes (round2 T t q) ∙ shown2 any-round all-shown t q
+
+  pub stack-accepts : (u : Annotation) (q : ℕ) → isWon (roundOfStack T u q) ≡ acceptsStack (T .table) u q
+  stack-accepts u q = isWon-passes (roundOfStack T u q) ∙ shown-stack any-round all-shown u q
 
 -- ---- an edge needs no round of its own
 

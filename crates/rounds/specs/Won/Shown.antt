@@ -20,7 +20,7 @@ use Rattle.replies.specs.declared.Acceptance.the-variants.{Never, Since}
 use Rattle.automata.specs.Automaton.{Automaton, Move, Edge, edges, moveAt, edgeAt}
 use Rattle.automata.specs.Acceptance.{accepts1, accepts2, acceptsAnnotation, moveFits, edgeFits}
 use Rattle.automata.specs.Saturation.{Saturated, roundOf}
-use Rattle.rounds.specs.Won.{earlier, later, earliest, latest, finalRound, annotationRound, moveRound, edgeRound, symbolRound, aboveRound, round1, round2, roundOfStack}
+use Rattle.rounds.specs.Won.{earlier, later, earliest, latest, finalRound, annotationRound, moveRound, edgeRound, symbolRound, aboveRound, round1, round2, roundOfStack, acceptsStack}
 
 -- ---- a test of rounds
 
@@ -102,39 +102,49 @@ pub record Shows (T : Saturated) (test : ℕ → Bool) (A : Automaton) : Type 0 
 
 -- ---- the table shows which rounds pass
 
-module _ {T : Saturated} {test : ℕ → Bool} {A : Automaton} (D : Downward test) (H : Shows T test A) where
-  every-same : (f g : ℕ → Bool) → ((q : ℕ) → f q ≡ g q) → (l : List ℕ) → every f l ≡ every g l
-  every-same f g e l = ap (λ (h : ℕ → Bool). every h l) (λ i q. e q i)
+every-same : (f g : ℕ → Bool) → ((q : ℕ) → f q ≡ g q) → (l : List ℕ) → every f l ≡ every g l
+every-same f g e l = ap (λ (h : ℕ → Bool). every h l) (λ i q. e q i)
 
-  some-same : (f g : ℕ → Bool) → ((q : ℕ) → f q ≡ g q) → (l : List ℕ) → some-of f l ≡ some-of g l
-  some-same f g e l = ap (λ (h : ℕ → Bool). some-of h l) (λ i q. e q i)
+some-same : (f g : ℕ → Bool) → ((q : ℕ) → f q ≡ g q) → (l : List ℕ) → some-of f l ≡ some-of g l
+some-same f g e l = ap (λ (h : ℕ → Bool). some-of h l) (λ i q. e q i)
 
-  -- a set, where the table shows each of its members
+module _ {test : ℕ → Bool} (D : Downward test) (A : Automaton) where
+  -- a set, where the automaton shows each of its members
   shown-set : (f : ℕ → Acceptance) (accepts : ℕ → Bool) → ((q : ℕ) → passes test (f q) ≡ accepts q) → (B : ℕ)
       → passes test (latest f (members B)) ≡ every accepts (members B)
   shown-set f accepts e B = passes-latest D f (members B) ∙ every-same _ _ e (members B)
 
-  -- one move, where the table shows its annotation and its rest
-  shown-move : (u : Annotation) (s : Stack1)
-      → ((o B : ℕ) → passes test (annotationRound (annotationOrder u) (λ q. roundOfStack T u q) o B) ≡ acceptsAnnotation A u o B)
-      → ((q : ℕ) → passes test (round1 T s q) ≡ accepts1 A s q) → (m : Move)
-      → passes test (moveRound (annotationOrder u) (λ q. roundOfStack T u q) (λ q. round1 T s q) m) ≡ moveFits A u s m
-  unfolding moveRound moveFits
-  shown-move u s annotation rest m =
-      passes-later D _ _ ∙ ap₂ _&&_ (annotation (m .order) (m .B)) (shown-set _ _ rest (m .R))
+  -- an annotation
+  shown-annotation : (u : Annotation) (f : ℕ → Acceptance) → ((q : ℕ) → passes test (f q) ≡ acceptsStack A u q) → (o B : ℕ)
+      → passes test (annotationRound (annotationOrder u) f o B) ≡ acceptsAnnotation A u o B
+  unfolding annotationRound annotationOrder accepts1 acceptsStack passes
+  shown-annotation (of1 u) f h zero B = D .at-zero
+  shown-annotation (of1 u) f h (suc zero) B = shown-set f (λ q. accepts1 A u q) h B
+  shown-annotation (of1 u) f h (suc (suc o)) B = refl
+  shown-annotation (of2 u) f h zero B = D .at-zero
+  shown-annotation (of2 u) f h (suc zero) B = refl
+  shown-annotation (of2 u) f h (suc (suc o)) B = shown-set f (λ q. accepts2 A u q) h B
 
-  -- one edge, where the table shows the top and the rest
-  shown-edge : (w : Stack1) (t : Stack2) → ((r : ℕ) → passes test (round1 T w r) ≡ accepts1 A w r) → ((q : ℕ) → passes test (round2 T t q) ≡ accepts2 A t q)
-      → (e : Edge) → passes test (edgeRound (λ r. round1 T w r) (λ x. round2 T t x) e) ≡ edgeFits A w t e
+  -- one move, where the automaton shows its annotation and its rest
+  pub shown-move : (u : Annotation) (s : Stack1) (f g : ℕ → Acceptance) → ((q : ℕ) → passes test (f q) ≡ acceptsStack A u q)
+      → ((q : ℕ) → passes test (g q) ≡ accepts1 A s q) → (m : Move) → passes test (moveRound (annotationOrder u) f g m) ≡ moveFits A u s m
+  unfolding moveRound moveFits
+  shown-move u s f g annotation rest m =
+      passes-later D _ _ ∙ ap₂ _&&_ (shown-annotation u f annotation (m .order) (m .B)) (shown-set g _ rest (m .R))
+
+  -- one edge, where it shows the top and the rest
+  pub shown-edge : (w : Stack1) (t : Stack2) (f g : ℕ → Acceptance) → ((r : ℕ) → passes test (f r) ≡ accepts1 A w r)
+      → ((q : ℕ) → passes test (g q) ≡ accepts2 A t q) → (e : Edge) → passes test (edgeRound f g e) ≡ edgeFits A w t e
   unfolding edgeRound edgeFits
-  shown-edge w t top rest e = passes-later D _ _ ∙ ap₂ _&&_ (top (e .first)) (shown-set _ _ rest (e .S))
+  shown-edge w t f g top rest e = passes-later D _ _ ∙ ap₂ _&&_ (top (e .first)) (shown-set g _ rest (e .S))
 
   fits-first : (w : Stack1) (t : Stack2) (e : Edge) → accepts1 A w (e .first) ≡ false → edgeFits A w t e ≡ false
   unfolding edgeFits
   fits-first w t e h = ap (λ (b : Bool). b && every (λ q. accepts2 A t q) (members (e .S))) h
 
+module _ {T : Saturated} {test : ℕ → Bool} {A : Automaton} (D : Downward test) (H : Shows T test A) where
   mutual
-    unfolding moveFits edgeFits round1 symbolRound aboveRound accepts1 annotationRound annotationOrder passes moveAt edgeAt
+    unfolding moveFits edgeFits round1 symbolRound aboveRound accepts1 acceptsStack passes moveAt edgeAt
 
     pub shown1 : (s : Stack1) (r : ℕ) → passes test (round1 T s r) ≡ accepts1 A s r
     shown1 nil1 r = passes-final D (T .table .final1) r ∙ ap (λ (f : ℕ). member f r) (sym (H .same-final1))
@@ -143,20 +153,18 @@ module _ {T : Saturated} {test : ℕ → Bool} {A : Automaton} (D : Downward tes
         ∙ some-same _ _ (λ i.
         passes-later D (Since (roundOf (T .sizes) i)) _
         ∙ ap (λ (b : Bool). test (roundOf (T .sizes) i) && b)
-        (shown-move u s (λ o B. shown-annotation u o B) (λ q. shown1 s q) (moveAt (T .table) i))) (places _ (T .table .moves))
+        (shown-move D A u s (λ q. roundOfStack T u q) (λ q. round1 T s q) (λ q. shown-stack u q) (λ q. shown1 s q) (moveAt (T .table) i)))
+        (places _ (T .table .moves))
         ∙ H .moves-shown (λ m. eqb (m .state) r && eqb (m .symbol) a) (moveFits A u s)
 
     pub shown2 : (t : Stack2) (q : ℕ) → passes test (round2 T t q) ≡ accepts2 A t q
     shown2 nil2 q = passes-final D (T .table .final2) q ∙ ap (λ (f : ℕ). member f q) (sym (H .same-final2))
     shown2 (cons2 w t) q =
         passes-earliest D _ (places _ (edges (T .table)))
-        ∙ some-same _ _ (λ i. shown-edge w t (λ r. shown1 w r) (λ x. shown2 t x) (edgeAt (T .table) i)) (places _ (edges (T .table)))
-        ∙ H .edges-shown w (λ e. eqb (e .state) q) (edgeFits A w t) (λ e h. fits-first w t e h)
+        ∙ some-same _ _ (λ i. shown-edge D A w t (λ r. round1 T w r) (λ x. round2 T t x) (λ r. shown1 w r) (λ x. shown2 t x) (edgeAt (T .table) i))
+        (places _ (edges (T .table)))
+        ∙ H .edges-shown w (λ e. eqb (e .state) q) (edgeFits A w t) (λ e h. fits-first D A w t e h)
 
-    shown-annotation : (u : Annotation) (o B : ℕ) → passes test (annotationRound (annotationOrder u) (λ q. roundOfStack T u q) o B) ≡ acceptsAnnotation A u o B
-    shown-annotation (of1 u) zero B = D .at-zero
-    shown-annotation (of1 u) (suc zero) B = shown-set (λ q. round1 T u q) (λ q. accepts1 A u q) (λ q. shown1 u q) B
-    shown-annotation (of1 u) (suc (suc o)) B = refl
-    shown-annotation (of2 u) zero B = D .at-zero
-    shown-annotation (of2 u) (suc zero) B = refl
-    shown-annotation (of2 u) (suc (suc o)) B = shown-set (λ q. round2 T u q) (λ q. accepts2 A u q) (λ q. shown2 u q) B
+    pub shown-stack : (u : Annotation) (q : ℕ) → passes test (roundOfStack T u q) ≡ acceptsStack A u q
+    shown-stack (of1 u) q = shown1 u q
+    shown-stack (of2 u) q = shown2 u q
