@@ -1,14 +1,19 @@
--- The marks of starts, by the words of the cells.
+-- The words of judge, by the words of a start file's cells.
 -- Assumes nothing.
 pub mod Laws
 pub mod Writing
 use Prim.Native.Nat.{ℕ}
-use mathlib.Core.Bool.{true, false}
 use mathlib.Core.List.{List}
-use lib.ListN.{getD}
-use Rattle.words.specs.Sets.{member}
-use Rattle.files.specs.Start.{Start}
+use Rattle.replies.specs.Numbers.{answerWord}
+use Rattle.automata.specs.Saturation.{Saturated}
+use Rattle.rounds.specs.Won.{round2}
+use Rattle.files.specs.Start.{Start, configurationOf}
+use Rattle.sound_files.specs.Starts.{startRound}
 
--- 1 where the control is a member of the root's word, and 0 otherwise
+-- a start's word, by these words of the cells
 unfoldable pub markBy : List ℕ → Start → ℕ
-markBy words x = elim (member (getD words (x .root) 0) (x .control)) [ true ↦ 1 | false ↦ 0 ]
+markBy rounds x = answerWord (startRound rounds x)
+
+-- a start's word, by the recursion on its stack
+unfoldable pub markOf : Saturated → List ℕ → Start → ℕ
+markOf T file x = answerWord (round2 T (configurationOf file x .stack) (x .control))

@@ -1,7 +1,7 @@
 -- What a sound start file gives to the code.
 -- Assumes nothing.
 pub mod Laws
-pub mod Words
+pub mod Rounds
 use Prim.Native.Nat.{ℕ}
 use mathlib.Core.Bool.{true}
 use mathlib.Core.Path.{_≡_}

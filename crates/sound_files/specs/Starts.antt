@@ -3,14 +3,24 @@
 pub mod Laws
 use Prim.Native.Nat.{ℕ, _*_, _≤_, _<_}
 use mathlib.Core.List.{List, map}
-use lib.ListN.{length}
+use lib.ListN.{length, getD}
+use Rattle.replies.specs.declared.Acceptance.{Acceptance}
 use Rattle.files.specs.Bytes.{records}
-use Rattle.files.specs.Start.{Start, startOf}
+use Rattle.files.specs.Start.{Start, startOf, startsOf}
 use Rattle.bytes_in.specs.Records.{recordAt}
+use Rattle.acceptance.specs.Rows.{roundIn}
 
 -- the first n starts of a body
 unfoldable pub startsIn : ℕ → List ℕ → List Start
 startsIn n body = map startOf (records n 3 body)
+
+-- start n of a start file
+unfoldable pub startNumber : List ℕ → ℕ → Start
+startNumber file n = getD (startsOf file) n (record { control = 0; root = 0 })
+
+-- since when a start is accepted, by these words of the file's cells
+unfoldable pub startRound : List ℕ → Start → Acceptance
+startRound rounds x = roundIn rounds (x .root) (x .control)
 
 -- The starts are in the body; each names a state below 64 and one of so many cells.
 pub record StartsStand (n : ℕ) (body : List ℕ) (cells : ℕ) : Type 0 where

@@ -1,18 +1,19 @@
-// What judge and guide begin with: the refusal by the case file, the start file and the number of its starts, and the words of the start
-// file's cells for a table. They end by zeroing the tables.
+// What judge and guide begin with: the refusal by the case file, the start file and the number of its starts, and since when the start file's
+// cells and starts are accepted. They end by zeroing the tables.
 ghost use mathlib.Core.Path.{_≡_};
-ghost use mathlib.Core.Bool.{true};
-ghost use mathlib.Core.List.{_++_};
-ghost use Prim.Native.Nat.{_≤_};
-ghost use lib.ListN.{length, drop};
-ghost use Rattle.files.specs.Bytes.{placed};
-ghost use Rattle.files.specs.Start.{startBodies, cellsOf};
+ghost use Prim.Native.Nat.{_*_, _≤_, _<_};
+ghost use lib.ListN.{length};
+ghost use Rattle.replies.specs.Numbers.{answerWord};
+ghost use Rattle.files.specs.Start.{startsOf, cellsOf};
 ghost use Rattle.words.specs.Lists.{zeros};
-ghost use Rattle.tables.specs.Held.{automatonOf};
+ghost use Rattle.saturation.specs.Held.{saturatedIn};
 ghost use Rattle.acceptance.specs.Named.{TablesNamed};
-ghost use Rattle.acceptance.specs.Cells.{cellWords};
+ghost use Rattle.acceptance.specs.Cells.{RoundsFilled};
+ghost use Rattle.sound_files.specs.Starts.{startNumber, startRound};
+ghost use Rattle.sound_files.specs.Sound.{StartSound};
 ghost use Rattle.sound_files.specs.Refusal.{filesRefusal, refusedBefore};
 use limits::Limits;
+use replies::Acceptance;
 use tables::Table;
 
 // The refusal by the two files, or 0.
@@ -41,21 +42,34 @@ pub fn refusal_before(case: &[u8], start: &[u8], k: usize, below: u64, past: u64
     past
 }
 
-// Writes the word of each cell of the start file, for the automaton in these tables.
-pub fn start_words(
+// Writes since when each cell of a sound start file is accepted from each state, for the saturated table in these tables and sizes. The words are
+// zero before.
+pub fn start_rounds(
     z: Table,
     inner: &[u64],
     entries: &[u64],
     moves: &[u64],
+    sizes: &[u64],
+    count: usize,
     start: &[u8],
-    words: &mut [u64],
+    rounds: &mut [u16],
 )
-    requires { ⌜ TablesNamed z (now inner) (now entries) (now moves) × (placed startBodies (now start) ≡ true) × (256 ≤ length (now words)) ⌝ }
-    ensures { λ _. ⌜ now (words .exit) ≡ cellWords (automatonOf z (now (inner .entry)) (now (entries .entry)) (now (moves .entry))) (cellsOf (now (start .entry))) ++ drop (length (cellsOf (now (start .entry)))) (now (words .entry)) ⌝ }
+    requires { ⌜ TablesNamed z (now inner) (now entries) (now moves) × (count * 2 ≤ length (now sizes)) × (count < 65535) × StartSound (now start) × (16384 ≤ length (now rounds)) × (now rounds ≡ zeros (length (now rounds))) ⌝ }
+    ensures { λ _. ⌜ RoundsFilled (saturatedIn z (now (inner .entry)) (now (entries .entry)) (now (moves .entry)) count (now (sizes .entry))) (cellsOf (now (start .entry))) (now (rounds .entry)) (now (rounds .exit)) (length (cellsOf (now (start .entry)))) ⌝ }
 {
     let cells = start_file::cell_body(start);
     let n = bytes_in::count_of(start, Limits::CELL_BODY);
-    acceptance::fill_words(z, inner, entries, moves, cells, n, words);
+    acceptance::fill_rounds(z, inner, entries, moves, sizes, count, cells, n, rounds);
+}
+
+// Since when a start of a sound start file is accepted, by these words of the file's cells.
+pub fn start_accepted(start: &[u8], number: usize, rounds: &[u16]) -> Acceptance
+    requires { ⌜ StartSound (now start) × (number < length (startsOf (now start))) × (16384 ≤ length (now rounds)) ⌝ }
+    ensures { λ r. ⌜ r ≡ startRound (now (rounds .entry)) (startNumber (now (start .entry)) number) ⌝ }
+    ensures small { λ r. ⌜ answerWord r < 65536 ⌝ }
+{
+    let x = start_records::start_at(start_file::start_body(start), number);
+    acceptance::accepted(rounds, x.root as usize, x.control)
 }
 
 // Writes zero into both tables.

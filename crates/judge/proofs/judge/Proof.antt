@@ -13,8 +13,8 @@ use Rattle.judge.proofs.judge.Tie as tie
 zero-tables-requires : tie.Need-zero-tables-requires
 zero-tables-requires c κs = search needs
 
-zero-u8-requires : tie.Need-zero-u8-requires
-zero-u8-requires c κs = search needs
+zero-u16-requires : tie.Need-zero-u16-requires
+zero-u16-requires c κs = search needs
 
 refusal-before-requires : tie.Need-refusal-before-requires
 refusal-before-requires c κs = search needs
@@ -32,12 +32,12 @@ returns : tie.Need-returns
 returns c =
     let b = c .before .before .before .before in
     let z = b .before .before .before .before .before .before .zero-tables .ensures in
-    meets _ _ (left-refused _ (b .zero-u8 .kept .0) (c .before .refusal-before .ensures) (c .if1 .taken) (z .0) (z .1) (b .zero-u8 .ensures))
+    meets _ _ (left-refused _ (b .zero-u16 .kept .0) (c .before .refusal-before .ensures) (c .if1 .taken) (z .0) (z .1) (b .zero-u16 .ensures))
 
 judge-sound-requires : tie.Need-judge-sound-requires
 judge-sound-requires c κs =
     let t = c .before .before .before .before .before .before .before .before .before .before .before .before .before .zero-tables in
-    let b = c .before .before .before .before .before .before .before .zero-u8 in
+    let b = c .before .before .before .before .before .before .before .zero-u16 in
     let none = sym (c .before .before .before .before .refusal-before .ensures) ∙ c .before .before .before .if1 .left in (
       sound-before _ _ _ 8 0 none,
       not-below _ _ _ 8 0 none (omega arith),
@@ -58,7 +58,7 @@ same-length-6 c = search needs
 returns-2 : tie.Need-returns-2
 returns-2 c =
     let s = c .before .before .before .before .before .before .before .before .before .before .before .before .before .before in
-    let b = s .zero-u8 in
+    let b = s .zero-u16 in
     let t = s .before .before .before .before .before .before .zero-tables in
     meets _ _ (service-kept _ _ (c .before .before .before .before .before .before .judge-sound .ensures) (t .kept .0) (t .kept .1 .0) (b .kept .0))
 
@@ -67,7 +67,7 @@ judge-spec =
     tie.close
     (tie.spec
     zero-tables-requires
-    zero-u8-requires
+    zero-u16-requires
     refusal-before-requires
     same-length
     same-length-2

@@ -1,5 +1,8 @@
 -- `judge::judge_sound` meets its contract.
 -- Assumes nothing.
+use Prim.Native.Nat.{_≤_}
+use native.Mathlib.Omega.{arith}
+use lib.ListN.{length}
 use borrow.Author.Tests.{not-true, not-false}
 use Rattle.sound_files.specs.Sound.Laws.{start-sound}
 use Rattle.sound_files.specs.Saturated.Laws.{table-there, table-none, table-stands}
@@ -41,12 +44,19 @@ returns c =
 slice-aggregate-mark-starts : tie.Need-slice-aggregate-mark-starts
 slice-aggregate-mark-starts c = search needs
 
+slice-aggregate-mark-starts-2 : tie.Need-slice-aggregate-mark-starts-2
+slice-aggregate-mark-starts-2 c = search needs
+
 mark-starts-requires : tie.Need-mark-starts-requires
 mark-starts-requires c κs =
-    let s = c .before .before .before .before .before .before .before .before .before .before .before .before .before .before in
+    let s = c .before .before .before .before .before .before .before .before .before .before .before .before .before .before .before in
     let e = s .before .before .before .before .before .before .before .before .before .before .before in
-    let p = e .pre in (
-      table-stands (s .saturate-case .ensures) (p .0 .sound-case) (not-false (s .saturate-case .result .fits) (c .before .before .before .before .if1 .left)),
+    let p = e .pre in
+    let k = s .saturate-case .ensures .sizes-few in
+    let room : 2050 ≤ length (s .saturate-case .last .1 .1 .1 .1 .1 .0) = search needs in (
+      table-stands (s .saturate-case .ensures) (p .0 .sound-case) (not-false (s .saturate-case .result .fits) (c .before .before .before .before .before .if1 .left)),
+      omega arith,
+      omega arith,
       start-sound (p .0),
       p .1,
     )
@@ -65,7 +75,7 @@ same-length-5 c = search needs
 
 returns-2 : tie.Need-returns-2
 returns-2 c =
-    let t = c .before .before .before .before .before .before .before .before .before .before .before .before .before .before in
+    let t = c .before .before .before .before .before .before .before .before .before .before .before .before .before .before .before in
     let s = t .before .before .before .before .before .before .before .before .before .before in
     let e = s .before .before .before .before .before .before .before .before .before .before .before in
     let z = c .before .before .before .before .zero-tables2 .ensures in
@@ -86,6 +96,7 @@ judge-sound-spec =
     same-length-2
     returns
     slice-aggregate-mark-starts
+    slice-aggregate-mark-starts-2
     mark-starts-requires
     zero-tables-requires-2
     same-length-3

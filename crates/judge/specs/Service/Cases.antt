@@ -52,15 +52,15 @@ module _ (x : JudgeInput) where
     answers-exceeded e = exceeded-is (judge-cases x) e
 
     judged-is : {d : JudgeDone} → JudgeCase x d → {T : Saturated} → saturated (judgeLent x) ≡ some T
-        → d ≡ judgeLeft x 0 (map (mark (T .table) (x .start)) (startsOf (x .start)))
+        → d ≡ judgeLeft x 0 (map (mark (x .case) T (x .start)) (startsOf (x .start)))
     unfolding judgeFiles
     judged-is (case-refused h) e = absurd (h (sound .sound-case))
     judged-is (start-refused c h) e = absurd (h (sound .sound-start))
     judged-is (answers-short c s h) e = absurd (omega (arith, lent))
     judged-is (size-exceeded c s h f) {T} e = absurd (Option·none-ne-some T (sym f ∙ e))
     judged-is (judged U c s h f) {T} e =
-        ap (λ (W : Saturated). judgeLeft x 0 (map (mark (W .table) (x .start)) (startsOf (x .start)))) (Option·some-injective U T (sym f ∙ e))
+        ap (λ (W : Saturated). judgeLeft x 0 (map (mark (x .case) W (x .start)) (startsOf (x .start)))) (Option·some-injective U T (sym f ∙ e))
 
     pub answers-judged : {T : Saturated} → saturated (judgeLent x) ≡ some T
-        → judgeService x ≡ judgeLeft x 0 (map (mark (T .table) (x .start)) (startsOf (x .start)))
+        → judgeService x ≡ judgeLeft x 0 (map (mark (x .case) T (x .start)) (startsOf (x .start)))
     answers-judged e = judged-is (judge-cases x) e

@@ -15,6 +15,8 @@ use Rattle.tables.specs.Laws.Filled.{drop-zeros}
 use Rattle.services.specs.Memory.Laws.{padded-none}
 use Rattle.sound_files.specs.Refusal.{FilesSound, refusedBefore}
 use Rattle.sound_files.specs.Saturated.{lentOf}
+use Rattle.judge.specs.Marks.{markOf}
+use Rattle.judge.specs.Marks.Laws.{marks-judged}
 use Rattle.judge.specs.Service.{judgeInput, judgeDone}
 use Rattle.judge.specs.Service.Cases.{answers-refused, answers-exceeded, answers-judged}
 
@@ -38,15 +40,16 @@ module _ (x : JudgeInput) {m e a : List ℕ} where
 
     -- a₀ being the answers before they are marked
     pub left-judged : {T : Saturated} {a₀ : List ℕ} → saturated (lentOf (x .case) (x .moves) (x .entries)) ≡ some T → a₀ ≡ zeros (x .answers)
-        → a ≡ map (mark (T .table) (x .start)) (startsOf (x .start)) ++ drop (length (startsOf (x .start))) a₀
+        → a ≡ map (markOf T (x .start)) (startsOf (x .start)) ++ drop (length (startsOf (x .start))) a₀
         → judgeDone 0 m e a ≡ judgeService x
     unfolding judgeLeft judgeLent padded
-    left-judged {T} h z marks =
+    left-judged {T} {a₀} h z marks =
         let n : ℕ = length (startsOf (x .start)) in
-        let l : List ℕ = map (mark (T .table) (x .start)) (startsOf (x .start)) in
-        let len : length l ≡ n = length-map (startsOf (x .start)) (mark (T .table) (x .start)) in
+        let l : List ℕ = map (mark (x .case) T (x .start)) (startsOf (x .start)) in
+        let len : length l ≡ n = length-map (startsOf (x .start)) (mark (x .case) T (x .start)) in
         done-same refl (p ∙ ap zeros kept) (q ∙ ap zeros kept′)
         (marks
+        ∙ ap (λ (y : List ℕ). y ++ drop n a₀) (marks-judged (lentOf (x .case) (x .moves) (x .entries)) (sound .sound-case) h (x .start))
         ∙ ap (λ (y : List ℕ). l ++ y) (ap (drop n) z ∙ drop-zeros n (x .answers) ∙ ap (λ (i : ℕ). zeros (x .answers - i)) (sym len)))
         ∙ sym (answers-judged x sound lent h)
 
