@@ -14,7 +14,7 @@ ghost use Rattle.guided_walk.specs.Turns.{Leaves};
 ghost use Rattle.sound_files.specs.Sound.{StartSound};
 ghost use Rattle.guided_start.specs.Tables.{TablesStand};
 ghost use Rattle.guided_start.specs.Run.{guideInput, lentCells, shortAtStart};
-ghost use Rattle.guided_start.specs.Walk.{Ready};
+ghost use Rattle.guided_start.specs.Walk.{StartRounds, Ready};
 use guided_step::Walk;
 use limits::Limits;
 use replies::Counts;
@@ -49,17 +49,17 @@ fn walk_from(
     moves: &[u64],
     sizes: &[u64],
     k: usize,
-    words: &[u64],
+    rounds: &[u16],
     cells: &mut [u16],
     most: usize,
     trace: &mut [u16],
 ) -> Reply
-    requires { ⌜ Ready (now case) (now start) z (now inner) (now entries) (now moves) k (now sizes) (now words) × (x .root < 256) × (now trace ≡ zeros (length (now trace))) × (length (cellsOf (now start)) ≤ most) × (most * 68 ≤ length (now cells)) × (most ≤ 4096) ⌝ }
+    requires { ⌜ Ready (now case) (now start) z (now inner) (now entries) (now moves) k (now sizes) (now rounds) × (x .root < 256) × (now trace ≡ zeros (length (now trace))) × (length (cellsOf (now start)) ≤ most) × (most * 68 ≤ length (now cells)) × (most ≤ 4096) ⌝ }
     ensures { λ r. ⌜ Leaves (guided (rulesOf (now (case .entry))) (saturatedIn z (now (inner .entry)) (now (entries .entry)) (now (moves .entry)) k (now (sizes .entry))) most (length (now (trace .entry))) [] (startWalk (automatonOf z (now (inner .entry)) (now (entries .entry)) (now (moves .entry))) (cellsOf (now (start .entry))) (x .control) (x .root))) (length (now (trace .entry))) r (now (trace .exit)) ⌝ }
 {
     let body = start_file::cell_body(start);
     let n = bytes_in::count_of(start, Limits::CELL_BODY);
-    least_choices::put_start_cells(z, inner, entries, moves, body, n, words, cells);
+    least_choices::put_start_cells(z, inner, entries, moves, body, n, rounds, cells);
     let rules = case_file::rule_body(case);
     let count = bytes_in::count_of(case, Limits::RULE_BODY);
     let w = Walk::start(x.control, x.root as u16, n);
@@ -79,8 +79,8 @@ fn walk_from(
     )
 }
 
-// Guides from one start of a sound start file, for a sound case whose saturated table stands in these tables, its sizes in the first k rows.
-// The trace is all zero before. What the cells hold after it is left free: the service zeroes them.
+// Guides from one start of a sound start file, for a sound case whose saturated table stands in these tables, its sizes in the first k rows, and
+// the words of the start file's cells. The trace is all zero before. What the cells hold after it is left free: the service zeroes them.
 pub fn guide_start(
     case: &[u8],
     start: &[u8],
@@ -91,22 +91,22 @@ pub fn guide_start(
     moves: &[u64],
     sizes: &[u64],
     k: usize,
+    rounds: &[u16],
     cells: &mut [u16],
     trace: &mut [u16],
 ) -> Reply
-    requires { ⌜ (caseRefusal (now case) ≡ 0) × StartSound (now start) × TablesStand z (now inner) (now entries) (now moves) k (now sizes) × (number < length (startsOf (now start))) × (now trace ≡ zeros (length (now trace))) ⌝ }
+    requires { ⌜ (caseRefusal (now case) ≡ 0) × StartSound (now start) × TablesStand z (now inner) (now entries) (now moves) k (now sizes) × StartRounds z (now inner) (now entries) (now moves) k (now sizes) (now start) (now rounds) × (number < length (startsOf (now start))) × (now trace ≡ zeros (length (now trace))) ⌝ }
     ensures { λ r. ⌜ Leaves (guideRun (guideInput (now (case .entry)) (now (start .entry)) number (length (now (moves .entry))) (length (now (entries .entry))) (length (now (cells .entry))) (length (now (trace .entry)))) (saturatedIn z (now (inner .entry)) (now (entries .entry)) (now (moves .entry)) k (now (sizes .entry)))) (length (now (trace .entry))) r (now (trace .exit)) ⌝ }
 {
-    let mut words = [0u64; Limits::START_CELLS];
-    sound_files::start_words(z, inner, entries, moves, start, &mut words);
-    let x = start_records::start_at(start_file::start_body(start), number);
-    if !acceptance::accepted(&words, x.root as usize, x.control) {
+    let won = sound_files::start_accepted(start, number, rounds);
+    if !acceptance::is_won(won) {
         return Reply::NoRun;
     }
     let most = cells_lent(cells.len());
     if most < bytes_in::count_of(start, Limits::CELL_BODY) {
         return short_at_start();
     }
+    let x = start_records::start_at(start_file::start_body(start), number);
     walk_from(
         case,
         start,
@@ -117,7 +117,7 @@ pub fn guide_start(
         moves,
         sizes,
         k,
-        &words,
+        rounds,
         cells,
         most,
         trace,

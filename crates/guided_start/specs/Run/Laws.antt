@@ -3,32 +3,31 @@
 use Prim.Native.Nat.{ℕ, _*_, _/_, _≤_, _<_, min}
 use mathlib.Core.Bool.{Bool, true, false}
 use mathlib.Core.Path.{_≡_, refl, ap, ap₂, sym, _∙_, subst}
-use mathlib.Core.List.{List, [], _++_}
+use mathlib.Core.List.{List, []}
 use native.Mathlib.Nat.{min-le-left, min-le-right}
 use native.Mathlib.Omega.{arith}
-use lib.ListN.{length, getD}
-use Rattle.words.specs.Sets.{member}
-use Rattle.words.specs.Lists.Laws.{getD-in}
-use Rattle.automata.specs.Automaton.{Automaton}
+use lib.ListN.{length}
 use Rattle.automata.specs.Saturation.{Saturated}
+use Rattle.replies.specs.declared.Acceptance.{Acceptance}
 use Rattle.replies.specs.declared.Reply.{Reply}
 use Rattle.replies.specs.declared.Reply.the-variants.{NoRun}
 use Rattle.replies.specs.declared.Halt.the-variants.{CellsShort}
 use Rattle.walks.specs.Guide.{Report, walkedBy, noRun, startWalk, guided}
-use Rattle.files.specs.Bytes.{countOf}
 use Rattle.files.specs.Case.{rulesOf}
 use Rattle.files.specs.Start.{Start, startOf, startsOf, cellsOf}
 use Rattle.words.specs.Lists.{zeros}
-use Rattle.services.specs.Judge.{accepted}
-use Rattle.services.specs.Guide.{GuideInput, cellWords, cellsLent, startNamed, guideWalk, guideRun}
+use Rattle.services.specs.Guide.{GuideInput, accepted, cellWords, cellsLent, startNamed, guideWalk, guideRun}
 use Rattle.services.specs.Guide.Laws.{walk-short, walk-goes}
 use Rattle.services.specs.Memory.Laws.{padded-none}
 use Rattle.bytes_in.specs.Records.{recordAt, bodyOf}
-use Rattle.acceptance.specs.Cells as acceptance
+use Rattle.rounds.specs.Won.{isWon}
+use Rattle.rounds.specs.Won.Laws.{round2-accepts}
+use Rattle.acceptance.specs.Cells.{RoundsStand}
+use Rattle.acceptance.specs.Cells.Laws.{StatesBelow}
 use Rattle.guided_walk.specs.Turns.{Leaves}
+use Rattle.sound_files.specs.Starts.{startNumber, startRound}
 use Rattle.sound_files.specs.Sound.{StartSound}
-use Rattle.sound_files.specs.Sound.Laws.{starts-count, start-at}
-use Rattle.sound_files.specs.Sound.Words.{start-member}
+use Rattle.sound_files.specs.Sound.Rounds.{start-read, start-number-in, start-since}
 use Rattle.guided_start.specs.Run.{guideInput, lentCells, shortAtStart}
 
 -- they are in the slice, and at most 4,096
@@ -44,22 +43,24 @@ leaves-same {n = n} {r = r} {trace = trace} e = subst (λ (q : Report). Leaves q
 -- ---- the start
 
 module _ (x : GuideInput) (there : x .number < length (startsOf (x .start))) where
+  same-start : startNumber (x .start) (x .number) ≡ startNamed x
+  unfolding startNumber startNamed
+  same-start = refl
+
   -- the start that was read is the one named
   pub named : {s : Start} {body : List ℕ} → body ≡ bodyOf (x .start) 0 3 → s ≡ startOf (recordAt 3 (x .number) body) → s ≡ startNamed x
-  unfolding startNamed
-  named b e =
-      let n : length (startsOf (x .start)) ≡ countOf (x .start) 0 = starts-count (x .start) in
-      e ∙ ap (λ (l : List ℕ). startOf (recordAt 3 (x .number) l)) b ∙ sym (start-at (x .start) (x .number) _ (omega arith))
+  named b e = start-read (x .start) (x .number) there b e ∙ same-start
 
-  -- the word of its root says whether it is accepted
-  pub tested : (A : Automaton) (more : List ℕ) {words : List ℕ} {s : Start} {t : Bool} → StartSound (x .start)
-      → words ≡ acceptance.cellWords A (cellsOf (x .start)) ++ more → s ≡ startNamed x → t ≡ member (getD words (s .root) 0) (s .control)
-      → t ≡ accepted A (x .start) (startNamed x)
-  unfolding startNamed
-  tested A more sound w e is =
+  -- its answer says whether it is accepted
+  pub tested : (T : Saturated) {rounds : List ℕ} {a : Acceptance} {t : Bool} → StatesBelow (T .table) → StartSound (x .start)
+      → RoundsStand T (cellsOf (x .start)) rounds (length (cellsOf (x .start))) → a ≡ startRound rounds (startNumber (x .start) (x .number))
+      → t ≡ isWon a → t ≡ accepted (T .table) (x .start) (startNamed x)
+  unfolding accepted
+  tested T B sound R e is =
       is
-      ∙ ap₂ (λ (l : List ℕ) (y : Start). member (getD l (y .root) 0) (y .control)) w e
-      ∙ start-member (x .start) sound A more (startNamed x) (getD-in (startsOf (x .start)) (x .number) _ there)
+      ∙ ap isWon (e ∙ start-since T B (x .start) sound R (startNumber (x .start) (x .number)) (start-number-in (x .start) (x .number) there))
+      ∙ round2-accepts T _ _
+      ∙ ap (accepted (T .table) (x .start)) same-start
 
 -- ---- the run
 

@@ -41,4 +41,5 @@ tables-stand {m = m} {k = k} C sound f i l =
       stands = table-stands C sound f;
       few = record { moves-few = omega arith; edges-few = omega arith };
       sizes-lent = omega arith;
+      sizes-few = n;
     }

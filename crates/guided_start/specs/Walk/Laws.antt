@@ -38,15 +38,6 @@ use Rattle.guided_start.specs.Tables.Laws.{reading-stands}
 use Rattle.guided_start.specs.Run.Laws.{leaves-same}
 use Rattle.guided_start.specs.Walk.{WordsStand, Ready}
 
--- the words as they are written
-pub words-written : (A : Automaton) (cells : List Cell) (more : List ℕ) {words : List ℕ} → length cells ≤ length words
-    → words ≡ cellWords A cells ++ more → WordsStand A cells words
-words-written A cells more l e =
-    record {
-      words-lent = l;
-      words-are = ap (take (length cells)) e ∙ take-at (cellWords A cells) more (length cells) (length-cellWords A cells);
-    }
-
 -- ---- the start's cells
 
 module _ (file : List ℕ) {body : List ℕ} {n : ℕ} (b : body ≡ bodyOf file 1 6) (count : n ≡ countOf file 1) where
@@ -57,19 +48,20 @@ module _ (file : List ℕ) {body : List ℕ} {n : ℕ} (b : body ≡ bodyOf file
   cells-number = count ∙ sym (cells-count file)
 
   -- what is asked before they are written
-  pub prepared : {case : List ℕ} {z : Table} {inner entries moves : List ℕ} {k : ℕ} {sizes words : List ℕ}
-      → Ready case file z inner entries moves k sizes words → Prepared z inner entries moves body n words
-  prepared {z = z} {inner} {entries} {moves} {words = words} r =
-      let A : Automaton = automatonOf z inner entries moves in
-      let w = r .words-stand .words-lent in
+  pub prepared : {case : List ℕ} {z : Table} {inner entries moves : List ℕ} {k : ℕ} {sizes rounds : List ℕ}
+      → Ready case file z inner entries moves k sizes rounds → Prepared z inner entries moves body n rounds
+  prepared {z = z} {inner} {entries} {moves} {k} {sizes} {rounds} r =
+      let T : Saturated = saturatedIn z inner entries moves k sizes in
+      let few = cells-few file (r .start-is .in-place) in
+      let room = r .start-rounds .rounds-lent in
       let e = cells-number in
       record {
         stands = r .tables .stands;
         few = r .tables .few;
         body-lent = cells-lent file (r .start-is .in-place) {words = 256} count b (omega arith) .0;
         formed = subst Formed (sym cells-file) (r .start-is .formed);
-        words-lent = omega arith;
-        words-are = ap (λ (i : ℕ). take i words) e ∙ r .words-stand .words-are ∙ ap (cellWords A) (sym cells-file);
+        rounds-lent = omega arith;
+        accepted-in = ?;
       }
 
   -- once written, they are those of the walk from the start
