@@ -7,13 +7,13 @@ use mathlib.Core.Bool.{Bool, true, false}
 use mathlib.Core.List.{List, [], _∷_}
 use Rattle.cell_memory.specs.Memory.{withChoice}
 
--- the words where cell i chooses n for state q, if the test holds
+-- the lent cells where cell i chooses n for state q, if the test holds
 unfoldable pub choiceIf : Bool → ℕ → ℕ → ℕ → List ℕ → List ℕ
 choiceIf true i q n cells = withChoice cells i q n
 choiceIf false i q n cells = cells
 
--- the words where cell i chooses, for each state, the least number of an element of that state that is met, the first element having number
--- n; the other choices are kept
+-- the lent cells where cell i chooses, for each state, the least number of an element of that state that is met, the first element having
+-- number n; the other choices are kept
 unfoldable pub leastMet : {X : Type 0} → (X → ℕ) → (X → Bool) → ℕ → ℕ → List X → List ℕ → List ℕ
 leastMet state met i n [] cells = cells
 leastMet state met i n (x ∷ xs) cells = choiceIf (met x) i (state x) n (leastMet state met i (suc n) xs cells)

@@ -1,7 +1,9 @@
 -- `least_choices::put_least_choices` meets its contract.
 -- Assumes nothing.
+use native.Mathlib.Omega.{arith}
 use Rattle.automata.specs.Automaton.{edges}
 use Rattle.tables.specs.Held.{automatonOf}
+use Rattle.acceptance.specs.Cells.Turns.{parts-symbol, parts-above}
 use Rattle.least_choices.specs.Starts.Turns.{by-empty1, by-symbol, by-empty2, by-above}
 use borrow.Author.Needs.{needs}
 use Rattle.least_choices.proofs.put_least_choices.Statement.{statement}
@@ -13,23 +15,23 @@ enum-told c = search needs
 enum-known-cell : tie.Need-enum-known-cell
 enum-known-cell c = search needs
 
-cast-word-before : tie.Need-cast-word-before
-cast-word-before c = search needs
-
-word-before-requires : tie.Need-word-before-requires
-word-before-requires c κs = search needs
-
-cast-word-before-2 : tie.Need-cast-word-before-2
-cast-word-before-2 c = search needs
-
-word-before-requires-2 : tie.Need-word-before-requires-2
-word-before-requires-2 c κs = search needs
-
 cast-put-move-choices : tie.Need-cast-put-move-choices
 cast-put-move-choices c = search needs
 
+cast-put-move-choices-2 : tie.Need-cast-put-move-choices-2
+cast-put-move-choices-2 c = search needs
+
+cast-put-move-choices-3 : tie.Need-cast-put-move-choices-3
+cast-put-move-choices-3 c = search needs
+
 put-move-choices-requires : tie.Need-put-move-choices-requires
-put-move-choices-requires c κs = search needs
+put-move-choices-requires c κs =
+    let p = c .before .before .before .before .before .before .before .before .before .pre in
+    let below = parts-symbol _ _ _ (c .before .before .cell .given .1) (p .2) in
+    let u = below .0 in
+    let s = below .1 in
+    let room = p .3 in
+    (p .0 .moves-named, p .1, omega arith, omega arith, p .4)
 
 enum-told-2 : tie.Need-enum-told-2
 enum-told-2 c = search needs
@@ -37,20 +39,20 @@ enum-told-2 c = search needs
 enum-known-cell-2 : tie.Need-enum-known-cell-2
 enum-known-cell-2 c = search needs
 
-cast-word-before-3 : tie.Need-cast-word-before-3
-cast-word-before-3 c = search needs
+cast-put-edge-choices : tie.Need-cast-put-edge-choices
+cast-put-edge-choices c = search needs
 
-word-before-requires-3 : tie.Need-word-before-requires-3
-word-before-requires-3 c κs = search needs
-
-cast-word-before-4 : tie.Need-cast-word-before-4
-cast-word-before-4 c = search needs
-
-word-before-requires-4 : tie.Need-word-before-requires-4
-word-before-requires-4 c κs = search needs
+cast-put-edge-choices-2 : tie.Need-cast-put-edge-choices-2
+cast-put-edge-choices-2 c = search needs
 
 put-edge-choices-requires : tie.Need-put-edge-choices-requires
-put-edge-choices-requires c κs = search needs
+put-edge-choices-requires c κs =
+    let p = c .before .before .before .before .before .before .before .before .before .pre in
+    let below = parts-above _ _ (c .before .before .cell2 .given .1) (p .2) in
+    let w = below .0 in
+    let t = below .1 in
+    let room = p .3 in
+    (p .0 .edges-stand, p .0 .entries-stand, p .0 .edges-named, p .1, omega arith, omega arith, p .4)
 
 returns : tie.Need-returns
 returns c = by-empty1 (automatonOf (c .before .before .before .before .before .before .before .args .z) _ _ _) _ _ _ _ _ (c .enum-told .given .1)
@@ -60,8 +62,7 @@ same-length c = search needs
 
 returns-2 : tie.Need-returns-2
 returns-2 c =
-    by-symbol (automatonOf (c .before .before .before .before .before .before .before .before .before .before .before .before .before .before .args .z) _ _ _) _ _ _ _ _ _ _ _
-    (c .before .before .before .before .before .before .before .cell .given .1) (c .before .before .before .before .before .word-before .ensures) (c .before .before .before .before .word-before2 .ensures) (c .before .before .put-move-choices .ensures)
+    by-symbol (automatonOf (c .before .before .before .before .before .before .before .before .before .before .before .before .args .z) _ _ _) _ _ _ _ _ _ _ _ (c .before .before .before .before .before .cell .given .1) (c .before .before .put-move-choices .ensures)
 
 returns-3 : tie.Need-returns-3
 returns-3 c = by-empty2 (automatonOf (c .before .before .before .before .before .before .before .args .z) _ _ _) _ _ _ _ _ (c .enum-told2 .given .1)
@@ -72,8 +73,7 @@ same-length-2 c = search needs
 returns-4 : tie.Need-returns-4
 unfolding edges
 returns-4 c =
-    by-above (automatonOf (c .before .before .before .before .before .before .before .before .before .before .before .before .before .before .args .z) _ _ _) _ _ _ _ _ _ _
-    (c .before .before .before .before .before .before .before .cell2 .given .1) (c .before .before .before .before .before .word-before3 .ensures) (c .before .before .before .before .word-before4 .ensures) (c .before .before .put-edge-choices .ensures)
+    by-above (automatonOf (c .before .before .before .before .before .before .before .before .before .before .before .before .args .z) _ _ _) _ _ _ _ _ _ _ (c .before .before .before .before .before .cell2 .given .1) (c .before .before .put-edge-choices .ensures)
 
 pub put-least-choices-spec : {M : Type 1} → statement M
 put-least-choices-spec =
@@ -81,18 +81,14 @@ put-least-choices-spec =
     (tie.spec
     enum-told
     enum-known-cell
-    cast-word-before
-    word-before-requires
-    cast-word-before-2
-    word-before-requires-2
     cast-put-move-choices
+    cast-put-move-choices-2
+    cast-put-move-choices-3
     put-move-choices-requires
     enum-told-2
     enum-known-cell-2
-    cast-word-before-3
-    word-before-requires-3
-    cast-word-before-4
-    word-before-requires-4
+    cast-put-edge-choices
+    cast-put-edge-choices-2
     put-edge-choices-requires
     returns
     same-length

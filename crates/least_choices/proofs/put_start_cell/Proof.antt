@@ -1,7 +1,7 @@
 -- `least_choices::put_start_cell` meets its contract.
 -- Assumes nothing.
 use Rattle.tables.specs.Held.{automatonOf}
-use Rattle.least_choices.specs.Starts.Turns.{start-put}
+use Rattle.least_choices.specs.Starts.Turns.{start-put, start-parts}
 use borrow.Author.Needs.{needs}
 use Rattle.least_choices.proofs.put_start_cell.Statement.{statement}
 use Rattle.least_choices.proofs.put_start_cell.Tie as tie
@@ -16,7 +16,11 @@ put-cell-requires : tie.Need-put-cell-requires
 put-cell-requires c κs = search needs
 
 put-least-choices-requires : tie.Need-put-least-choices-requires
-put-least-choices-requires c κs = search needs
+put-least-choices-requires c κs =
+    let a = c .before .before .before .before .before .before .before .before .before .before .before .before .before .args in
+    let p = c .before .before .before .before .before .before .before .before .before .before .before .before .before .pre in
+    let parts = start-parts (a .n) _ (p .0 .formed) (p .1) (c .before .before .before .before .before .before .cell-at .ensures) in
+    (p .0 .stands, p .0 .few, parts, search needs, search needs)
 
 same-length : tie.Need-same-length
 same-length c = search needs

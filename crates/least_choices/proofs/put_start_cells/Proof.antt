@@ -4,17 +4,17 @@ use Prim.Native.Nat.{_-_, _≤_}
 use borrow.Author.Needs.{needs}
 use Rattle.tables.specs.Held.{automatonOf}
 use Rattle.acceptance.specs.Cells.Body.{cellsIn, length-cellsIn}
-use Rattle.least_choices.specs.Starts.Laws.{states-small}
+use Rattle.acceptance.specs.Cells.Laws.{states-below}
 use Rattle.least_choices.specs.Starts.Turns.{StartTaken, taken-none, taken-more, taken-all}
 use Rattle.least_choices.proofs.put_start_cells.Statement.{statement}
 use Rattle.least_choices.proofs.put_start_cells.Tie as tie
 
 abbrev Inv-loop : tie.InvT-loop
-Inv-loop z inner entries moves body n words cells₀ i₀ cells i =
+Inv-loop z inner entries moves body n rounds cells₀ i₀ cells i =
     (i ≤ n) × StartTaken (automatonOf z inner entries moves) (cellsIn n body) cells₀ cells i
 
 abbrev μ-loop : tie.MeasureT-loop
-μ-loop z inner entries moves body n words cells₀ i₀ cells i = n - i
+μ-loop z inner entries moves body n rounds cells₀ i₀ cells i = n - i
 
 loop-holds : tie.Need-loop-holds Inv-loop μ-loop
 loop-holds c = (search needs, taken-none _ _ _)
@@ -33,10 +33,9 @@ loop-less c = search needs
 loop-again : tie.Need-loop-again Inv-loop μ-loop
 loop-again c =
     let a = c .before .before .before .before .before .before .before .before .before .before .before .before .args in
-    let len = length-cellsIn (a .n) (a .body .now) in
     let p = c .before .before .before .before .before .before .before .before .before .before .before .before .pre .0 in (
       search needs,
-      taken-more (c .before .before .before .before .before .loop .inv .1) (p .formed) (states-small (p .stands)) (search needs) (search needs) (p .words-are)
+      taken-more (c .before .before .before .before .before .loop .inv .1) (p .formed) (states-below (p .stands)) (p .accepted-in) (length-cellsIn (a .n) (a .body .now)) (search needs) (search needs)
           (c .before .before .put-start-cell .ensures),
     )
 

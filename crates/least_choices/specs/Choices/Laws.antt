@@ -1,4 +1,4 @@
--- What stands in lent cells after the choices of one of them are written, and the words after one element more.
+-- What stands in lent cells after the choices of one of them are written, and after one element more.
 -- Assumes nothing.
 use Prim.Native.Nat.{ℕ, suc, _+_, _*_, _<_, _≤_}
 use mathlib.Core.Bool.{Bool, true, false, _&&_}
@@ -64,18 +64,18 @@ choiceIf-choice false i q n cells h l x = refl
 -- ---- the choices of all elements
 
 -- the states of the elements are below 64
-abbrev pub StatesBelow : {X : Type 0} → (X → ℕ) → X → List X → Type 0
-StatesBelow state d xs = (k : ℕ) → k < length xs → state (getD xs k d) < 64
+abbrev pub ElementsBelow : {X : Type 0} → (X → ℕ) → X → List X → Type 0
+ElementsBelow state d xs = (k : ℕ) → k < length xs → state (getD xs k d) < 64
 
 module _ {X : Type 0} (state : X → ℕ) (met : X → Bool) (i : ℕ) (d : X) where
-  pub length-leastMet : (n : ℕ) (xs : List X) (cells : List ℕ) → StatesBelow state d xs → length (leastMet state met i n xs cells) ≡ length cells
+  pub length-leastMet : (n : ℕ) (xs : List X) (cells : List ℕ) → ElementsBelow state d xs → length (leastMet state met i n xs cells) ≡ length cells
   unfolding leastMet
   length-leastMet n [] cells small = refl
   length-leastMet n (x ∷ xs) cells small =
       length-choiceIf (met x) i (state x) n (leastMet state met i (suc n) xs cells) (small 0 (omega arith))
       ∙ length-leastMet (suc n) xs cells (λ k h. small (suc k) (omega arith))
 
-  pub leastMet-other : (n : ℕ) (xs : List X) (cells : List ℕ) → StatesBelow state d xs → (j : ℕ) → (j ≡ i → ⊥)
+  pub leastMet-other : (n : ℕ) (xs : List X) (cells : List ℕ) → ElementsBelow state d xs → (j : ℕ) → (j ≡ i → ⊥)
       → guidedCell (leastMet state met i n xs cells) j ≡ guidedCell cells j
   unfolding leastMet
   leastMet-other n [] cells small j e = refl
@@ -83,12 +83,12 @@ module _ {X : Type 0} (state : X → ℕ) (met : X → Bool) (i : ℕ) (d : X) w
       choiceIf-other (met x) i (state x) n (leastMet state met i (suc n) xs cells) (small 0 (omega arith)) j e
       ∙ leastMet-other (suc n) xs cells (λ k h. small (suc k) (omega arith)) j e
 
-  leastMet-cell : (n : ℕ) (xs : List X) (cells : List ℕ) → StatesBelow state d xs → i * 68 + 68 ≤ length cells
+  leastMet-cell : (n : ℕ) (xs : List X) (cells : List ℕ) → ElementsBelow state d xs → i * 68 + 68 ≤ length cells
       → guidedCell (leastMet state met i n xs cells) i .cell ≡ guidedCell cells i .cell
   unfolding leastMet
   leastMet-cell n [] cells small l = refl
   leastMet-cell n (x ∷ xs) cells small l =
-      let small′ : StatesBelow state d xs = λ k h. small (suc k) (omega arith) in
+      let small′ : ElementsBelow state d xs = λ k h. small (suc k) (omega arith) in
       let len : length (leastMet state met i (suc n) xs cells) ≡ length cells = length-leastMet (suc n) xs cells small′ in
       choiceIf-cell (met x) i (state x) n (leastMet state met i (suc n) xs cells) (small 0 (omega arith)) (omega arith)
       ∙ leastMet-cell (suc n) xs cells small′ l
@@ -97,13 +97,13 @@ module _ {X : Type 0} (state : X → ℕ) (met : X → Bool) (i : ℕ) (d : X) w
   abbrev pub Agree : (X → Bool) → (ℕ → Bool) → ℕ → ℕ → List X → Type 0
   Agree mine test q n xs = (k : ℕ) → k < length xs → met (getD xs k d) && eqb (state (getD xs k d)) q ≡ mine (getD xs k d) && test (n + k)
 
-  leastMet-choice : (mine : X → Bool) (test : ℕ → Bool) (q n : ℕ) (xs : List X) (cells : List ℕ) → StatesBelow state d xs → i * 68 + 68 ≤ length cells
+  leastMet-choice : (mine : X → Bool) (test : ℕ → Bool) (q n : ℕ) (xs : List X) (cells : List ℕ) → ElementsBelow state d xs → i * 68 + 68 ≤ length cells
       → guidedCell cells i .choice q ≡ 0 → Agree mine test q n xs
       → guidedCell (leastMet state met i n xs cells) i .choice q ≡ firstOrZero (only test (placesFrom n mine xs))
   unfolding leastMet placesFrom only firstOrZero
   leastMet-choice mine test q n [] cells small l none agree = none
   leastMet-choice mine test q n (x ∷ xs) cells small l none agree =
-      let small′ : StatesBelow state d xs = λ k h. small (suc k) (omega arith) in
+      let small′ : ElementsBelow state d xs = λ k h. small (suc k) (omega arith) in
       let len : length (leastMet state met i (suc n) xs cells) ≡ length cells = length-leastMet (suc n) xs cells small′ in
       let agree′ : Agree mine test q (suc n) xs =
       λ k h. let e : n + suc k ≡ suc n + k = omega arith in agree (suc k) (omega arith) ∙ ap (λ (m : ℕ). mine (getD xs k d) && test m) e in
@@ -114,7 +114,7 @@ module _ {X : Type 0} (state : X → ℕ) (met : X → Bool) (i : ℕ) (d : X) w
       (λ e. rw e (leastMet-choice mine test q (suc n) xs cells small′ l none agree′ ∙ sym (least-later mine test n x xs (sym here ∙ e))))
 
   -- where cell i had no choice, it has the least one for each state
-  pub leastMet-guided : (mine : ℕ → X → Bool) (test : ℕ → Bool) (xs : List X) (cells : List ℕ) → StatesBelow state d xs → i * 68 + 68 ≤ length cells
+  pub leastMet-guided : (mine : ℕ → X → Bool) (test : ℕ → Bool) (xs : List X) (cells : List ℕ) → ElementsBelow state d xs → i * 68 + 68 ≤ length cells
       → guidedCell cells i .choice ≡ (λ q. 0) → ((q : ℕ) → Agree (mine q) test q 0 xs)
       → guidedCell (leastMet state met i 0 xs cells) i
       ≡ record { cell = guidedCell cells i .cell; choice = λ q. firstOrZero (only test (placesFrom 0 (mine q) xs)) }
