@@ -58,7 +58,7 @@ final-past final q small l = by-test (member final q)
     (λ e. let b : q < 64 = small q (record { has = e }) in absurd (omega arith))
     (λ e. rw (finalRound, e))
 
-refers-parts : (cells : List Cell) (n : ℕ) (c : Cell) → Refers cells n c → PartsBelow n c
+pub refers-parts : (cells : List Cell) (n : ℕ) (c : Cell) → Refers cells n c → PartsBelow n c
 refers-parts cells n empty1 x = tt
 refers-parts cells n (symbol a u s) x = (x .0, x .1)
 refers-parts cells n empty2 x = tt

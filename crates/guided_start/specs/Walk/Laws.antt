@@ -2,15 +2,14 @@
 -- Assumes nothing.
 use Prim.Native.Nat.{ℕ, _*_, _≤_}
 use mathlib.Core.Path.{_≡_, ap, ap₂, sym, _∙_, subst}
-use mathlib.Core.List.{List, [], _++_}
+use mathlib.Core.List.{List, []}
 use native.Mathlib.Omega.{arith}
-use lib.ListN.{length, take}
-use lib.Seq.{take-at}
+use lib.ListN.{length}
 use Rattle.stacks.specs.System.{Rule}
 use Rattle.automata.specs.Automaton.{Automaton}
 use Rattle.automata.specs.Saturation.{Saturated}
 use Rattle.replies.specs.declared.Reply.{Reply}
-use Rattle.walks.specs.Cell.{Cell}
+use Rattle.walks.specs.Cell.{Cell, stacks, stackAt}
 use Rattle.walks.specs.Cell.Formed.{Formed}
 use Rattle.walks.specs.Guide as walks
 use Rattle.walks.specs.Guide.{startWalk, guided}
@@ -20,23 +19,23 @@ use Rattle.files.specs.Case.Laws.{case-placed}
 use Rattle.files.specs.Start.{cellsOf}
 use Rattle.bytes_in.specs.Records.{bodyOf}
 use Rattle.tables.specs.declared.Table.{Table}
-use Rattle.tables.specs.Held.{automatonOf}
 use Rattle.results.specs.Collecting.{rulesIn}
 use Rattle.saturate.specs.Case.Laws.{rules-are, rules-stand}
 use Rattle.cell_memory.specs.Memory.{guidedIn}
-use Rattle.acceptance.specs.Cells.{cellWords}
-use Rattle.acceptance.specs.Cells.Laws.{length-cellWords}
+use Rattle.rounds.specs.Won.{acceptsStack}
+use Rattle.saturation.specs.Held.{saturatedIn}
+use Rattle.acceptance.specs.Cells.Laws.{states-below, cell-won}
 use Rattle.acceptance.specs.Cells.Body.{cellsIn}
 use Rattle.acceptance.specs.Laws.Starts.{cells-body}
 use Rattle.least_choices.specs.Starts.{Prepared, startCells}
 use Rattle.guided_step.specs.declared.Walk.{Walk}
 use Rattle.guided_step.specs.Walks.{walkIn}
 use Rattle.guided_walk.specs.Turns.{RunStands, Leaves}
-use Rattle.sound_files.specs.Sound.Laws.{cells-count, cells-lent}
+use Rattle.sound_files.specs.Sound.Laws.{cells-count, cells-few, cells-lent}
 use Rattle.guided_start.specs.Tables.{TablesStand}
 use Rattle.guided_start.specs.Tables.Laws.{reading-stands}
 use Rattle.guided_start.specs.Run.Laws.{leaves-same}
-use Rattle.guided_start.specs.Walk.{WordsStand, Ready}
+use Rattle.guided_start.specs.Walk.{Ready}
 
 -- ---- the start's cells
 
@@ -61,7 +60,10 @@ module _ (file : List ℕ) {body : List ℕ} {n : ℕ} (b : body ≡ bodyOf file
         body-lent = cells-lent file (r .start-is .in-place) {words = 256} count b (omega arith) .0;
         formed = subst Formed (sym cells-file) (r .start-is .formed);
         rounds-lent = omega arith;
-        accepted-in = ?;
+        accepted-in = record {
+          won-is = λ i l q. cell-won T (states-below (r .tables .stands)) (cellsOf file) (r .start-rounds .rounds-stand) i (omega arith) q
+              ∙ ap (λ (cells : List Cell). acceptsStack (T .table) (stackAt (stacks cells) i) q) (sym cells-file);
+        };
       }
 
   -- once written, they are those of the walk from the start

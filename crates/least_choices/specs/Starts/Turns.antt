@@ -27,7 +27,7 @@ use Rattle.cell_memory.specs.Memory.Laws.{valueOf-cellOf, length-guidedIn, guid
 use Rattle.acceptance.specs.Rows.{roundIn}
 use Rattle.acceptance.specs.Cells.{PartsBelow, annotationOrderAt}
 use Rattle.acceptance.specs.Cells.Body.{cellRead, cellsIn, cellsIn-at}
-use Rattle.acceptance.specs.Cells.Laws.{StatesBelow}
+use Rattle.acceptance.specs.Cells.Laws.{refers-parts, StatesBelow}
 use Rattle.least_choices.specs.Choices.{leastMet}
 use Rattle.least_choices.specs.Starts.{moveMet, edgeMet, AcceptedIn, choicesBy, withStart, startCells}
 use Rattle.least_choices.specs.Starts.Laws.{startCell, length-withStart, withStart-other, withStart-guided}
@@ -83,16 +83,10 @@ start-put A n body rounds {i} {k} c cells {put} h e f g w =
     ∙ ap (λ (x : walks.Cell). choicesBy A (annotationOrderAt (cellsIn n body) x) rounds i x (withCell cells i (valueOf x))) (cellsIn-at n body h e)
 
 -- it refers to cells before it
-parts-of : (starts : List walks.Cell) (i : ℕ) (c : walks.Cell) → Refers starts i c → PartsBelow i c
-parts-of starts i empty1 x = tt
-parts-of starts i (symbol a u s) x = (x .0, x .1)
-parts-of starts i empty2 x = tt
-parts-of starts i (above w t) x = (x .0, x .1)
-
 pub start-parts : (n : ℕ) (body : List ℕ) {i : ℕ} {c : walks.Cell} → Formed (cellsIn n body) → i < n → c ≡ cellRead (recordAt 6 i body)
     → PartsBelow i c
 start-parts n body {i} F l e =
-    subst (PartsBelow i) (sym (cellsIn-at n body l e)) (parts-of (cellsIn n body) i (cellAt (cellsIn n body) i) (F .refers i))
+    subst (PartsBelow i) (sym (cellsIn-at n body l e)) (refers-parts (cellsIn n body) i (cellAt (cellsIn n body) i) (F .refers i))
 
 -- ---- all start cells
 
