@@ -38,8 +38,6 @@ fn guide_sound(
         return Reply::Refused(9);
     }
     let k = r.sizes;
-    let mut rounds = [0u16; Limits::START_CELLS * Limits::STATES1];
-    sound_files::start_rounds(table, &inner, entries, moves, &sizes, k, start, &mut rounds);
     let reply = guided_start::guide_start(
         case,
         start,
@@ -50,7 +48,6 @@ fn guide_sound(
         moves,
         &sizes,
         k,
-        &rounds,
         cells,
         trace,
     );

@@ -81,7 +81,7 @@ fn walk_from(
 
 // Guides from one start of a sound start file, for a sound case whose saturated table stands in these tables, its sizes in the first k rows, and
 // the words of the start file's cells. The trace is all zero before. What the cells hold after it is left free: the service zeroes them.
-pub fn guide_start(
+pub fn guide_with_rounds(
     case: &[u8],
     start: &[u8],
     number: usize,
@@ -120,6 +120,42 @@ pub fn guide_start(
         rounds,
         cells,
         most,
+        trace,
+    )
+}
+
+// Guides from one start of a sound start file, for a sound case whose saturated table stands in these tables, its sizes in the first k rows.
+// The trace is all zero before. What the cells hold after it is left free: the service zeroes them.
+pub fn guide_start(
+    case: &[u8],
+    start: &[u8],
+    number: usize,
+    z: Table,
+    inner: &[u64],
+    entries: &[u64],
+    moves: &[u64],
+    sizes: &[u64],
+    k: usize,
+    cells: &mut [u16],
+    trace: &mut [u16],
+) -> Reply
+    requires { ⌜ (caseRefusal (now case) ≡ 0) × StartSound (now start) × TablesStand z (now inner) (now entries) (now moves) k (now sizes) × (number < length (startsOf (now start))) × (now trace ≡ zeros (length (now trace))) ⌝ }
+    ensures { λ r. ⌜ Leaves (guideRun (guideInput (now (case .entry)) (now (start .entry)) number (length (now (moves .entry))) (length (now (entries .entry))) (length (now (cells .entry))) (length (now (trace .entry)))) (saturatedIn z (now (inner .entry)) (now (entries .entry)) (now (moves .entry)) k (now (sizes .entry)))) (length (now (trace .entry))) r (now (trace .exit)) ⌝ }
+{
+    let mut rounds = [0u16; Limits::START_CELLS * Limits::STATES1];
+    sound_files::start_rounds(z, inner, entries, moves, sizes, k, start, &mut rounds);
+    guide_with_rounds(
+        case,
+        start,
+        number,
+        z,
+        inner,
+        entries,
+        moves,
+        sizes,
+        k,
+        &rounds,
+        cells,
         trace,
     )
 }

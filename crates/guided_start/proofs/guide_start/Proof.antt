@@ -1,69 +1,29 @@
 -- `guided_start::guide_start` meets its contract.
 -- Assumes nothing.
-use mathlib.Core.Path.{sym, _∙_}
 use native.Mathlib.Omega.{arith}
-use borrow.Author.Tests.{not-true, not-false}
-use Rattle.saturation.specs.Held.{saturatedIn}
-use Rattle.acceptance.specs.Cells.Laws.{states-below}
-use Rattle.sound_files.specs.Sound.Laws.{start-long, cells-count, start-lent, start-names}
-use Rattle.guided_start.specs.Run.Laws.{lent-fit, named, tested, leaves-no, leaves-short, leaves-walk}
+use Rattle.sound_files.specs.Sound.Rounds.{made-zero}
 use borrow.Author.Needs.{needs}
 use Rattle.guided_start.proofs.guide_start.Statement.{statement}
 use Rattle.guided_start.proofs.guide_start.Tie as tie
 
-start-accepted-requires : tie.Need-start-accepted-requires
-start-accepted-requires c κs = search needs
+slice-aggregate-start-rounds : tie.Need-slice-aggregate-start-rounds
+slice-aggregate-start-rounds c = search needs
 
-is-won-requires : tie.Need-is-won-requires
-is-won-requires c κs = search needs
+start-rounds-requires : tie.Need-start-rounds-requires
+start-rounds-requires c κs =
+    let p = c .before .before .before .before .before .before .before .before .before .pre in
+    let few = p .2 .sizes-few in
+    (p .2 .stands, p .2 .sizes-lent, omega arith, p .1, omega arith, made-zero 16384)
 
-returns : tie.Need-returns
-returns c =
-    let s = c .before .before .before .before .before .before .before .before .before .before .before .before in
-    let p = s .pre in
-    let is = tested _ (p .4) (saturatedIn (s .args .z) _ _ _ _ _) (states-below (p .2 .stands)) (p .1) (p .3 .rounds-stand) (c .before .before .start-accepted .ensures .0)
-    (c .before .is-won .ensures) in
-    leaves-no _ _ is (not-true (c .before .is-won .result) (c .if1 .taken)) (p .5)
+slice-aggregate-guide-with-rounds : tie.Need-slice-aggregate-guide-with-rounds
+slice-aggregate-guide-with-rounds c = search needs
 
-cells-lent-requires : tie.Need-cells-lent-requires
-cells-lent-requires c κs = search needs
-
-count-of-requires : tie.Need-count-of-requires
-count-of-requires c κs = start-long _ (c .before .before .before .before .before .before .before .before .before .before .before .before .before .pre .1 .in-place)
-
-short-at-start-requires : tie.Need-short-at-start-requires
-short-at-start-requires c κs = search needs
-
-returns-2 : tie.Need-returns-2
-returns-2 c =
-    let s = c .before .before .before .before .before .before .before .before .before .before .before .before .before .before .before .before in
-    let p = s .pre in
-    let is = tested _ (p .4) (saturatedIn (s .args .z) _ _ _ _ _) (states-below (p .2 .stands)) (p .1) (p .3 .rounds-stand) (c .before .before .before .before .before .before .start-accepted .ensures .0)
-    (c .before .before .before .before .before .is-won .ensures) in
-    let n = c .before .before in
-    leaves-short _ _ is (not-false (c .before .before .before .before .before .is-won .result) (c .before .before .before .before .if1 .left)) (n .before .cells-lent .ensures)
-    (n .count-of .ensures .0 ∙ sym (cells-count _)) (c .before .if2 .taken) (c .short-at-start .ensures) (p .5)
-
-start-body-requires : tie.Need-start-body-requires
-start-body-requires c κs = search needs
-
-start-at-requires : tie.Need-start-at-requires
-start-at-requires c κs = let p = c .before .before .before .before .before .before .before .before .before .before .before .before .before .before .before .before .pre in start-lent _ (p .1) (p .4) (c .start-body .ensures)
-
-walk-from-requires : tie.Need-walk-from-requires
-walk-from-requires c κs =
-    let p = c .before .before .before .before .before .before .before .before .before .before .before .before .before .before .before .before .before .before .before .pre in
-    let n = c .before .before .before .before .before in
-    let count = n .count-of .ensures .0 ∙ sym (cells-count _) in
-    let fits = c .before .before .before .before .if2 .left in
-    let lent = lent-fit _ (n .before .cells-lent .ensures) in (
-      record { case-sound = p .0; start-is = p .1; tables = p .2; start-rounds = p .3 },
-      start-names _ (p .1) (p .4) (c .before .before .before .start-body .ensures) {words = 256} (omega arith) (c .before .before .start-at .ensures) .0,
-      p .5,
-      omega arith,
-      lent .0,
-      lent .1,
-    )
+guide-with-rounds-requires : tie.Need-guide-with-rounds-requires
+guide-with-rounds-requires c κs =
+    let p = c .before .before .before .before .before .before .before .before .before .before .before .before .before .before .pre in
+    let r = c .before .before .before .before .start-rounds .ensures in
+    let long = r .long in
+    (p .0, p .1, p .2, record { rounds-lent = omega arith; rounds-stand = r .filled }, p .3, p .4)
 
 same-length : tie.Need-same-length
 same-length c = search needs
@@ -71,31 +31,17 @@ same-length c = search needs
 same-length-2 : tie.Need-same-length-2
 same-length-2 c = search needs
 
-returns-3 : tie.Need-returns-3
-returns-3 c =
-    let s = c .before .before .before .before .before .before .before .before .before .before .before .before .before .before .before .before .before .before .before .before .before .before .before .before in
-    let p = s .pre in
-    let is = tested _ (p .4) (saturatedIn (s .args .z) _ _ _ _ _) (states-below (p .2 .stands)) (p .1) (p .3 .rounds-stand) (c .before .before .before .before .before .before .before .before .before .before .before .before .before .before .start-accepted .ensures .0)
-    (c .before .before .before .before .before .before .before .before .before .before .before .before .before .is-won .ensures) in
-    let n = c .before .before .before .before .before .before .before .before .before .before in
-    let x = named _ (p .4) (c .before .before .before .before .before .before .before .before .start-body .ensures) (c .before .before .before .before .before .before .before .start-at .ensures) in
-    leaves-walk _ _ is (not-false (c .before .before .before .before .before .before .before .before .before .before .before .before .before .is-won .result) (c .before .before .before .before .before .before .before .before .before .before .before .before .if1 .left)) (n .before .cells-lent .ensures)
-    (n .count-of .ensures .0 ∙ sym (cells-count _)) (c .before .before .before .before .before .before .before .before .before .if2 .left) x (c .before .before .before .before .walk-from .ensures)
+returns : tie.Need-returns
+returns c = search needs
 
 pub guide-start-spec : {M : Type 1} → statement M
 guide-start-spec =
     tie.close
     (tie.spec
-    start-accepted-requires
-    is-won-requires
-    returns
-    cells-lent-requires
-    count-of-requires
-    short-at-start-requires
-    returns-2
-    start-body-requires
-    start-at-requires
-    walk-from-requires
+    slice-aggregate-start-rounds
+    start-rounds-requires
+    slice-aggregate-guide-with-rounds
+    guide-with-rounds-requires
     same-length
     same-length-2
-    returns-3)
+    returns)
