@@ -3,6 +3,7 @@
 pub mod Cases
 pub mod Left
 pub mod Demands
+pub mod Words
 use Prim.Native.Nat.{ℕ}
 use mathlib.Core.List.{List}
 use Rattle.services.specs.Judge.{JudgeInput, JudgeDone}

@@ -1,17 +1,31 @@
-// The text that the printing program prints for a case file and a start file. The case is saturated once, and every start is guided on that table.
+// The text that the printing program prints for a case file and a start file. The case is saturated once, the words of the start file's cells are
+// worked out once, and every start is guided by them.
 ghost use mathlib.Core.Path.{_≡_};
-ghost use Prim.Native.Nat.{_+_, _*_, _≤_, _<_};
+ghost use Prim.Native.Nat.{_+_, _-_, _*_, _≤_, _<_};
 ghost use lib.ListN.{length};
+ghost use Rattle.replies.specs.Numbers.{answerWord};
 ghost use Rattle.files.specs.Start.{startsOf};
 ghost use Rattle.services.specs.Memory.{padded};
 ghost use Rattle.services.specs.Listing.{startLine, startLines, listingText};
 ghost use Rattle.start_file.specs.Checks.{filesOf};
 ghost use Rattle.text.specs.Written.{Written};
 ghost use Rattle.sound_files.specs.Refusal.{FilesSound};
+ghost use Rattle.guided_start.specs.Walk.{StartRounds};
 ghost use Rattle.listing_text.specs.Prepared.{TableReady};
 use limits::Limits;
+use replies::Acceptance;
 use replies::Saturation;
 use tables::Table;
+
+// The round of an answer, and 0 where there is none.
+fn round_of(won: Acceptance) -> u64
+    ensures { λ r. ⌜ r ≡ answerWord won - 1 ⌝ }
+{
+    match won {
+        Acceptance::Never => 0,
+        Acceptance::Since(r) => r,
+    }
+}
 
 // Writes the line of start n from `at` on and answers the place after it.
 fn start_line(
@@ -24,16 +38,17 @@ fn start_line(
     moves: &[u64],
     sizes: &[u64],
     k: usize,
+    rounds: &[u16],
     text: &mut [u8],
     at: usize,
 ) -> usize
-    requires { ⌜ TableReady (now case) (now start) z (now inner) (now entries) (now moves) k (now sizes) × (n < length (startsOf (now start))) × (at + 66 ≤ length (now text)) ⌝ }
+    requires { ⌜ TableReady (now case) (now start) z (now inner) (now entries) (now moves) k (now sizes) × StartRounds z (now inner) (now entries) (now moves) k (now sizes) (now start) (now rounds) × (n < length (startsOf (now start))) × (at + 66 ≤ length (now text)) ⌝ }
     ensures { λ r. ⌜ Written (now (text .entry)) at (startLine (filesOf (now (case .entry)) (now (start .entry))) n) (now (text .exit)) r ⌝ }
     ensures within { λ r. ⌜ r ≤ at + 66 ⌝ }
 {
     let mut cells = [0u16; Limits::LISTING_CELLS * Limits::CELL_WORDS];
     let mut trace = [0u16; Limits::LISTING_TRACE];
-    let reply = guided_start::guide_start(
+    let reply = guided_start::guide_with_rounds(
         case,
         start,
         n,
@@ -43,10 +58,12 @@ fn start_line(
         moves,
         sizes,
         k,
+        rounds,
         &mut cells,
         &mut trace,
     );
-    text::put_reply_line(text, at, n as u64, reply)
+    let round = round_of(sound_files::start_accepted(start, n, rounds));
+    text::put_reply_line(text, at, n as u64, round, reply)
 }
 
 // Writes the lines of all starts from `at` on and answers the place after them.
@@ -59,10 +76,11 @@ fn start_lines(
     moves: &[u64],
     sizes: &[u64],
     k: usize,
+    rounds: &[u16],
     text: &mut [u8],
     at: usize,
 ) -> usize
-    requires { ⌜ TableReady (now case) (now start) z (now inner) (now entries) (now moves) k (now sizes) × (at + 64 * 66 ≤ length (now text)) ⌝ }
+    requires { ⌜ TableReady (now case) (now start) z (now inner) (now entries) (now moves) k (now sizes) × StartRounds z (now inner) (now entries) (now moves) k (now sizes) (now start) (now rounds) × (at + 64 * 66 ≤ length (now text)) ⌝ }
     ensures { λ r. ⌜ Written (now (text .entry)) at (startLines (filesOf (now (case .entry)) (now (start .entry))) 0 (length (startsOf (now (start .entry))))) (now (text .exit)) r ⌝ }
     ensures within { λ r. ⌜ r ≤ at + 64 * 66 ⌝ }
 {
@@ -80,6 +98,7 @@ fn start_lines(
             moves,
             sizes,
             k,
+            rounds,
             text,
             end,
         );
@@ -110,7 +129,11 @@ fn table_lines(
         entries: z.entries as u64,
     };
     let end = text::put_size_line(text, 0, reply);
-    start_lines(case, start, z, inner, entries, moves, sizes, k, text, end)
+    let mut rounds = [0u16; Limits::START_CELLS * Limits::STATES1];
+    sound_files::start_rounds(z, inner, entries, moves, sizes, k, start, &mut rounds);
+    start_lines(
+        case, start, z, inner, entries, moves, sizes, k, &rounds, text, end,
+    )
 }
 
 // Writes the listing of sound files and answers its length.

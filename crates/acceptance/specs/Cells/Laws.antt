@@ -6,7 +6,7 @@ use mathlib.Core.Path.{_≡_, refl, ap, ap₂, sym, _∙_, subst}
 use mathlib.Core.List.{List, [], _∷_, List·Memᴰ, List·Memᴰ·head}
 use native.Mathlib.Numerals.{add-one}
 use native.Mathlib.Omega.{arith}
-use lib.ListN.{length, getD, replicate, length-replicate, getD-replicate, List·getD-eq-default}
+use lib.ListN.{length, getD}
 use lib.Dec.{eqb, ltb}
 use borrow.Author.Tests.{eqb-true, eqb-false, ltb-true, ltb-false, ne-eqb}
 use Rattle.words.specs.Laws.Tests.{by-test, and-left}
@@ -25,6 +25,7 @@ use Rattle.rounds.specs.Won.Laws.{stack-accepts}
 use Rattle.walks.specs.Cell.{Cell, empty1, symbol, empty2, above, stacks, stackAt, stackOf, order1, order2}
 use Rattle.walks.specs.Cell.Formed.{Formed, Refers, cellAt, orderAt}
 use Rattle.walks.specs.Cell.Laws.{stack-at, stack-order, annotation-of1, annotation-of2}
+use Rattle.services.specs.Memory.Laws.{padded-none, getD-padded}
 use Rattle.tables.specs.declared.Table.{Table}
 use Rattle.tables.specs.Rows.{rowsIn}
 use Rattle.tables.specs.Rows.Laws.{length-rowsIn, getD-rowsIn}
@@ -65,10 +66,7 @@ refers-parts cells n empty2 x = tt
 refers-parts cells n (above w t) x = (x .0, x .1)
 
 getD-zeros : (n i : ℕ) → getD (zeros n) i 0 ≡ 0
-unfolding zeros
-getD-zeros n i = by-test (ltb i n)
-    (λ t. getD-replicate n i 0 0 (ltb-true i n t))
-    (λ t. let l = ltb-false i n t in let e : length {A = ℕ} (replicate n 0) ≡ n = length-replicate n 0 in List·getD-eq-default (replicate n 0) 0 {n = i} (omega arith))
+getD-zeros n i = sym (ap (λ (l : List ℕ). getD l i 0) (padded-none n)) ∙ getD-padded n [] i
 
 module _ (T : Saturated) (B : StatesBelow (T .table)) where
   -- no stack is accepted from them

@@ -1,8 +1,8 @@
 -- The text of the listing, as the code comes to it: refused by the files, refused for size, or the size line and the lines of the starts.
 -- Assumes nothing.
-use Prim.Native.Nat.{ℕ, _*_, _<_}
+use Prim.Native.Nat.{ℕ, _-_, _*_, _<_}
 use mathlib.Core.Bool.{true, false}
-use mathlib.Core.Path.{_≡_, ap, sym, _∙_}
+use mathlib.Core.Path.{_≡_, ap, ap₂, sym, _∙_}
 use mathlib.Core.Option.{none}
 use mathlib.Core.List.{List, _++_}
 use native.Mathlib.Omega.{arith}
@@ -10,25 +10,33 @@ use lib.ListN.{length}
 use lib.Dec.{eqb}
 use borrow.Author.Tests.{eq-eqb, ne-eqb}
 use Rattle.automata.specs.Saturation.{Saturated}
+use Rattle.replies.specs.declared.Acceptance.{Acceptance}
 use Rattle.replies.specs.declared.Saturation.{Saturation}
 use Rattle.replies.specs.declared.Reply.{Reply}
+use Rattle.replies.specs.Numbers.{answerWord}
 use Rattle.files.specs.Start.{Files, startsOf}
 use Rattle.services.specs.Saturate.{saturated, saturateFilled, saturateService}
 use Rattle.services.specs.Judge.{judgeLent, judgeLeft, judgeService}
 use Rattle.services.specs.Guide.{guideLent, guideRun, guideLeft, cellWords}
-use Rattle.services.specs.Listing.{listingJudge, listingGuide, sizeLine, replyLine, startLine, startLines, refusedText, judgedText, listingText}
+use Rattle.services.specs.Listing.{listingJudge, listingGuide, sizeLine, replyLine, roundWon, startLine, startLines, refusedText, judgedText, listingText}
 use Rattle.tables.specs.declared.Table.{Table}
 use Rattle.tables.specs.Rows.Laws.{length-rowsIn}
 use Rattle.tables.specs.Layouts.{entryRow, moveRow}
 use Rattle.start_file.specs.Checks.{filesOf}
 use Rattle.saturate.specs.Service.Laws.{done-filled}
 use Rattle.text.specs.Laws.Lines.{startLine-is}
-use Rattle.sound_files.specs.Sound.Laws.{starts-few}
+use Rattle.acceptance.specs.Cells.Laws.{states-below}
+use Rattle.sound_files.specs.Starts.{startNumber, startRound}
+use Rattle.sound_files.specs.Sound.Laws.{start-sound, starts-few}
+use Rattle.sound_files.specs.Sound.Rounds.{start-number-in, start-since}
 use Rattle.sound_files.specs.Refusal.{FilesSound, filesRefusal, refusedBefore}
 use Rattle.sound_files.specs.Refusal.Laws.{by-files}
 use Rattle.sound_files.specs.Saturated.{lentOf}
+use Rattle.judge.specs.Marks.{markOf}
 use Rattle.judge.specs.Service.Cases as judge
+use Rattle.judge.specs.Service.Words.{word-is}
 use Rattle.saturation.specs.Held.{saturatedIn}
+use Rattle.guided_start.specs.Walk.{StartRounds}
 use Rattle.guided_start.specs.Run.{guideInput}
 use Rattle.guided_start.specs.Run.Laws.{run-tables}
 use Rattle.guide.specs.Service.Cases.{answers-guided}
@@ -78,12 +86,24 @@ module _ (case start : List ℕ) where
         ap (λ (r : Saturation). sizeLine r ++ startLines files 0 (length (startsOf start))) (sym sizes-are)
         ∙ sym (text-judged files (ap (λ d. d .code) (judge.answers-judged (listingJudge files) (prepared .sound) (starts-few (prepared .sound)) (prepared .table-is))))
 
+    -- the round of a start, by the words of the cells
+    pub round-won : {rounds : List ℕ} {n r : ℕ} {a : Acceptance} → StartRounds z inner entries moves k sizes start rounds → n < length (startsOf start)
+        → a ≡ startRound rounds (startNumber start n) → r ≡ answerWord a - 1 → r ≡ roundWon files n
+    unfolding roundWon listingJudge judgeLent markOf
+    round-won {n = n} R l e f =
+        f
+        ∙ ap (λ (b : Acceptance). answerWord b - 1)
+        (e
+        ∙ start-since T (states-below (prepared .tables .stands)) start (start-sound (prepared .sound)) (R .rounds-stand) (startNumber start n)
+        (start-number-in start n l))
+        ∙ ap (λ (w : ℕ). w - 1) (sym (word-is (listingJudge files) (prepared .sound) (starts-few (prepared .sound)) (prepared .table-is) n l))
+
     -- the line of a start is that of the reply of its run, whatever the lengths m and e of the tables
-    pub line-guided : (n m e : ℕ) {reply : Reply} → n < length (startsOf start)
-        → reply ≡ guideRun (guideInput case start n m e (512 * 68) 1024) T .reply → replyLine n reply ≡ startLine files n
+    pub line-guided : (n m e : ℕ) {r : ℕ} {reply : Reply} → n < length (startsOf start)
+        → r ≡ roundWon files n → reply ≡ guideRun (guideInput case start n m e (512 * 68) 1024) T .reply → replyLine n r reply ≡ startLine files n
     unfolding listingGuide guideLent guideLeft cellWords
-    line-guided n m e h is =
-        ap (replyLine n)
+    line-guided n m e h round is =
+        ap₂ (replyLine n) round
         (is
         ∙ ap (λ o. o .reply) (run-tables case start n m (1024 * 5) e (64 * 2) (512 * 68) 1024 T)
         ∙ sym (ap (λ d. d .reply) (answers-guided (listingGuide files n) (prepared .sound) h (prepared .table-is))))
