@@ -1,9 +1,10 @@
 /*
  * The script analyser for the bench host: target/staticlib/libexports.a, which
- * `rt staticlib exports` writes. Document 01 says what the three services do;
- * this page says the same for a caller in C. crates/exports proves each call
- * equal to its definition; what this page says of numbers, words, marks and runs
- * are the theorems of crates/demands about these definitions (docs/PROMISES.md).
+ * `rt staticlib exports` writes. Documents 01 and 02 (request 1) say what the
+ * three services do; this page says the same for a caller in C. crates/exports
+ * proves each call equal to its definition; what this page says of numbers, words,
+ * rounds and runs are the theorems of crates/demands about these definitions
+ * (docs/PROMISES.md).
  *
  * What is asked of the caller: each pointer points to as many elements as the
  * length beside it says, aligned for their type, and is not null even if that
@@ -24,7 +25,7 @@
  *            refused with 9 whatever is lent; every other fits 5,120 words.
  *   entries  2 words an entry: control, set of order-2 states. A table with more
  *            than 64 order-1 states is refused with 9; every other fits 128 words.
- *   answers  a byte a start. At most 64 starts.
+ *   answers  a word of 16 bits a start. At most 64 starts.
  *   cells    68 words of 16 bits a cell, of which at most 4,096 cells count.
  *   trace    a word of 16 bits a step.
  *
@@ -51,9 +52,10 @@ extern "C" {
 #define ANALYSER_CELL_WORDS 68
 
 /* Bytes of a listing. */
-#define ANALYSER_LISTING_BYTES 4096
+#define ANALYSER_LISTING_BYTES 4280
 
-/* Document 01's sentence for each refusal: REFUSAL(number, sentence). */
+/* Document 01's sentence for each refusal; 8 counts words, as document 02 asks:
+   REFUSAL(number, sentence). */
 #define ANALYSER_REFUSALS(REFUSAL) \
     REFUSAL(1, "the case's first byte, contents table, a count or the length is wrong") \
     REFUSAL(2, "a field of case body 1 is out of range") \
@@ -62,7 +64,7 @@ extern "C" {
     REFUSAL(5, "the start file's first byte, contents table, a count or the length is wrong") \
     REFUSAL(6, "a start or cell is out of range, refers to a cell of the wrong order, or fills an unused field") \
     REFUSAL(7, "guide: the start named is not in the file") \
-    REFUSAL(8, "judge: fewer answer bytes than starts") \
+    REFUSAL(8, "judge: fewer answer words than starts") \
     REFUSAL(9, "the saturated table has more moves than lent or than 1,024, more entries than lent, or more than 64 order-1 states")
 
 /* Answers of the guide that are no refusals. */
@@ -88,18 +90,19 @@ uint64_t analyser_saturate(
 /*
  * Judge: marks each start of the start file.
  *
- * Returns 0, or the refusal 1 to 6, 8 or 9. After 0, answers begins with a byte
- * for each start, in file order: 1 if a finite run of the case's rules leads
- * from the start into the target, 0 if none does; the bytes after them are zero.
- * After a refusal answers is zero. moves and entries are working memory, zero
- * after every call.
+ * Returns 0, or the refusal 1 to 6, 8 or 9. After 0, answers begins with a word
+ * for each start, in file order: 0 if no finite run of the case's rules leads
+ * from the start into the target, otherwise 1 more than the least round whose
+ * table accepts the start; the words after them are zero. Round 0 is the case's
+ * own table, and a word is at most 1,025. After a refusal answers is zero. moves
+ * and entries are working memory, zero after every call.
  */
 uint64_t analyser_judge(
     const uint8_t *case_file, size_t case_length,
     const uint8_t *start_file, size_t start_length,
     uint64_t *moves, size_t moves_length,
     uint64_t *entries, size_t entries_length,
-    uint8_t *answers, size_t answers_length);
+    uint16_t *answers, size_t answers_length);
 
 /*
  * Guide: writes the rules of a run from one start into the target. Starts are

@@ -33,7 +33,7 @@ static struct file case_file, start_file;
 /* The memory that every call is lent. */
 static uint64_t moves[MOVES * ANALYSER_MOVE_WORDS];
 static uint64_t entries[ENTRIES * ANALYSER_ENTRY_WORDS];
-static uint8_t answers[STARTS];
+static uint16_t answers[STARTS];
 static uint16_t cells[CELLS * ANALYSER_CELL_WORDS];
 static uint16_t trace[STEPS];
 
@@ -167,8 +167,10 @@ static int bench(void)
         return 3;
     }
     for (size_t i = 0; i < starts(); i++) {
-        printf("start %zu: %s\n", i, answers[i] == 1 ? "yes" : "no");
-        if (answers[i] == 1) {
+        if (answers[i] == 0) {
+            printf("start %zu: no\n", i);
+        } else {
+            printf("start %zu: yes, round %d\n", i, answers[i] - 1);
             guide(i);
         }
     }

@@ -40,8 +40,8 @@ static const uint8_t one_start[] = {
 };
 
 static uint64_t moves[MOVES_LENGTH], entries[ENTRIES_LENGTH];
-static uint8_t answers[STARTS], text[ANALYSER_LISTING_BYTES];
-static uint16_t cells[CELLS_LENGTH], trace[STEPS];
+static uint8_t text[ANALYSER_LISTING_BYTES];
+static uint16_t answers[STARTS], cells[CELLS_LENGTH], trace[STEPS];
 
 static void saturate(void)
 {
