@@ -42,7 +42,7 @@ pub extern "C" fn analyser_judge(
     start: &[u8],
     moves: &mut [u64],
     entries: &mut [u64],
-    answers: &mut [u8],
+    answers: &mut [u16],
 ) -> u64
     ensures { λ r. ⌜ judgeDone r (now (moves .exit)) (now (entries .exit)) (now (answers .exit)) ≡ judgeService (judgeInput (now (case .entry)) (now (start .entry)) (length (now (moves .entry))) (length (now (entries .entry))) (length (now (answers .entry)))) ⌝ }
 {

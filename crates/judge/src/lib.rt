@@ -71,7 +71,16 @@ fn judge_sound(
         sound_files::zero_tables(moves, entries);
         return 9;
     }
-    mark_starts(table, &inner, entries, moves, &sizes, r.sizes, start, answers);
+    mark_starts(
+        table,
+        &inner,
+        entries,
+        moves,
+        &sizes,
+        r.sizes,
+        start,
+        answers,
+    );
     sound_files::zero_tables(moves, entries);
     0
 }

@@ -132,7 +132,17 @@ fn table_lines(
     let mut rounds = [0u16; Limits::START_CELLS * Limits::STATES1];
     sound_files::start_rounds(z, inner, entries, moves, sizes, k, start, &mut rounds);
     start_lines(
-        case, start, z, inner, entries, moves, sizes, k, &rounds, text, end,
+        case,
+        start,
+        z,
+        inner,
+        entries,
+        moves,
+        sizes,
+        k,
+        &rounds,
+        text,
+        end,
     )
 }
 

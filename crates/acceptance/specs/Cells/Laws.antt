@@ -135,14 +135,16 @@ module _ (T : Saturated) (B : StatesBelow (T .table)) where
         ∙ ap (λ (v : Annotation). roundOfStack T v q) (sym (stack-at F n l))) in
         record {
           long = p .long ∙ R .long;
-          filled = record { word-is = λ i q h small. by-test (eqb i n)
-              (λ t.
-              let z : i ≡ n = eqb-true i n t in
-              ap (λ (j : ℕ). getD now′ (j * 64 + q) 0) z ∙ here q small ∙ ap (λ (j : ℕ). answerWord (roundOfStack T (stackAt (stacks cells) j) q)) (sym z))
-              (λ t.
-              let d : i ≡ n → ⊥ = eqb-false i n t in
-              let b : i < n = omega arith in
-              p .below (i * 64 + q) (omega arith) ∙ R .filled .word-is i q b small) };
+          filled = record {
+            word-is = λ i q h small. by-test (eqb i n)
+                (λ t.
+                let z : i ≡ n = eqb-true i n t in
+                ap (λ (j : ℕ). getD now′ (j * 64 + q) 0) z ∙ here q small ∙ ap (λ (j : ℕ). answerWord (roundOfStack T (stackAt (stacks cells) j) q)) (sym z))
+                (λ t.
+                let d : i ≡ n → ⊥ = eqb-false i n t in
+                let b : i < n = omega arith in
+                p .below (i * 64 + q) (omega arith) ∙ R .filled .word-is i q b small);
+          };
           others = λ x h. p .above x (omega arith) ∙ R .others x (omega arith);
         }
 
