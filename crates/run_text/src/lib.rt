@@ -1,36 +1,12 @@
 // The text that the program `run` prints for a case file, a start file and the number of a start.
 ghost use mathlib.Core.Path.{_≡_};
-ghost use Prim.Native.Nat.{_+_, _-_, _*_, _≤_};
-ghost use lib.ListN.{length, getD};
+ghost use Prim.Native.Nat.{_+_, _*_, _≤_};
+ghost use lib.ListN.{length};
 ghost use Rattle.services.specs.Memory.{padded};
 ghost use Rattle.start_file.specs.Checks.{filesOf};
 ghost use Rattle.text.specs.Written.{Written};
-ghost use Rattle.services.specs.Listing.{roundWon};
 ghost use Rattle.services.specs.Run.{runText};
 use limits::Limits;
-
-// The round of word n, and 0 where the word is 0 or there is none.
-fn round_at(words: &[u16], n: usize) -> u64
-    ensures { λ r. ⌜ r ≡ getD (now (words .entry)) n 0 - 1 ⌝ }
-{
-    if n < words.len() {
-        if words[n] != 0 {
-            return words[n] as u64 - 1;
-        }
-    }
-    0
-}
-
-// The round in which the start of this number was won, and 0 where it was not.
-fn round_won(case: &[u8], start: &[u8], number: usize) -> u64
-    ensures { λ r. ⌜ r ≡ roundWon (filesOf (now (case .entry)) (now (start .entry))) number ⌝ }
-{
-    let mut moves = [0u64; Limits::MOVES * Limits::MOVE_WORDS];
-    let mut entries = [0u64; Limits::STATES1 * Limits::ENTRY_WORDS];
-    let mut answers = [0u16; Limits::STARTS];
-    judge::judge(case, start, &mut moves, &mut entries, &mut answers);
-    round_at(&answers, number)
-}
 
 // Guides from the start of this number and writes the text of the answer. Answers its length.
 fn put_run(case: &[u8], start: &[u8], number: usize, text: &mut [u8]) -> usize
@@ -51,7 +27,7 @@ fn put_run(case: &[u8], start: &[u8], number: usize, text: &mut [u8]) -> usize
         &mut cells,
         &mut trace,
     );
-    let round = round_won(case, start, number);
+    let round = start_round::round_won(case, start, number);
     answer_text::put_answer(text, number, round, reply, &trace)
 }
 

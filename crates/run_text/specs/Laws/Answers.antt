@@ -1,18 +1,15 @@
 -- The text by the answer of guide.
 -- Assumes nothing.
-use Prim.Native.Nat.{ℕ, _+_, _-_, _*_, _≤_}
-use mathlib.Core.Path.{_≡_, ap, ap₂, sym, _∙_, subst}
+use Prim.Native.Nat.{ℕ, _+_, _*_, _≤_}
+use mathlib.Core.Path.{_≡_, ap, ap₂, sym, subst}
 use mathlib.Core.List.{List}
 use native.Mathlib.Omega.{arith}
-use lib.ListN.{length, getD, List·getD-eq-default}
 use Rattle.replies.specs.declared.Reply.{Reply}
-use Rattle.services.specs.Judge.{JudgeDone, judgeService}
 use Rattle.services.specs.Guide.{GuideDone, guideService, cellWords}
 use Rattle.start_file.specs.Checks.{filesOf}
-use Rattle.judge.specs.Service.{judgeInput, judgeDone}
 use Rattle.guided_start.specs.Run.{guideInput}
 use Rattle.guide.specs.Service.{guideDone}
-use Rattle.services.specs.Listing.{listingJudge, roundWon}
+use Rattle.services.specs.Listing.{roundWon}
 use Rattle.services.specs.Run.{runGuide, answerText, runText}
 use Rattle.answer_text.specs.Bounds.{Bounded}
 use Rattle.run_text.specs.Laws.Bounds.{guide-bounded}
@@ -26,17 +23,6 @@ module _ (case start : List ℕ) (number : ℕ) {reply : Reply} {moves entries c
   pub answer-is : {r : ℕ} → r ≡ roundWon (filesOf case start) number → answerText number r reply trace ≡ runText (filesOf case start) number
   unfolding runText runGuide cellWords
   answer-is e = ap₂ (λ (r : ℕ) (d : GuideDone). answerText number r (d .reply) (d .trace)) e is
-
--- the round, by the words of judge
-pub round-judged : (case start : List ℕ) (number : ℕ) {code : ℕ} {moves entries answers : List ℕ} {r : ℕ}
-    → judgeDone code moves entries answers ≡ judgeService (judgeInput case start (1024 * 5) (64 * 2) 64) → r ≡ getD answers number 0 - 1
-    → r ≡ roundWon (filesOf case start) number
-unfolding roundWon listingJudge
-round-judged case start number is e = e ∙ ap (λ (d : JudgeDone). getD (d .answers) number 0 - 1) is
-
--- the round of a word, as it is read
-pub round-none : (words : List ℕ) (n : ℕ) → length words ≤ n → 0 ≡ getD words n 0 - 1
-round-none words n h = let e : getD words n 0 ≡ 0 = List·getD-eq-default words 0 {n = n} h in omega arith
 
 -- the bytes of the text for a trace of so many words
 module _ {words : ℕ} (long : words ≡ 65536) where

@@ -1,10 +1,10 @@
--- `run_text::round_at` meets its contract.
+-- `start_round::round_at` meets its contract.
 -- Assumes nothing.
 use native.Mathlib.Omega.{arith}
-use Rattle.run_text.specs.Laws.Answers.{round-none}
+use Rattle.start_round.specs.Words.{round-none}
 use borrow.Author.Needs.{needs}
-use Rattle.run_text.proofs.round_at.Statement.{statement}
-use Rattle.run_text.proofs.round_at.Tie as tie
+use Rattle.start_round.proofs.round_at.Statement.{statement}
+use Rattle.start_round.proofs.round_at.Tie as tie
 
 mul-if2 : tie.Need-mul-if2
 mul-if2 c = search needs

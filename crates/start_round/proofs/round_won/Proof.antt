@@ -1,9 +1,9 @@
--- `run_text::round_won` meets its contract.
+-- `start_round::round_won` meets its contract.
 -- Assumes nothing.
-use Rattle.run_text.specs.Laws.Answers.{round-judged}
+use Rattle.start_round.specs.Words.{round-judged}
 use borrow.Author.Needs.{needs}
-use Rattle.run_text.proofs.round_won.Statement.{statement}
-use Rattle.run_text.proofs.round_won.Tie as tie
+use Rattle.start_round.proofs.round_won.Statement.{statement}
+use Rattle.start_round.proofs.round_won.Tie as tie
 
 slice-aggregate-judge : tie.Need-slice-aggregate-judge
 slice-aggregate-judge c = search needs
