@@ -1,13 +1,13 @@
 -- The earlier and the later of two answers, of several answers, and how large their words are.
 -- Assumes nothing.
-use Prim.Native.Nat.{ℕ, suc, _<_, max, min}
-use mathlib.Core.Path.{_≡_, refl, ap, ap₂, sym, _∙_}
+use Prim.Native.Nat.{ℕ, _<_}
+use mathlib.Core.Path.{_≡_, refl, ap, sym, _∙_}
 use mathlib.Core.List.{List, [], _∷_, _++_}
 use native.Mathlib.Omega.{arith}
 use Rattle.replies.specs.declared.Acceptance.{Acceptance}
 use Rattle.replies.specs.declared.Acceptance.the-variants.{Never, Since}
 use Rattle.replies.specs.Numbers.{answerWord}
-use Rattle.rounds.specs.Won.{earlier, later, earliest, latest}
+use Rattle.rounds.specs.Won.{earlier, later, earliest}
 
 -- ---- the later
 

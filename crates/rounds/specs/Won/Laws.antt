@@ -5,7 +5,7 @@ use Prim.Native.Nat.{ℕ, zero, suc, _+_, _-_, _≤_, _<_}
 use mathlib.Core.Bool.{Bool, true, false, _&&_, false≢true}
 use mathlib.Core.Path.{_≡_, refl, ap, ap₂, sym, _∙_, subst}
 use mathlib.Core.List.{List, List·Memᴰ}
-use native.Mathlib.Nat.{zero-add, add-zero}
+use native.Mathlib.Nat.{zero-add}
 use native.Mathlib.Omega.{arith}
 use lib.ListN.{length, getD, length-append}
 use lib.Seq.{getD-append-add}
@@ -13,7 +13,6 @@ use lib.Dec.{eqb, leb, ltb}
 use borrow.Author.Tests.{eqb-true, eqb-false, leb-true, leb-false, le-leb, lt-leb, ltb-true, ltb-false, lt-ltb, le-ltb}
 use Rattle.words.specs.Laws.Tests.{by-test, equal-tests, and-left, and-right}
 use Rattle.words.specs.Sets.{member}
-use Rattle.words.specs.Sets.Laws.{Has}
 use Rattle.words.specs.Lists.{only, some-of, places}
 use Rattle.words.specs.Lists.Laws.{only-in, only-out, some-of-in, some-of-out, getD-in, in-getD, places-in, places-out}
 use Rattle.stacks.specs.Stack.{Stack1, nil1, cons1, Stack2, Annotation, annotationOrder}

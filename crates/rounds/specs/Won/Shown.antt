@@ -1,18 +1,17 @@
 -- What a table shows of the answers of the recursion: where a test of rounds lets through exactly the rounds of the table's moves, a state
 -- accepts a stack by that table exactly if its round passes.
 -- Assumes nothing.
-use Prim.Native.Nat.{ℕ, zero, suc, _+_, _≤_, _<_, max, min}
+use Prim.Native.Nat.{ℕ, zero, suc, max, min}
 use mathlib.Core.Bool.{Bool, true, false, _&&_, _||_, and-false, or-false}
 use mathlib.Core.Path.{_≡_, refl, ap, ap₂, sym, _∙_}
 use mathlib.Core.Logic.{⊎-elim}
-use mathlib.Core.List.{List, [], _∷_, _++_}
+use mathlib.Core.List.{List, [], _∷_}
 use native.Mathlib.Omega.{arith}
-use lib.ListN.{length, getD}
 use lib.Dec.{eqb, leb}
 use borrow.Author.Tests.{leb-true, leb-false, le-leb}
 use Rattle.words.specs.Laws.Tests.{by-test, equal-tests, and-left, and-right, or-cases}
 use Rattle.words.specs.Sets.{member, members}
-use Rattle.words.specs.Lists.{only, every, some-of, places, placesFrom}
+use Rattle.words.specs.Lists.{only, every, some-of, places}
 use Rattle.words.specs.Lists.Laws.{every-cons, some-of-cons}
 use Rattle.stacks.specs.Stack.{Stack1, nil1, cons1, Stack2, nil2, cons2, Annotation, of1, of2, annotationOrder}
 use Rattle.replies.specs.declared.Acceptance.{Acceptance}
