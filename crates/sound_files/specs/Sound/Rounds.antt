@@ -1,6 +1,6 @@
 -- Since when the cells and the starts of a sound start file are accepted, as they are written.
 -- Assumes nothing.
-use Prim.Native.Nat.{ℕ, _*_, _≤_, _<_}
+use Prim.Native.Nat.{ℕ, _<_}
 use mathlib.Core.Path.{_≡_, ap, ap₂, sym, _∙_, subst}
 use mathlib.Core.List.{List, List·Memᴰ}
 use native.Mathlib.Omega.{arith}
@@ -15,7 +15,7 @@ use Rattle.walks.specs.Cell.Formed.{Formed}
 use Rattle.files.specs.Bytes.{countOf}
 use Rattle.files.specs.Start.{Start, startOf, startsOf, cellsOf, configurationOf}
 use Rattle.bytes_in.specs.Records.{recordAt, bodyOf}
-use Rattle.acceptance.specs.Rows.{roundIn}
+use Rattle.acceptance_words.specs.Rows.{roundIn}
 use Rattle.acceptance.specs.Cells.{RoundsStand, RoundsFilled}
 use Rattle.acceptance.specs.Cells.Body.{cellsIn}
 use Rattle.acceptance.specs.Cells.Laws.{StatesBelow}
