@@ -14,7 +14,7 @@ use Rattle.automata.specs.Saturation.{Saturated}
 use Rattle.rounds.specs.Won.{finalRound, symbolRound, aboveRound, roundOfStack}
 use Rattle.walks.specs.Cell.{Cell, empty1, symbol, empty2, above, stacks, stackAt}
 use Rattle.walks.specs.Cell.Formed.{orderAt}
-use Rattle.acceptance.specs.Rows.{roundIn}
+use Rattle.acceptance_words.specs.Rows.{roundIn}
 
 -- the order of the annotation of a symbol
 unfoldable pub annotationOrderAt : List Cell → Cell → ℕ

@@ -1,4 +1,4 @@
-pub mod Rows
+pub mod Put
 pub mod Named
 pub mod Cells
 pub mod Table

@@ -1,166 +1,29 @@
-// Acceptance of the cells of a start file: for each cell and each of 64 states the least round whose table accepts the cell from the state, as a
-// word of 16 bits: 0 where no table does, otherwise that round plus 1.
+// Acceptance of the cells of a start file: for each cell the words that say since when it is accepted from each of 64 states, by those of the
+// cells before it.
 ghost use mathlib.Core.Path.{_≡_};
 ghost use Prim.Native.Nat.{_<_, _≤_, _+_, _*_};
 ghost use lib.ListN.{length};
-ghost use Rattle.words.specs.Sets.{members};
 ghost use Rattle.words.specs.Lists.{zeros};
-ghost use Rattle.replies.specs.Numbers.{answerWord};
 ghost use Rattle.automata.specs.Saturation.{roundOf};
-ghost use Rattle.rounds.specs.Won as won;
-ghost use Rattle.rounds.specs.Won.{isWon, latest, finalRound, annotationRound, moveRound, edgeRound, symbolRound, aboveRound};
+ghost use Rattle.rounds.specs.Won.{finalRound, symbolRound, aboveRound};
 ghost use Rattle.tables.specs.Rows.{rowsIn};
-ghost use Rattle.tables.specs.Records.{asMove, asEdge};
+ghost use Rattle.tables.specs.Records.{asMove};
 ghost use Rattle.tables.specs.Layouts.{moveRow};
 ghost use Rattle.tables.specs.Held.{edgesIn, EdgesStand, EntriesStand};
 ghost use Rattle.saturation.specs.Layout.{sizeRow};
 ghost use Rattle.saturation.specs.Held.{saturatedIn};
 ghost use Rattle.walks.specs.Cell.Formed.{Formed, cellOrder, orderAt};
 ghost use Rattle.cell_memory.specs.Memory.{cellOf};
-ghost use Rattle.acceptance.specs.Rows.{roundIn, withEarlier, withMove, RowZero, RowPut};
+ghost use Rattle.acceptance_words.specs.Rows.{roundIn};
+ghost use Rattle.acceptance.specs.Put.{withMove, RowZero, RowPut};
 ghost use Rattle.acceptance.specs.Named.{MovesNamed, EdgesNamed, TablesNamed};
 ghost use Rattle.acceptance.specs.Cells.{annotationOrderAt, PartsBelow, cellRound, RoundsFilled};
 ghost use Rattle.acceptance.specs.Cells.Body.{cellsIn};
 use cell_memory::Cell;
 use limits::Limits;
 use replies::Acceptance;
-use tables::Edge;
 use tables::Move;
 use tables::Table;
-
-// ---- answers
-
-// The earlier of two answers.
-fn earlier(a: Acceptance, b: Acceptance) -> Acceptance
-    ensures { λ r. ⌜ r ≡ won.earlier a b ⌝ }
-{
-    match a {
-        Acceptance::Never => b,
-        Acceptance::Since(m) => match b {
-            Acceptance::Never => Acceptance::Since(m),
-            Acceptance::Since(n) => Acceptance::Since(numbers::smaller(m, n)),
-        },
-    }
-}
-
-// The later of two answers.
-fn later(a: Acceptance, b: Acceptance) -> Acceptance
-    ensures { λ r. ⌜ r ≡ won.later a b ⌝ }
-{
-    match a {
-        Acceptance::Never => Acceptance::Never,
-        Acceptance::Since(m) => match b {
-            Acceptance::Never => Acceptance::Never,
-            Acceptance::Since(n) => Acceptance::Since(numbers::larger(m, n)),
-        },
-    }
-}
-
-// Whether the answer is a round.
-pub fn is_won(a: Acceptance) -> bool
-    ensures { λ r. ⌜ r ≡ isWon a ⌝ }
-{
-    match a {
-        Acceptance::Never => false,
-        Acceptance::Since(_) => true,
-    }
-}
-
-// The word of an answer.
-pub fn word_of(a: Acceptance) -> u16
-    requires { ⌜ answerWord a < 65536 ⌝ }
-    ensures { λ r. ⌜ r ≡ answerWord a ⌝ }
-{
-    match a {
-        Acceptance::Never => 0,
-        Acceptance::Since(r) => (r + 1) as u16,
-    }
-}
-
-// ---- the words of a cell
-
-// Since when the cell is accepted from the state.
-pub fn accepted(rounds: &[u16], cell: usize, state: u64) -> Acceptance
-    requires { ⌜ (cell * 64 + 64 ≤ length (now rounds)) × (state < 64) ⌝ }
-    ensures { λ r. ⌜ r ≡ roundIn (now (rounds .entry)) cell state ⌝ }
-    ensures small { λ r. ⌜ answerWord r < 65536 ⌝ }
-{
-    let word = rounds[cell * Limits::STATES1 + state as usize];
-    if word == 0 {
-        return Acceptance::Never;
-    }
-    Acceptance::Since((word - 1) as u64)
-}
-
-// Since when the cell is accepted from every state of the set.
-fn accepted_by_all(rounds: &[u16], cell: usize, set: u64) -> Acceptance
-    requires { ⌜ cell * 64 + 64 ≤ length (now rounds) ⌝ }
-    ensures { λ r. ⌜ r ≡ latest (roundIn (now (rounds .entry)) cell) (members set) ⌝ }
-    ensures small { λ r. ⌜ answerWord r < 65536 ⌝ }
-{
-    let mut left = set;
-    let mut all = Acceptance::Since(0);
-    while 0 < left {
-        let part = sets::least_member(left);
-        all = later(all, accepted(rounds, cell, part.member));
-        left = part.others;
-    }
-    all
-}
-
-// Since when annotation u, of order k, is as a move of this order and annotation set b asks.
-fn annotation_accepted(rounds: &[u16], u: usize, k: u64, order: u64, b: u64) -> Acceptance
-    requires { ⌜ u * 64 + 64 ≤ length (now rounds) ⌝ }
-    ensures { λ r. ⌜ r ≡ annotationRound k (roundIn (now (rounds .entry)) u) order b ⌝ }
-    ensures small { λ r. ⌜ answerWord r < 65536 ⌝ }
-{
-    if order == 0 {
-        return Acceptance::Since(0);
-    }
-    if order == 1 {
-        if k != 1 {
-            return Acceptance::Never;
-        }
-        return accepted_by_all(rounds, u, b);
-    }
-    if k != 2 {
-        return Acceptance::Never;
-    }
-    accepted_by_all(rounds, u, b)
-}
-
-// Since when annotation u, of order k, and rest s are as a move asks.
-pub fn move_accepted(rounds: &[u16], m: Move, k: u64, u: usize, s: usize) -> Acceptance
-    requires { ⌜ (u * 64 + 64 ≤ length (now rounds)) × (s * 64 + 64 ≤ length (now rounds)) ⌝ }
-    ensures { λ r. ⌜ r ≡ moveRound k (roundIn (now (rounds .entry)) u) (roundIn (now (rounds .entry)) s) (asMove m) ⌝ }
-    ensures small { λ r. ⌜ answerWord r < 65536 ⌝ }
-{
-    later(
-        annotation_accepted(rounds, u, k, m.order, m.b),
-        accepted_by_all(rounds, s, m.r),
-    )
-}
-
-// Since when top w and rest t are as an edge asks.
-pub fn edge_accepted(rounds: &[u16], e: Edge, w: usize, t: usize) -> Acceptance
-    requires { ⌜ (w * 64 + 64 ≤ length (now rounds)) × (t * 64 + 64 ≤ length (now rounds)) × (e .first < 64) ⌝ }
-    ensures { λ r. ⌜ r ≡ edgeRound (roundIn (now (rounds .entry)) w) (roundIn (now (rounds .entry)) t) (asEdge e) ⌝ }
-    ensures small { λ r. ⌜ answerWord r < 65536 ⌝ }
-{
-    later(
-        accepted(rounds, w, e.first),
-        accepted_by_all(rounds, t, e.s),
-    )
-}
-
-// The cell is accepted from the state since this or what stands there, the earlier.
-fn put_earlier(rounds: &mut [u16], cell: usize, state: u64, a: Acceptance)
-    requires { ⌜ (cell * 64 + 64 ≤ length (now rounds)) × (state < 64) × (answerWord a < 65536) ⌝ }
-    ensures { λ _. ⌜ now (rounds .exit) ≡ withEarlier (now (rounds .entry)) cell state a ⌝ }
-{
-    let b = earlier(accepted(rounds, cell, state), a);
-    rounds[cell * Limits::STATES1 + state as usize] = word_of(b);
-}
 
 // ---- the words of a cell, by those of the cells before it
 
@@ -186,9 +49,9 @@ fn put_move(m: Move, round: usize, a: u64, k: u64, u: usize, s: usize, rounds: &
     ensures { λ _. ⌜ now (rounds .exit) ≡ withMove (now (rounds .entry)) i round a k u s (asMove m) ⌝ }
 {
     if m.symbol == a {
-        let parts = move_accepted(rounds, m, k, u, s);
-        let won = later(Acceptance::Since(round as u64), parts);
-        put_earlier(rounds, i, m.state, won);
+        let parts = acceptance_words::move_accepted(rounds, m, k, u, s);
+        let won = acceptance_words::later(Acceptance::Since(round as u64), parts);
+        acceptance_words::put_earlier(rounds, i, m.state, won);
     }
 }
 
@@ -234,21 +97,14 @@ fn put_above(
     let mut n: usize = 0;
     while n < edges {
         let e = tables::edge_of(z, inner, entries, n);
-        put_earlier(rounds, i, e.state, edge_accepted(rounds, e, w, t));
+        acceptance_words::put_earlier(
+            rounds,
+            i,
+            e.state,
+            acceptance_words::edge_accepted(rounds, e, w, t),
+        );
         n += 1;
     }
-}
-
-// Since when an empty stack is accepted from the state, where these are final.
-fn final_accepted(set: u64, state: u64) -> Acceptance
-    requires { ⌜ state < 64 ⌝ }
-    ensures { λ r. ⌜ r ≡ finalRound set state ⌝ }
-    ensures small { λ r. ⌜ answerWord r < 65536 ⌝ }
-{
-    if sets::has(set, state) {
-        return Acceptance::Since(0);
-    }
-    Acceptance::Never
 }
 
 // Cell i is an empty stack, where these states are final: its words, where they are zero before.
@@ -258,7 +114,7 @@ fn put_final(set: u64, rounds: &mut [u16], i: usize)
 {
     let mut q: u64 = 0;
     while q < Limits::STATES1 as u64 {
-        put_earlier(rounds, i, q, final_accepted(set, q));
+        acceptance_words::put_earlier(rounds, i, q, acceptance_words::final_accepted(set, q));
         q += 1;
     }
 }

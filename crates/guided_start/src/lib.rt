@@ -99,7 +99,7 @@ pub fn guide_with_rounds(
     ensures { λ r. ⌜ Leaves (guideRun (guideInput (now (case .entry)) (now (start .entry)) number (length (now (moves .entry))) (length (now (entries .entry))) (length (now (cells .entry))) (length (now (trace .entry)))) (saturatedIn z (now (inner .entry)) (now (entries .entry)) (now (moves .entry)) k (now (sizes .entry)))) (length (now (trace .entry))) r (now (trace .exit)) ⌝ }
 {
     let won = sound_files::start_accepted(start, number, rounds);
-    if !acceptance::is_won(won) {
+    if !acceptance_words::is_won(won) {
         return Reply::NoRun;
     }
     let most = cells_lent(cells.len());

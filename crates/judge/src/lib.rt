@@ -24,7 +24,7 @@ fn put_marks(start: &[u8], n: usize, rounds: &[u16], answers: &mut [u16])
 {
     let mut i: usize = 0;
     while i < n {
-        answers[i] = acceptance::word_of(sound_files::start_accepted(start, i, rounds));
+        answers[i] = acceptance_words::word_of(sound_files::start_accepted(start, i, rounds));
         i += 1;
     }
 }

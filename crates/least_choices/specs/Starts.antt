@@ -18,7 +18,7 @@ use Rattle.walks.specs.Guide.{Guided, leastChoice}
 use Rattle.tables.specs.declared.Table.{Table}
 use Rattle.tables.specs.Held.{automatonOf}
 use Rattle.cell_memory.specs.Memory.{valueOf, withCell}
-use Rattle.acceptance.specs.Rows.{roundIn}
+use Rattle.acceptance_words.specs.Rows.{roundIn}
 use Rattle.acceptance.specs.Named.{TablesNamed}
 use Rattle.acceptance.specs.Cells.{annotationOrderAt}
 use Rattle.acceptance.specs.Cells.Body.{cellsIn}

@@ -8,7 +8,7 @@ ghost use Rattle.tables.specs.Records.{asMove, asEdge};
 ghost use Rattle.tables.specs.Layouts.{moveRow};
 ghost use Rattle.tables.specs.Held.{automatonOf, edgesIn, EdgesStand, EntriesStand};
 ghost use Rattle.cell_memory.specs.Memory.{cellOf, guidedIn};
-ghost use Rattle.acceptance.specs.Rows.{roundIn};
+ghost use Rattle.acceptance_words.specs.Rows.{roundIn};
 ghost use Rattle.acceptance.specs.Named.{MovesNamed, EdgesNamed, TablesNamed};
 ghost use Rattle.acceptance.specs.Cells.{PartsBelow};
 ghost use Rattle.acceptance.specs.Cells.Body.{cellsIn};
@@ -37,7 +37,7 @@ fn move_met(rounds: &[u16], m: Move, a: u64, k: u64, u: usize, s: usize) -> bool
     if m.symbol != a {
         return false;
     }
-    acceptance::is_won(acceptance::move_accepted(rounds, m, k, u, s))
+    acceptance_words::is_won(acceptance_words::move_accepted(rounds, m, k, u, s))
 }
 
 // Whether top w and rest t are as an edge asks.
@@ -45,7 +45,7 @@ fn edge_met(rounds: &[u16], e: Edge, w: usize, t: usize) -> bool
     requires { ⌜ (w * 64 + 64 ≤ length (now rounds)) × (t * 64 + 64 ≤ length (now rounds)) × (e .first < 64) ⌝ }
     ensures { λ r. ⌜ r ≡ edgeMet (roundIn (now (rounds .entry)) w) (roundIn (now (rounds .entry)) t) (asEdge e) ⌝ }
 {
-    acceptance::is_won(acceptance::edge_accepted(rounds, e, w, t))
+    acceptance_words::is_won(acceptance_words::edge_accepted(rounds, e, w, t))
 }
 
 // Cell i chooses, for each state, the least move on symbol a for which annotation u, of order k, and rest s are as it asks.

@@ -8,7 +8,7 @@ use Rattle.replies.specs.declared.Acceptance.{Acceptance}
 use Rattle.files.specs.Bytes.{records}
 use Rattle.files.specs.Start.{Start, startOf, startsOf}
 use Rattle.bytes_in.specs.Records.{recordAt}
-use Rattle.acceptance.specs.Rows.{roundIn}
+use Rattle.acceptance_words.specs.Rows.{roundIn}
 
 -- the first n starts of a body
 unfoldable pub startsIn : ℕ → List ℕ → List Start

@@ -69,7 +69,7 @@ pub fn start_accepted(start: &[u8], number: usize, rounds: &[u16]) -> Acceptance
     ensures small { λ r. ⌜ answerWord r < 65536 ⌝ }
 {
     let x = start_records::start_at(start_file::start_body(start), number);
-    acceptance::accepted(rounds, x.root as usize, x.control)
+    acceptance_words::accepted(rounds, x.root as usize, x.control)
 }
 
 // Writes zero into both tables.

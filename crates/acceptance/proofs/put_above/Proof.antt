@@ -4,8 +4,8 @@ use Prim.Native.Nat.{_-_}
 use native.Mathlib.Omega.{arith}
 use Rattle.tables.specs.Held.{edgesIn}
 use Rattle.tables.specs.Held.Laws.{length-edgesIn}
-use Rattle.acceptance.specs.Rows.{roundIn}
-use Rattle.acceptance.specs.Rows.Turns.{AboveTaken, above-none, above-more, above-all}
+use Rattle.acceptance_words.specs.Rows.{roundIn}
+use Rattle.acceptance.specs.Put.Turns.{AboveTaken, above-none, above-more, above-all}
 use Rattle.acceptance.specs.Named.Laws.{edge-small}
 use borrow.Author.Needs.{needs}
 use Rattle.acceptance.proofs.put_above.Statement.{statement}

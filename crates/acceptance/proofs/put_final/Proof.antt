@@ -2,8 +2,8 @@
 -- Assumes nothing.
 use Prim.Native.Nat.{_-_, _≤_}
 use native.Mathlib.Omega.{arith}
-use Rattle.acceptance.specs.Rows.{RowPut}
-use Rattle.acceptance.specs.Rows.Laws.{finalBelow, final-none, final-more, final-all}
+use Rattle.acceptance.specs.Put.{RowPut}
+use Rattle.acceptance.specs.Put.Laws.{finalBelow, final-none, final-more, final-all}
 use borrow.Author.Needs.{needs}
 use Rattle.acceptance.proofs.put_final.Statement.{statement}
 use Rattle.acceptance.proofs.put_final.Tie as tie

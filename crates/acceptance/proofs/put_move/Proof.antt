@@ -1,8 +1,8 @@
 -- `acceptance::put_move` meets its contract.
 -- Assumes nothing.
-use native.Mathlib.Omega.{arith}
 use Rattle.tables.specs.Records.{asMove}
-use Rattle.acceptance.specs.Rows.Turns.{since-is, later-both, move-reads, move-skips}
+use Rattle.acceptance_words.specs.Rows.Turns.{later-both}
+use Rattle.acceptance.specs.Put.Turns.{since-is, move-reads, move-skips}
 use borrow.Author.Needs.{needs}
 use Rattle.acceptance.proofs.put_move.Statement.{statement}
 use Rattle.acceptance.proofs.put_move.Tie as tie

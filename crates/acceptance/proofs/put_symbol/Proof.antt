@@ -6,9 +6,9 @@ use Rattle.tables.specs.Rows.{rowsIn}
 use Rattle.tables.specs.Rows.Laws.{length-rowsIn}
 use Rattle.tables.specs.Layouts.{moveRow}
 use Rattle.saturation.specs.Layout.{sizeRow}
-use Rattle.acceptance.specs.Rows.{roundIn}
-use Rattle.acceptance.specs.Rows.Laws.{round-few}
-use Rattle.acceptance.specs.Rows.Turns.{SymbolTaken, symbol-none, symbol-more, symbol-all}
+use Rattle.acceptance_words.specs.Rows.{roundIn}
+use Rattle.acceptance.specs.Put.Laws.{round-few}
+use Rattle.acceptance.specs.Put.Turns.{SymbolTaken, symbol-none, symbol-more, symbol-all}
 use Rattle.acceptance.specs.Named.Laws.{move-small, move-row}
 use borrow.Author.Needs.{needs}
 use Rattle.acceptance.proofs.put_symbol.Statement.{statement}

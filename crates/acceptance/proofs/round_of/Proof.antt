@@ -4,7 +4,7 @@ use Prim.Native.Nat.{_-_, _≤_}
 use Rattle.automata.specs.Saturation.{roundOf}
 use Rattle.tables.specs.Rows.{rowsIn}
 use Rattle.saturation.specs.Layout.{sizeRow}
-use Rattle.acceptance.specs.Rows.Laws.{round-stops, round-more, round-all}
+use Rattle.acceptance.specs.Put.Laws.{round-stops, round-more, round-all}
 use borrow.Author.Needs.{needs}
 use Rattle.acceptance.proofs.round_of.Statement.{statement}
 use Rattle.acceptance.proofs.round_of.Tie as tie

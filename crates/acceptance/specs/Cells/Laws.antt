@@ -1,26 +1,24 @@
 -- The words of the cells are those of the stacks that they stand for.
 -- Assumes nothing.
-use Prim.Native.Nat.{ℕ, suc, _+_, _*_, _≤_, _<_}
-use mathlib.Core.Bool.{true, false}
+use Prim.Native.Nat.{ℕ, _+_, _*_, _≤_, _<_}
 use mathlib.Core.Path.{_≡_, refl, ap, ap₂, sym, _∙_, subst}
 use mathlib.Core.List.{List, [], _∷_, List·Memᴰ, List·Memᴰ·head}
-use native.Mathlib.Numerals.{add-one}
 use native.Mathlib.Omega.{arith}
 use lib.ListN.{length, getD}
 use lib.Dec.{eqb, ltb}
-use borrow.Author.Tests.{eqb-true, eqb-false, ltb-true, ltb-false, ne-eqb}
+use borrow.Author.Tests.{eqb-true, eqb-false, ltb-true, ltb-false}
 use Rattle.words.specs.Laws.Tests.{by-test, and-left}
 use Rattle.words.specs.Sets.{member}
 use Rattle.words.specs.Sets.Laws.{All}
-use Rattle.words.specs.Lists.{zeros, places}
+use Rattle.words.specs.Lists.{zeros}
 use Rattle.words.specs.Lists.Laws.{places-out}
-use Rattle.stacks.specs.Stack.{Stack1, nil1, cons1, Stack2, nil2, cons2, Annotation, of1, of2, annotationOrder}
+use Rattle.stacks.specs.Stack.{nil1, cons1, nil2, cons2, Annotation, of1, of2, annotationOrder}
 use Rattle.replies.specs.declared.Acceptance.{Acceptance}
-use Rattle.replies.specs.declared.Acceptance.the-variants.{Never, Since}
+use Rattle.replies.specs.declared.Acceptance.the-variants.{Never}
 use Rattle.replies.specs.Numbers.{answerWord}
-use Rattle.automata.specs.Automaton.{Automaton, Move, Edge, noMove, noEdge, edges}
+use Rattle.automata.specs.Automaton.{Automaton, noMove, noEdge, edges}
 use Rattle.automata.specs.Saturation.{Saturated}
-use Rattle.rounds.specs.Won.{earliest, finalRound, symbolRound, aboveRound, isWon, round1, round2, roundOfStack, acceptsStack}
+use Rattle.rounds.specs.Won.{earliest, finalRound, symbolRound, aboveRound, isWon, round1, roundOfStack, acceptsStack}
 use Rattle.rounds.specs.Won.Laws.{stack-accepts}
 use Rattle.walks.specs.Cell.{Cell, empty1, symbol, empty2, above, stacks, stackAt, stackOf, order1, order2}
 use Rattle.walks.specs.Cell.Formed.{Formed, Refers, cellAt, orderAt}
@@ -32,8 +30,9 @@ use Rattle.tables.specs.Rows.Laws.{length-rowsIn, getD-rowsIn}
 use Rattle.tables.specs.Layouts.{moveRow}
 use Rattle.tables.specs.Held.{automatonOf, edgesIn}
 use Rattle.tables.specs.Held.Laws.{length-edgesIn}
-use Rattle.acceptance.specs.Rows.{acceptanceOf, roundIn, RowZero, RowPut}
-use Rattle.acceptance.specs.Rows.Laws.{acceptance-word, round-there, round-past}
+use Rattle.acceptance_words.specs.Rows.{acceptanceOf, roundIn}
+use Rattle.acceptance.specs.Put.{RowZero, RowPut}
+use Rattle.acceptance_words.specs.Rows.Laws.{acceptance-word, round-there, round-past}
 use Rattle.acceptance.specs.Named.{TablesNamed}
 use Rattle.acceptance.specs.Named.Laws.{move-small, edge-small}
 use Rattle.acceptance.specs.Cells.{annotationOrderAt, PartsBelow, cellRound, RoundsStand, RoundsFilled}

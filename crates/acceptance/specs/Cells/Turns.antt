@@ -9,7 +9,8 @@ use Rattle.rounds.specs.Won.{finalRound, symbolRound, aboveRound}
 use Rattle.cell_memory.specs.declared.Cell.{Cell}
 use Rattle.cell_memory.specs.declared.Cell.the-variants.{Empty1, Symbol, Empty2, Above}
 use Rattle.cell_memory.specs.Memory.{cellOf}
-use Rattle.acceptance.specs.Rows.{roundIn, RowPut}
+use Rattle.acceptance_words.specs.Rows.{roundIn}
+use Rattle.acceptance.specs.Put.{RowPut}
 use Rattle.acceptance.specs.Cells.{PartsBelow, cellRound}
 
 module _ {c : Cell} {n : ℕ} where

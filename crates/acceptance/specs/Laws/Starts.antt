@@ -3,7 +3,7 @@
 use Prim.Native.Nat.{ℕ, _<_}
 use mathlib.Core.Path.{_≡_, ap, sym, _∙_}
 use mathlib.Core.List.{List, map, map-map}
-use lib.ListN.{length, getD}
+use lib.ListN.{length}
 use Rattle.automata.specs.Saturation.{Saturated}
 use Rattle.replies.specs.declared.Acceptance.{Acceptance}
 use Rattle.rounds.specs.Won.{round1, round2, roundOfStack}
@@ -14,7 +14,7 @@ use Rattle.files.specs.Bytes.{countOf, recordsOf}
 use Rattle.files.specs.Start.{Start, cellBytes, cellOf, cellRecords, cellsOf, configurationOf}
 use Rattle.bytes_in.specs.Records.{bodyOf}
 use Rattle.bytes_in.specs.Records.Laws.{body-records}
-use Rattle.acceptance.specs.Rows.{roundIn}
+use Rattle.acceptance_words.specs.Rows.{roundIn}
 use Rattle.acceptance.specs.Cells.{RoundsStand}
 use Rattle.acceptance.specs.Cells.Laws.{StatesBelow, round-filled}
 use Rattle.acceptance.specs.Cells.Body.{cellRead, cellsIn}

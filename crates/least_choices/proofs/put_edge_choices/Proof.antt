@@ -3,7 +3,7 @@
 use Prim.Native.Nat.{_-_, _≤_}
 use Rattle.automata.specs.Automaton.{noEdge}
 use Rattle.tables.specs.Held.{edgesIn}
-use Rattle.acceptance.specs.Rows.{roundIn}
+use Rattle.acceptance_words.specs.Rows.{roundIn}
 use Rattle.acceptance.specs.Named.Laws.{edge-small}
 use Rattle.tables.specs.Held.Laws.{length-edgesIn}
 use Rattle.least_choices.specs.Starts.{edgeMet}

@@ -5,7 +5,7 @@ use Rattle.automata.specs.Automaton.{noMove}
 use Rattle.tables.specs.Rows.{rowsIn}
 use Rattle.tables.specs.Rows.Laws.{length-rowsIn}
 use Rattle.tables.specs.Layouts.{moveRow}
-use Rattle.acceptance.specs.Rows.{roundIn}
+use Rattle.acceptance_words.specs.Rows.{roundIn}
 use Rattle.acceptance.specs.Named.Laws.{move-small, move-row}
 use Rattle.least_choices.specs.Starts.{moveMet}
 use Rattle.least_choices.specs.Choices.Laws.{Looked, looked-none, looked-more, looked-all}

@@ -21,7 +21,7 @@ use Rattle.walks.specs.Cell.Laws.{annotation-of1, annotation-of2, stack-at, sta
 use Rattle.walks.specs.Guide.{Guided, leastChoice}
 use Rattle.cell_memory.specs.Memory.{cellOf, valueOf, guidedCell, withCell}
 use Rattle.cell_memory.specs.Memory.Laws.{cellOf-valueOf, length-withCell, withCell-other, withCell-guided}
-use Rattle.acceptance.specs.Rows.{roundIn}
+use Rattle.acceptance_words.specs.Rows.{roundIn}
 use Rattle.acceptance.specs.Cells.{annotationOrderAt}
 use Rattle.acceptance.specs.Cells.Laws.{StatesBelow}
 use Rattle.least_choices.specs.Choices.{leastMet}

@@ -15,8 +15,8 @@ use Rattle.replies.specs.declared.Acceptance.{Acceptance}
 use Rattle.automata.specs.Automaton.{Automaton, Move, Edge, edges}
 use Rattle.rounds.specs.Won.{isWon, moveRound, edgeRound}
 use Rattle.walks.specs.Cell as walks
-use Rattle.walks.specs.Cell.{empty1, symbol, empty2, above, stacks, stackAt}
-use Rattle.walks.specs.Cell.Formed.{Formed, Refers, cellAt}
+use Rattle.walks.specs.Cell.{empty1, symbol, stacks, stackAt}
+use Rattle.walks.specs.Cell.Formed.{Formed, cellAt}
 use Rattle.walks.specs.Cell.Laws.{length-stacks}
 use Rattle.walks.specs.Guide.{Guided, noGuided, leastChoice}
 use Rattle.bytes_in.specs.Records.{recordAt}
@@ -24,7 +24,7 @@ use Rattle.cell_memory.specs.declared.Cell.{Cell}
 use Rattle.cell_memory.specs.declared.Cell.the-variants.{Empty1, Symbol, Empty2, Above}
 use Rattle.cell_memory.specs.Memory.{cellOf, valueOf, guidedCell, guidedIn, withCell}
 use Rattle.cell_memory.specs.Memory.Laws.{valueOf-cellOf, length-guidedIn, guidedIn-at}
-use Rattle.acceptance.specs.Rows.{roundIn}
+use Rattle.acceptance_words.specs.Rows.{roundIn}
 use Rattle.acceptance.specs.Cells.{PartsBelow, annotationOrderAt}
 use Rattle.acceptance.specs.Cells.Body.{cellRead, cellsIn, cellsIn-at}
 use Rattle.acceptance.specs.Cells.Laws.{refers-parts, StatesBelow}

@@ -15,7 +15,7 @@ use Rattle.walks.specs.Cell.Formed.{Formed}
 use Rattle.files.specs.Bytes.{countOf}
 use Rattle.files.specs.Start.{Start, startOf, startsOf, cellsOf, configurationOf}
 use Rattle.bytes_in.specs.Records.{recordAt, bodyOf}
-use Rattle.acceptance.specs.Rows.{roundIn}
+use Rattle.acceptance_words.specs.Rows.{roundIn}
 use Rattle.acceptance.specs.Cells.{RoundsStand, RoundsFilled}
 use Rattle.acceptance.specs.Cells.Body.{cellsIn}
 use Rattle.acceptance.specs.Cells.Laws.{StatesBelow}

@@ -1,9 +1,9 @@
--- `acceptance::put_earlier` meets its contract.
+-- `acceptance_words::put_earlier` meets its contract.
 -- Assumes nothing.
 use borrow.Author.Needs.{needs}
-use Rattle.acceptance.specs.Rows.Turns.{earlier-word, put-written}
-use Rattle.acceptance.proofs.put_earlier.Statement.{statement}
-use Rattle.acceptance.proofs.put_earlier.Tie as tie
+use Rattle.acceptance_words.specs.Rows.Turns.{earlier-word, put-written}
+use Rattle.acceptance_words.proofs.put_earlier.Statement.{statement}
+use Rattle.acceptance_words.proofs.put_earlier.Tie as tie
 
 accepted-requires : tie.Need-accepted-requires
 accepted-requires c κs = search needs

@@ -1,9 +1,9 @@
--- `acceptance::final_accepted` meets its contract.
+-- `acceptance_words::final_accepted` meets its contract.
 -- Assumes nothing.
-use Rattle.acceptance.specs.Rows.Turns.{final-is, final-not}
+use Rattle.acceptance_words.specs.Rows.Turns.{final-is, final-not}
 use borrow.Author.Needs.{needs}
-use Rattle.acceptance.proofs.final_accepted.Statement.{statement}
-use Rattle.acceptance.proofs.final_accepted.Tie as tie
+use Rattle.acceptance_words.proofs.final_accepted.Statement.{statement}
+use Rattle.acceptance_words.proofs.final_accepted.Tie as tie
 
 has-requires : tie.Need-has-requires
 has-requires c κs = search needs

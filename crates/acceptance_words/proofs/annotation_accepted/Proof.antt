@@ -1,10 +1,9 @@
--- `acceptance::annotation_accepted` meets its contract.
+-- `acceptance_words::annotation_accepted` meets its contract.
 -- Assumes nothing.
-use Rattle.acceptance.specs.Rows.{roundIn}
-use Rattle.acceptance.specs.Rows.Turns.{annotation-any, annotation-first, annotation-not-first, annotation-second, annotation-not-second}
+use Rattle.acceptance_words.specs.Rows.Turns.{annotation-any, annotation-first, annotation-not-first, annotation-second, annotation-not-second}
 use borrow.Author.Needs.{needs}
-use Rattle.acceptance.proofs.annotation_accepted.Statement.{statement}
-use Rattle.acceptance.proofs.annotation_accepted.Tie as tie
+use Rattle.acceptance_words.proofs.annotation_accepted.Statement.{statement}
+use Rattle.acceptance_words.proofs.annotation_accepted.Tie as tie
 
 returns : tie.Need-returns
 returns c = annotation-any _ _ _ _ (c .if1 .taken)

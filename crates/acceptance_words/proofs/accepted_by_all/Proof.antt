@@ -1,12 +1,12 @@
--- `acceptance::accepted_by_all` meets its contract.
+-- `acceptance_words::accepted_by_all` meets its contract.
 -- Assumes nothing.
 use lib.ListN.{length}
 use borrow.Author.Needs.{needs}
 use Rattle.words.specs.Sets.{members}
-use Rattle.acceptance.specs.Rows.{roundIn}
-use Rattle.acceptance.specs.Rows.Laws.{LatestBut, latest-none, latest-more, latest-all, members-fewer}
-use Rattle.acceptance.proofs.accepted_by_all.Statement.{statement}
-use Rattle.acceptance.proofs.accepted_by_all.Tie as tie
+use Rattle.acceptance_words.specs.Rows.{roundIn}
+use Rattle.acceptance_words.specs.Rows.Laws.{LatestBut, latest-none, latest-more, latest-all, members-fewer}
+use Rattle.acceptance_words.proofs.accepted_by_all.Statement.{statement}
+use Rattle.acceptance_words.proofs.accepted_by_all.Tie as tie
 
 abbrev Inv-loop : tie.InvT-loop
 Inv-loop rounds cell set left₀ all₀ left all = LatestBut (roundIn rounds cell) set left all

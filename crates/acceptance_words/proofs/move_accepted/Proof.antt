@@ -1,10 +1,10 @@
--- `acceptance::move_accepted` meets its contract.
+-- `acceptance_words::move_accepted` meets its contract.
 -- Assumes nothing.
 use Rattle.rounds.specs.Won.{moveRound}
-use Rattle.acceptance.specs.Rows.Turns.{later-both}
+use Rattle.acceptance_words.specs.Rows.Turns.{later-both}
 use borrow.Author.Needs.{needs}
-use Rattle.acceptance.proofs.move_accepted.Statement.{statement}
-use Rattle.acceptance.proofs.move_accepted.Tie as tie
+use Rattle.acceptance_words.proofs.move_accepted.Statement.{statement}
+use Rattle.acceptance_words.proofs.move_accepted.Tie as tie
 
 annotation-accepted-requires : tie.Need-annotation-accepted-requires
 annotation-accepted-requires c κs = search needs

@@ -1,12 +1,12 @@
--- `acceptance::word_of` meets its contract.
+-- `acceptance_words::word_of` meets its contract.
 -- Assumes nothing.
 use native.Mathlib.Omega.{arith}
 use native.Mathlib.Numerals.{add-one}
 use Rattle.replies.specs.Numbers.{answerWord}
-use Rattle.acceptance.specs.Rows.Laws.{since-small}
+use Rattle.acceptance_words.specs.Rows.Laws.{since-small}
 use borrow.Author.Needs.{needs}
-use Rattle.acceptance.proofs.word_of.Statement.{statement}
-use Rattle.acceptance.proofs.word_of.Tie as tie
+use Rattle.acceptance_words.proofs.word_of.Statement.{statement}
+use Rattle.acceptance_words.proofs.word_of.Tie as tie
 
 enum-told : tie.Need-enum-told
 enum-told c = search needs

@@ -1,10 +1,10 @@
--- `acceptance::edge_accepted` meets its contract.
+-- `acceptance_words::edge_accepted` meets its contract.
 -- Assumes nothing.
 use Rattle.rounds.specs.Won.{edgeRound}
-use Rattle.acceptance.specs.Rows.Turns.{later-both}
+use Rattle.acceptance_words.specs.Rows.Turns.{later-both}
 use borrow.Author.Needs.{needs}
-use Rattle.acceptance.proofs.edge_accepted.Statement.{statement}
-use Rattle.acceptance.proofs.edge_accepted.Tie as tie
+use Rattle.acceptance_words.proofs.edge_accepted.Statement.{statement}
+use Rattle.acceptance_words.proofs.edge_accepted.Tie as tie
 
 accepted-requires : tie.Need-accepted-requires
 accepted-requires c κs = search needs

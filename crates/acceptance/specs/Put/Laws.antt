@@ -1,74 +1,32 @@
--- The words of a row: read, written, and one element more.
+-- A row as it is put: with one element more, one state more; the round of a move.
 -- Assumes nothing.
-use Prim.Native.Nat.{ℕ, zero, suc, _+_, _-_, _*_, _≤_, _<_}
+use Prim.Native.Nat.{ℕ, suc, _+_, _*_, _≤_, _<_}
 use mathlib.Core.Bool.{Bool, true, false, _&&_, and-false}
 use mathlib.Core.Path.{_≡_, refl, ap, ap₂, sym, _∙_, subst}
-use mathlib.Core.List.{List, [], _∷_, _++_}
+use mathlib.Core.List.{List, [], _∷_}
 use native.Mathlib.Numerals.{add-one}
 use native.Mathlib.Omega.{arith}
-use lib.ListN.{length, getD, set, take, length-set}
+use lib.ListN.{length, getD, take, length-set}
 use lib.Seq.{getD-set-same, getD-set-other, take-all}
 use lib.Dec.{eqb, ltb}
-use borrow.Author.Tests.{eqb-true, eqb-false, eq-eqb, ltb-true, ltb-false, lt-ltb, le-ltb}
+use borrow.Author.Tests.{eqb-true, eqb-false, ltb-true, ltb-false, lt-ltb, le-ltb}
 use Rattle.words.specs.Laws.Tests.{by-test}
-use Rattle.words.specs.Sets.{member, members, membersFrom}
 use Rattle.words.specs.Lists.{when, places, placesFrom}
 use Rattle.words.specs.Lists.Laws.{places-take}
 use Rattle.replies.specs.declared.Acceptance.{Acceptance}
-use Rattle.replies.specs.declared.Acceptance.the-variants.{Never, Since}
+use Rattle.replies.specs.declared.Acceptance.the-variants.{Never}
 use Rattle.replies.specs.Numbers.{answerWord}
 use Rattle.automata.specs.Saturation.{Size, roundOf}
 use Rattle.rounds.specs.RoundOf.{roundOf-few, roundOf-stops, roundOf-more}
-use Rattle.rounds.specs.Won.{earlier, later, earliest, latest, finalRound}
-use Rattle.rounds.specs.Won.Answers.{later-first, later-last, later-assoc, later-small, earlier-last, earliest-append}
+use Rattle.rounds.specs.Won.{earlier, earliest, finalRound}
+use Rattle.rounds.specs.Won.Answers.{earlier-last, earliest-append}
 use Rattle.tables.specs.Rows.{rowAt, rowsIn}
 use Rattle.tables.specs.Rows.Laws.{length-rowsIn, getD-rowsIn}
 use Rattle.saturation.specs.Sizes.{theSize}
 use Rattle.saturation.specs.Layout.{sizeRow}
-use Rattle.acceptance.specs.Rows.{acceptanceOf, roundIn, withEarlier, RowZero, RowPut}
-
--- ---- words and answers
-
-pub acceptance-word : (a : Acceptance) → acceptanceOf (answerWord a) ≡ a
-unfolding acceptanceOf answerWord
-acceptance-word Never = refl
-acceptance-word (Since r) = refl
-
-pub word-acceptance : (w : ℕ) → answerWord (acceptanceOf w) ≡ w
-unfolding acceptanceOf answerWord
-word-acceptance zero = refl
-word-acceptance (suc r) = refl
-
--- a round whose word is small
-pub since-small : {a : Acceptance} {r w : ℕ} → a ≡ Since r → answerWord a < w → r + 1 < w
-unfolding answerWord
-since-small {a} {r} {w} e l = let k : suc r < w = subst (λ (b : Acceptance). answerWord b < w) e l in omega arith
-
--- a state below 64 has a word
-pub round-there : (rounds : List ℕ) (cell q : ℕ) → q < 64 → roundIn rounds cell q ≡ acceptanceOf (getD rounds (cell * 64 + q) 0)
-unfolding roundIn
-round-there rounds cell q l = rw (roundIn, lt-ltb q 64 l)
-
-pub round-past : (rounds : List ℕ) (cell q : ℕ) → 64 ≤ q → roundIn rounds cell q ≡ Never
-unfolding roundIn
-round-past rounds cell q l = rw (roundIn, le-ltb q 64 l)
-
-pub word-small : (rounds : List ℕ) (cell q : ℕ) → q < 64 → answerWord (roundIn rounds cell q) ≡ getD rounds (cell * 64 + q) 0
-word-small rounds cell q l = ap answerWord (round-there rounds cell q l) ∙ word-acceptance _
-
--- as the code reads them
-pub read-never : (rounds : List ℕ) (cell q : ℕ) → q < 64 → getD rounds (cell * 64 + q) 0 ≡ 0
-    → (Never ≡ roundIn rounds cell q) × (answerWord Never < 65536)
-unfolding acceptanceOf answerWord
-read-never rounds cell q l e = (sym (round-there rounds cell q l ∙ ap acceptanceOf e), omega arith)
-
-pub read-since : (rounds : List ℕ) (cell q : ℕ) → q < 64 → (getD rounds (cell * 64 + q) 0 ≡ 0 → ⊥) → getD rounds (cell * 64 + q) 0 < 65536
-    → (Since (getD rounds (cell * 64 + q) 0 - 1) ≡ roundIn rounds cell q) × (answerWord (Since (getD rounds (cell * 64 + q) 0 - 1)) < 65536)
-unfolding acceptanceOf answerWord
-read-since rounds cell q l h small =
-    let w : ℕ = getD rounds (cell * 64 + q) 0 in
-    let e : w ≡ suc (w - 1) = omega arith in
-    (sym (round-there rounds cell q l ∙ ap acceptanceOf e), omega arith)
+use Rattle.acceptance_words.specs.Rows.{acceptanceOf, roundIn, withEarlier}
+use Rattle.acceptance_words.specs.Rows.Laws.{acceptance-word, round-there, round-past}
+use Rattle.acceptance.specs.Put.{RowZero, RowPut}
 
 -- ---- a row that is put
 
@@ -165,41 +123,6 @@ module _ {X : Type 0} (state : X → ℕ) (mine : X → Bool) (f : ℕ → Accep
   -- all of them
   pub row-all : {b : List ℕ} {i : ℕ} (l : List X) {n : ℕ} {now : List ℕ} → length l ≤ n → RowPut b i (among (take n l)) now → RowPut b i (among l) now
   row-all l {n} h p = row-same (λ q k. ap (λ (xs : List X). among xs q) (take-all n l h)) p
-
--- ---- all states of a set, one after another
-
--- All states of the set but those left are looked at: the latest answer for them is `all`.
-pub record LatestBut (f : ℕ → Acceptance) (set left : ℕ) (all : Acceptance) : Type 0 where
-  pub is : latest f (members set) ≡ later all (latest f (members left))
-  pub small : answerWord all < 65536
-
-pub latest-none : (f : ℕ → Acceptance) (set : ℕ) → LatestBut f set set (Since 0)
-unfolding answerWord
-latest-none f set = record { is = sym (later-first (latest f (members set))); small = omega arith }
-
-pub latest-more : {f : ℕ → Acceptance} {set left q others : ℕ} {all a all′ : Acceptance} → LatestBut f set left all → members left ≡ q ∷ members others
-    → (a ≡ f q) × (answerWord a < 65536) → all′ ≡ later all a → LatestBut f set others all′
-unfolding latest
-latest-more {f} {others = others} {all} {a} h e (g, k) w =
-    record {
-      is =
-          h .is
-          ∙ ap (λ (l : List ℕ). later all (latest f l)) e
-          ∙ ap (λ (b : Acceptance). later all (later b (latest f (members others)))) (sym g)
-          ∙ sym (later-assoc all a (latest f (members others)))
-          ∙ ap (λ (b : Acceptance). later b (latest f (members others))) (sym w);
-      small = subst (λ (b : Acceptance). answerWord b < 65536) (sym w) (later-small 65536 all a (h .small) k);
-    }
-
-pub latest-all : {f : ℕ → Acceptance} {set left : ℕ} {all : Acceptance} → LatestBut f set left all → left ≤ 0
-    → (all ≡ latest f (members set)) × (answerWord all < 65536)
-unfolding latest members membersFrom
-latest-all {f} {left = left} {all} h l =
-    let z : left ≡ 0 = omega arith in
-    (sym (h .is ∙ ap (λ (k : ℕ). later all (latest f (members k))) z ∙ later-last all), h .small)
-
-pub members-fewer : (left q others : ℕ) → members left ≡ q ∷ members others → length (members others) < length (members left)
-members-fewer left q others e = let l : length (members left) ≡ suc (length (members others)) = ap length e in omega arith
 
 -- ---- the round of a move, by one size after another
 

@@ -1,11 +1,11 @@
--- `acceptance::accepted` meets its contract.
+-- `acceptance_words::accepted` meets its contract.
 -- Assumes nothing.
 use Prim.Native.Nat.{_+_, _*_}
 use native.Mathlib.Omega.{arith}
-use Rattle.acceptance.specs.Rows.Laws.{read-never, read-since}
+use Rattle.acceptance_words.specs.Rows.Laws.{read-never, read-since}
 use borrow.Author.Needs.{needs}
-use Rattle.acceptance.proofs.accepted.Statement.{statement}
-use Rattle.acceptance.proofs.accepted.Tie as tie
+use Rattle.acceptance_words.proofs.accepted.Statement.{statement}
+use Rattle.acceptance_words.proofs.accepted.Tie as tie
 
 mul-word : tie.Need-mul-word
 mul-word c = search needs

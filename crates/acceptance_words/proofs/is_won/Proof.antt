@@ -1,9 +1,9 @@
--- `acceptance::is_won` meets its contract.
+-- `acceptance_words::is_won` meets its contract.
 -- Assumes nothing.
 use Rattle.rounds.specs.Won.{isWon}
 use borrow.Author.Needs.{needs}
-use Rattle.acceptance.proofs.is_won.Statement.{statement}
-use Rattle.acceptance.proofs.is_won.Tie as tie
+use Rattle.acceptance_words.proofs.is_won.Statement.{statement}
+use Rattle.acceptance_words.proofs.is_won.Tie as tie
 
 enum-told : tie.Need-enum-told
 enum-told c = search needs
