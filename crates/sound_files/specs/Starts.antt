@@ -2,17 +2,12 @@
 -- Assumes nothing.
 pub mod Laws
 use Prim.Native.Nat.{ℕ, _*_, _≤_, _<_}
-use mathlib.Core.List.{List, map}
+use mathlib.Core.List.{List}
 use lib.ListN.{length, getD}
 use Rattle.replies.specs.declared.Acceptance.{Acceptance}
-use Rattle.files.specs.Bytes.{records}
 use Rattle.files.specs.Start.{Start, startOf, startsOf}
 use Rattle.bytes_in.specs.Records.{recordAt}
 use Rattle.acceptance_words.specs.Rows.{roundIn}
-
--- the first n starts of a body
-unfoldable pub startsIn : ℕ → List ℕ → List Start
-startsIn n body = map startOf (records n 3 body)
 
 -- start n of a start file
 unfoldable pub startNumber : List ℕ → ℕ → Start

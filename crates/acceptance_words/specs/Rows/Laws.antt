@@ -1,6 +1,6 @@
 -- The words of a row and their answers; the latest answer for a set, one state after another.
 -- Assumes nothing.
-use Prim.Native.Nat.{ℕ, zero, suc, _+_, _-_, _*_, _≤_, _<_}
+use Prim.Native.Nat.{ℕ, suc, _+_, _-_, _*_, _≤_, _<_}
 use mathlib.Core.Path.{_≡_, refl, ap, sym, _∙_, subst}
 use mathlib.Core.List.{List, _∷_}
 use native.Mathlib.Omega.{arith}
@@ -21,11 +21,6 @@ unfolding acceptanceOf answerWord
 acceptance-word Never = refl
 acceptance-word (Since r) = refl
 
-pub word-acceptance : (w : ℕ) → answerWord (acceptanceOf w) ≡ w
-unfolding acceptanceOf answerWord
-word-acceptance zero = refl
-word-acceptance (suc r) = refl
-
 -- a round whose word is small
 pub since-small : {a : Acceptance} {r w : ℕ} → a ≡ Since r → answerWord a < w → r + 1 < w
 unfolding answerWord
@@ -39,9 +34,6 @@ round-there rounds cell q l = rw (roundIn, lt-ltb q 64 l)
 pub round-past : (rounds : List ℕ) (cell q : ℕ) → 64 ≤ q → roundIn rounds cell q ≡ Never
 unfolding roundIn
 round-past rounds cell q l = rw (roundIn, le-ltb q 64 l)
-
-pub word-small : (rounds : List ℕ) (cell q : ℕ) → q < 64 → answerWord (roundIn rounds cell q) ≡ getD rounds (cell * 64 + q) 0
-word-small rounds cell q l = ap answerWord (round-there rounds cell q l) ∙ word-acceptance _
 
 -- as the code reads them
 pub read-never : (rounds : List ℕ) (cell q : ℕ) → q < 64 → getD rounds (cell * 64 + q) 0 ≡ 0
