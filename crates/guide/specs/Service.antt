@@ -3,11 +3,19 @@
 pub mod Cases
 pub mod Left
 pub mod Demands
+pub mod Won
 use Prim.Native.Nat.{ℕ}
 use mathlib.Core.List.{List}
+use lib.ListN.{getD}
 use Rattle.replies.specs.declared.Reply.{Reply}
+use Rattle.services.specs.Judge.{judgeService}
 use Rattle.services.specs.Guide.{GuideDone}
+use Rattle.judge.specs.Service.{judgeInput}
 
 abbrev pub guideDone : Reply → List ℕ → List ℕ → List ℕ → List ℕ → GuideDone
 guideDone reply moves entries cells trace =
     record { reply = reply; moves = moves; entries = entries; cells = cells; trace = trace }
+
+-- The round is that of judge's word: the word for a start, where judge is lent tables of m and e words and an answer for each start.
+abbrev pub judgedWord : List ℕ → List ℕ → ℕ → ℕ → ℕ → ℕ
+judgedWord case start number m e = getD (judgeService (judgeInput case start m e 64) .answers) number 0

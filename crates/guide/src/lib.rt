@@ -5,15 +5,28 @@ ghost use lib.ListN.{length};
 ghost use Rattle.files.specs.Start.{startsOf};
 ghost use Rattle.words.specs.Lists.{zeros};
 ghost use Rattle.services.specs.Guide.{guideService};
-ghost use Rattle.replies.specs.Numbers.{refusalOf};
+ghost use Rattle.replies.specs.declared.Reply.the-variants.{Refused};
+ghost use Rattle.replies.specs.Numbers.{answerWord, refusalOf};
 ghost use Rattle.demands.specs.Demand1.{GuideStates};
 ghost use Rattle.demands.specs.Demand2.{GuideRuns, GuideSize};
 ghost use Rattle.demands.specs.Demand3.{Guides};
 ghost use Rattle.sound_files.specs.Refusal.{FilesSound};
 ghost use Rattle.guided_start.specs.Run.{guideInput};
-ghost use Rattle.guide.specs.Service.{guideDone};
+ghost use Rattle.guide.specs.Service.{guideDone, judgedWord};
+use guided_start::Guided;
 use limits::Limits;
+use replies::Acceptance;
 use replies::Reply;
+
+// Refused: no round, and the refusal's number.
+fn refused(n: u64) -> Guided
+    ensures { λ r. ⌜ (answerWord (r .won) ≡ 0) × (r .reply ≡ Refused n) ⌝ }
+{
+    Guided {
+        won: Acceptance::Never,
+        reply: Reply::Refused(n),
+    }
+}
 
 // Guides from a start of sound files. All lent memory is zero before.
 fn guide_sound(
@@ -24,9 +37,10 @@ fn guide_sound(
     entries: &mut [u64],
     cells: &mut [u16],
     trace: &mut [u16],
-) -> Reply
+) -> Guided
     requires { ⌜ FilesSound (now case) (now start) × (number < length (startsOf (now start))) × (now moves ≡ zeros (length (now moves))) × (now entries ≡ zeros (length (now entries))) × (now cells ≡ zeros (length (now cells))) × (now trace ≡ zeros (length (now trace))) ⌝ }
-    ensures { λ r. ⌜ guideDone r (now (moves .exit)) (now (entries .exit)) (now (cells .exit)) (now (trace .exit)) ≡ guideService (guideInput (now (case .entry)) (now (start .entry)) number (length (now (moves .entry))) (length (now (entries .entry))) (length (now (cells .entry))) (length (now (trace .entry)))) ⌝ }
+    ensures { λ r. ⌜ guideDone (r .reply) (now (moves .exit)) (now (entries .exit)) (now (cells .exit)) (now (trace .exit)) ≡ guideService (guideInput (now (case .entry)) (now (start .entry)) number (length (now (moves .entry))) (length (now (entries .entry))) (length (now (cells .entry))) (length (now (trace .entry)))) ⌝ }
+    ensures won { λ r. ⌜ answerWord (r .won) ≡ judgedWord (now (case .entry)) (now (start .entry)) number (length (now (moves .entry))) (length (now (entries .entry))) ⌝ }
 {
     let mut inner = [0u64; Limits::INNER_TABLE];
     let mut pending = [0u64; Limits::PENDING_TABLE];
@@ -35,10 +49,10 @@ fn guide_sound(
     let table = r.table;
     if !r.fits {
         sound_files::zero_tables(moves, entries);
-        return Reply::Refused(9);
+        return refused(9);
     }
     let k = r.sizes;
-    let reply = guided_start::guide_start(
+    let guided = guided_start::guide_start(
         case,
         start,
         number,
@@ -53,7 +67,30 @@ fn guide_sound(
     );
     sound_files::zero_tables(moves, entries);
     zeroing::zero_u16(cells);
-    reply
+    guided
+}
+
+// Guides as `guide` does, and answers the round in which the start was won too: the round is that of judge's word.
+pub fn guide_won(
+    case: &[u8],
+    start: &[u8],
+    number: usize,
+    moves: &mut [u64],
+    entries: &mut [u64],
+    cells: &mut [u16],
+    trace: &mut [u16],
+) -> Guided
+    ensures { λ r. ⌜ guideDone (r .reply) (now (moves .exit)) (now (entries .exit)) (now (cells .exit)) (now (trace .exit)) ≡ guideService (guideInput (now (case .entry)) (now (start .entry)) number (length (now (moves .entry))) (length (now (entries .entry))) (length (now (cells .entry))) (length (now (trace .entry)))) ⌝ }
+    ensures won { λ r. ⌜ answerWord (r .won) ≡ judgedWord (now (case .entry)) (now (start .entry)) number (length (now (moves .entry))) (length (now (entries .entry))) ⌝ }
+{
+    sound_files::zero_tables(moves, entries);
+    zeroing::zero_u16(cells);
+    zeroing::zero_u16(trace);
+    let refusal = sound_files::refusal_before(case, start, number, 0, 7);
+    if refusal != 0 {
+        return refused(refusal);
+    }
+    guide_sound(case, start, number, moves, entries, cells, trace)
 }
 
 // Writes into the trace the rule numbers of a run from start `number` into the case's target, as many as the trace and the cells hold. Answers
@@ -73,12 +110,6 @@ pub fn guide(
     ensures size { λ r. ⌜ GuideSize (guideInput (now (case .entry)) (now (start .entry)) number (length (now (moves .entry))) (length (now (entries .entry))) (length (now (cells .entry))) (length (now (trace .entry)))) (refusalOf r) ⌝ }
     ensures demand3 { λ r. ⌜ Guides (guideInput (now (case .entry)) (now (start .entry)) number (length (now (moves .entry))) (length (now (entries .entry))) (length (now (cells .entry))) (length (now (trace .entry)))) (guideDone r (now (moves .exit)) (now (entries .exit)) (now (cells .exit)) (now (trace .exit))) ⌝ }
 {
-    sound_files::zero_tables(moves, entries);
-    zeroing::zero_u16(cells);
-    zeroing::zero_u16(trace);
-    let refusal = sound_files::refusal_before(case, start, number, 0, 7);
-    if refusal != 0 {
-        return Reply::Refused(refusal);
-    }
-    guide_sound(case, start, number, moves, entries, cells, trace)
+    let guided = guide_won(case, start, number, moves, entries, cells, trace);
+    guided.reply
 }

@@ -1,27 +1,47 @@
 // The guided run from one start of a sound start file, on the saturated table of a sound case.
 ghost use mathlib.Core.Path.{_≡_};
 ghost use mathlib.Core.List.{[]};
-ghost use Prim.Native.Nat.{_<_, _≤_, _*_};
+ghost use Prim.Native.Nat.{_<_, _≤_, _-_, _*_};
 ghost use lib.ListN.{length};
 ghost use Rattle.walks.specs.Guide.{startWalk, guided};
 ghost use Rattle.files.specs.Case.{caseRefusal, rulesOf};
-ghost use Rattle.files.specs.Start.{startsOf, cellsOf};
+ghost use Rattle.files.specs.Start.{startsOf, cellsOf, configurationOf};
 ghost use Rattle.words.specs.Lists.{zeros};
+ghost use Rattle.replies.specs.Numbers.{answerWord};
+ghost use Rattle.rounds.specs.Won.{round2};
 ghost use Rattle.services.specs.Guide.{guideRun};
 ghost use Rattle.tables.specs.Held.{automatonOf};
 ghost use Rattle.saturation.specs.Held.{saturatedIn};
 ghost use Rattle.guided_walk.specs.Turns.{Leaves};
+ghost use Rattle.sound_files.specs.Starts.{startNumber};
 ghost use Rattle.sound_files.specs.Sound.{StartSound};
 ghost use Rattle.guided_start.specs.Tables.{TablesStand};
 ghost use Rattle.guided_start.specs.Run.{guideInput, lentCells, shortAtStart};
 ghost use Rattle.guided_start.specs.Walk.{StartRounds, Ready};
 use guided_step::Walk;
 use limits::Limits;
+use replies::Acceptance;
 use replies::Counts;
 use replies::Halt;
 use replies::Reply;
 use start_records::Start;
 use tables::Table;
+
+// Since when the start is accepted, and what guide answers.
+pub struct Guided {
+    pub won: Acceptance,
+    pub reply: Reply,
+}
+
+// The round of an answer, and 0 where there is none.
+pub fn round_of(won: Acceptance) -> u64
+    ensures { λ r. ⌜ r ≡ answerWord won - 1 ⌝ }
+{
+    match won {
+        Acceptance::Never => 0,
+        Acceptance::Since(r) => r,
+    }
+}
 
 // The cells that so many words lend, of which at most 4,096 count.
 fn cells_lent(words: usize) -> usize
@@ -98,8 +118,7 @@ pub fn guide_with_rounds(
     requires { ⌜ (caseRefusal (now case) ≡ 0) × StartSound (now start) × TablesStand z (now inner) (now entries) (now moves) k (now sizes) × StartRounds z (now inner) (now entries) (now moves) k (now sizes) (now start) (now rounds) × (number < length (startsOf (now start))) × (now trace ≡ zeros (length (now trace))) ⌝ }
     ensures { λ r. ⌜ Leaves (guideRun (guideInput (now (case .entry)) (now (start .entry)) number (length (now (moves .entry))) (length (now (entries .entry))) (length (now (cells .entry))) (length (now (trace .entry)))) (saturatedIn z (now (inner .entry)) (now (entries .entry)) (now (moves .entry)) k (now (sizes .entry)))) (length (now (trace .entry))) r (now (trace .exit)) ⌝ }
 {
-    let won = sound_files::start_accepted(start, number, rounds);
-    if !acceptance_words::is_won(won) {
+    if !acceptance_words::is_won(sound_files::start_accepted(start, number, rounds)) {
         return Reply::NoRun;
     }
     let most = cells_lent(cells.len());
@@ -138,13 +157,15 @@ pub fn guide_start(
     k: usize,
     cells: &mut [u16],
     trace: &mut [u16],
-) -> Reply
+) -> Guided
     requires { ⌜ (caseRefusal (now case) ≡ 0) × StartSound (now start) × TablesStand z (now inner) (now entries) (now moves) k (now sizes) × (number < length (startsOf (now start))) × (now trace ≡ zeros (length (now trace))) ⌝ }
-    ensures { λ r. ⌜ Leaves (guideRun (guideInput (now (case .entry)) (now (start .entry)) number (length (now (moves .entry))) (length (now (entries .entry))) (length (now (cells .entry))) (length (now (trace .entry)))) (saturatedIn z (now (inner .entry)) (now (entries .entry)) (now (moves .entry)) k (now (sizes .entry)))) (length (now (trace .entry))) r (now (trace .exit)) ⌝ }
+    ensures { λ r. ⌜ Leaves (guideRun (guideInput (now (case .entry)) (now (start .entry)) number (length (now (moves .entry))) (length (now (entries .entry))) (length (now (cells .entry))) (length (now (trace .entry)))) (saturatedIn z (now (inner .entry)) (now (entries .entry)) (now (moves .entry)) k (now (sizes .entry)))) (length (now (trace .entry))) (r .reply) (now (trace .exit)) ⌝ }
+    ensures won { λ r. ⌜ r .won ≡ round2 (saturatedIn z (now (inner .entry)) (now (entries .entry)) (now (moves .entry)) k (now (sizes .entry))) (configurationOf (now (start .entry)) (startNumber (now (start .entry)) number) .stack) (startNumber (now (start .entry)) number .control) ⌝ }
 {
     let mut rounds = [0u16; Limits::START_CELLS * Limits::STATES1];
     sound_files::start_rounds(z, inner, entries, moves, sizes, k, start, &mut rounds);
-    guide_with_rounds(
+    let won = sound_files::start_accepted(start, number, &rounds);
+    let reply = guide_with_rounds(
         case,
         start,
         number,
@@ -157,5 +178,9 @@ pub fn guide_start(
         &rounds,
         cells,
         trace,
-    )
+    );
+    Guided {
+        won: won,
+        reply: reply,
+    }
 }

@@ -1,9 +1,8 @@
 // The text that the printing program prints for a case file and a start file. The case is saturated once, the words of the start file's cells are
 // worked out once, and every start is guided by them.
 ghost use mathlib.Core.Path.{_≡_};
-ghost use Prim.Native.Nat.{_+_, _-_, _*_, _≤_, _<_};
+ghost use Prim.Native.Nat.{_+_, _*_, _≤_, _<_};
 ghost use lib.ListN.{length};
-ghost use Rattle.replies.specs.Numbers.{answerWord};
 ghost use Rattle.files.specs.Start.{startsOf};
 ghost use Rattle.services.specs.Memory.{padded};
 ghost use Rattle.services.specs.Listing.{startLine, startLines, listingText};
@@ -13,19 +12,8 @@ ghost use Rattle.sound_files.specs.Refusal.{FilesSound};
 ghost use Rattle.guided_start.specs.Walk.{StartRounds};
 ghost use Rattle.listing_text.specs.Prepared.{TableReady};
 use limits::Limits;
-use replies::Acceptance;
 use replies::Saturation;
 use tables::Table;
-
-// The round of an answer, and 0 where there is none.
-fn round_of(won: Acceptance) -> u64
-    ensures { λ r. ⌜ r ≡ answerWord won - 1 ⌝ }
-{
-    match won {
-        Acceptance::Never => 0,
-        Acceptance::Since(r) => r,
-    }
-}
 
 // Writes the line of start n from `at` on and answers the place after it.
 fn start_line(
@@ -62,7 +50,8 @@ fn start_line(
         &mut cells,
         &mut trace,
     );
-    let round = round_of(sound_files::start_accepted(start, n, rounds));
+    let won = sound_files::start_accepted(start, n, rounds);
+    let round = guided_start::round_of(won);
     text::put_reply_line(text, at, n as u64, round, reply)
 }
 

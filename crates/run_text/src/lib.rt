@@ -18,7 +18,7 @@ fn put_run(case: &[u8], start: &[u8], number: usize, text: &mut [u8]) -> usize
     let mut entries = [0u64; Limits::STATES1 * Limits::ENTRY_WORDS];
     let mut cells = [0u16; Limits::CELLS * Limits::CELL_WORDS];
     let mut trace = [0u16; Limits::RUN_TRACE];
-    let reply = guide::guide(
+    let guided = guide::guide_won(
         case,
         start,
         number,
@@ -27,7 +27,9 @@ fn put_run(case: &[u8], start: &[u8], number: usize, text: &mut [u8]) -> usize
         &mut cells,
         &mut trace,
     );
-    let round = start_round::round_won(case, start, number);
+    let won = guided.won;
+    let reply = guided.reply;
+    let round = guided_start::round_of(won);
     answer_text::put_answer(text, number, round, reply, &trace)
 }
 

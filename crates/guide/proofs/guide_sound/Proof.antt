@@ -1,11 +1,13 @@
 -- `guide::guide_sound` meets its contract.
 -- Assumes nothing.
+use mathlib.Core.Path.{_∙_}
 use borrow.Author.Tests.{not-true, not-false}
 use Rattle.sound_files.specs.Sound.Laws.{start-sound}
 use Rattle.sound_files.specs.Saturated.Laws.{table-there, table-none}
 use Rattle.guided_start.specs.Tables.Laws.{tables-stand}
 use Rattle.guided_start.specs.Run.Laws.{leaves-same, run-tables}
 use Rattle.guide.specs.Service.Left.{zeros-kept, left-exceeded, left-guided}
+use Rattle.guide.specs.Service.Won.{won-exceeded, won-guided}
 use borrow.Author.Needs.{needs}
 use Rattle.guide.proofs.guide_sound.Statement.{statement}
 use Rattle.guide.proofs.guide_sound.Tie as tie
@@ -25,6 +27,9 @@ saturate-case-requires c κs = search needs
 zero-tables-requires : tie.Need-zero-tables-requires
 zero-tables-requires c κs = search needs
 
+refused-requires : tie.Need-refused-requires
+refused-requires c κs = search needs
+
 same-length : tie.Need-same-length
 same-length c = search needs
 
@@ -33,11 +38,14 @@ same-length-2 c = search needs
 
 returns : tie.Need-returns
 returns c =
-    let s = c .before .before .before .before .before .before .before .before .before .before .before .before .before .before .before .before .before .saturate-case in
-    let e = c .before .before .before .before .before .before .before .before .before .before .before .before .before .before .before .before .before .before .before .before .before .before .before .before .before .before .before .before .before in
-    let z = c .before .before .before .before .zero-tables .ensures in
-    left-exceeded _ (zeros-kept (z .0) (s .kept .1 .1 .1 .0)) (zeros-kept (z .1) (s .kept .1 .1 .0)) (e .pre .4) (e .pre .0) (e .pre .1)
-    (table-none (s .ensures) (not-true (s .result .fits) (c .before .before .before .before .before .before .before .if1 .taken))) (e .pre .5)
+    let s = c .before .before .before .before .before .before .before .before .before .before .before .before .before .before .before .before .before .before .saturate-case in
+    let e = c .before .before .before .before .before .before .before .before .before .before .before .before .before .before .before .before .before .before .before .before .before .before .before .before .before .before .before .before .before .before in
+    let z = c .before .before .before .before .before .zero-tables .ensures in
+    let none = table-none (s .ensures) (not-true (s .result .fits) (c .before .before .before .before .before .before .before .before .if1 .taken)) in (
+      left-exceeded _ (zeros-kept (z .0) (s .kept .1 .1 .1 .0)) (zeros-kept (z .1) (s .kept .1 .1 .0)) (e .pre .4) (e .pre .0) (e .pre .1) none (c .refused .ensures .1)
+          (e .pre .5),
+      won-exceeded _ _ _ _ _ (e .pre .0) (c .refused .ensures .0) none,
+    )
 
 slice-aggregate-guide-start : tie.Need-slice-aggregate-guide-start
 slice-aggregate-guide-start c = search needs
@@ -69,7 +77,7 @@ same-length-3 : tie.Need-same-length-3
 same-length-3 c = search needs
 
 same-length-4 : tie.Need-same-length-4
-same-length-4 c = search needs
+same-length-4 c = c .before .before .before .before .before .before .before .before .zero-tables2 .kept .1 .0 ∙ c .before .before .before .before .before .before .before .before .before .before .before .before .before .before .before .before .before .before .before .before .before .before .before .before .before .before .before .before .before .before .before .before .saturate-case .kept .1 .1 .0
 
 same-length-5 : tie.Need-same-length-5
 same-length-5 c = search needs
@@ -83,10 +91,12 @@ returns-2 c =
     let e = c .before .before .before .before .before .before .before .before .before .before .before .before .before .before .before .before .before .before .before .before .before .before .before .before .before .before .before .before .before .before .before .before .before .before .before .before .before .before .before .before .before .before .before .before in
     let g = c .before .before .before .before .before .before .before .before .before .before .before .before .before .before .before .guide-start in
     let z = c .before .before .before .before .before .before .before .before .zero-tables2 .ensures in
-    left-guided _ (zeros-kept (z .0) (s .kept .1 .1 .1 .0)) (zeros-kept (z .1) (s .kept .1 .1 .0))
-    (zeros-kept (c .before .before .zero-u16 .ensures) (g .kept .1 .1 .1 .1 .1 .1 .1 .1 .1 .0)) (e .pre .0) (e .pre .1)
-    (table-there (s .ensures) (not-false (s .result .fits) (c .before .before .before .before .before .before .before .before .before .before .before .before .before .before .before .before .before .before .before .before .before .before .if1 .left)))
-    (leaves-same (run-tables _ _ _ _ _ _ _ _ _ _) (g .ensures))
+    let there = table-there (s .ensures) (not-false (s .result .fits) (c .before .before .before .before .before .before .before .before .before .before .before .before .before .before .before .before .before .before .before .before .before .before .if1 .left)) in (
+      left-guided _ (zeros-kept (z .0) (s .kept .1 .1 .1 .0)) (zeros-kept (z .1) (s .kept .1 .1 .0))
+          (zeros-kept (c .before .before .zero-u16 .ensures) (g .kept .1 .1 .1 .1 .1 .1 .1 .1 .1 .0)) (e .pre .0) (e .pre .1) there
+          (leaves-same (run-tables _ _ _ _ _ _ _ _ _ _) (g .ensures .0)),
+      won-guided _ _ _ _ _ (e .pre .0) (e .pre .1) there (g .ensures .1),
+    )
 
 pub guide-sound-spec : {M : Type 1} → statement M
 guide-sound-spec =
@@ -97,6 +107,7 @@ guide-sound-spec =
     slice-aggregate-saturate-case-3
     saturate-case-requires
     zero-tables-requires
+    refused-requires
     same-length
     same-length-2
     returns

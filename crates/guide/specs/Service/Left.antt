@@ -1,7 +1,7 @@
 -- What guide leaves in lent memory, in each case.
 -- Assumes nothing.
 use Prim.Native.Nat.{ℕ, _<_}
-use mathlib.Core.Path.{_≡_, refl, ap, sym, _∙_}
+use mathlib.Core.Path.{_≡_, ap, sym, _∙_}
 use mathlib.Core.Option.{none, some}
 use mathlib.Core.List.{List}
 use lib.ListN.{length}
@@ -28,16 +28,17 @@ pub zeros-kept : {n k : ℕ} {l : List ℕ} → l ≡ zeros n → n ≡ k → l 
 zeros-kept e f = e ∙ ap zeros f
 
 module _ (x : GuideInput) {m e c t : List ℕ} (p : m ≡ zeros (x .moves)) (q : e ≡ zeros (x .entries)) (k : c ≡ zeros (x .cells)) where
-  pub left-refused : {n : ℕ} → n ≡ refusedBefore (x .case) (x .start) (x .number) 0 7 → (n ≡ 0 → ⊥) → t ≡ zeros (x .trace)
-      → guideDone (Refused n) m e c t ≡ guideService x
+  pub left-refused : {n : ℕ} {r : Reply} → n ≡ refusedBefore (x .case) (x .start) (x .number) 0 7 → (n ≡ 0 → ⊥) → r ≡ Refused n → t ≡ zeros (x .trace)
+      → guideDone r m e c t ≡ guideService x
   unfolding guideLeft refused
-  left-refused is h z =
-      done-same (ap Refused is) p q k (z ∙ sym (padded-none (x .trace))) ∙ sym (answers-refused x (λ n. h (is ∙ n)))
+  left-refused is h o z =
+      done-same (o ∙ ap Refused is) p q k (z ∙ sym (padded-none (x .trace))) ∙ sym (answers-refused x (λ n. h (is ∙ n)))
 
   module _ (sound : FilesSound (x .case) (x .start)) (there : x .number < length (startsOf (x .start))) where
-    pub left-exceeded : saturated (lentOf (x .case) (x .moves) (x .entries)) ≡ none → t ≡ zeros (x .trace) → guideDone (Refused 9) m e c t ≡ guideService x
+    pub left-exceeded : {r : Reply} → saturated (lentOf (x .case) (x .moves) (x .entries)) ≡ none → r ≡ Refused 9 → t ≡ zeros (x .trace)
+        → guideDone r m e c t ≡ guideService x
     unfolding guideLeft refused guideLent
-    left-exceeded h z = done-same refl p q k (z ∙ sym (padded-none (x .trace))) ∙ sym (answers-exceeded x sound there h)
+    left-exceeded h o z = done-same o p q k (z ∙ sym (padded-none (x .trace))) ∙ sym (answers-exceeded x sound there h)
 
     pub left-guided : {r : Reply} {T : Saturated} → saturated (lentOf (x .case) (x .moves) (x .entries)) ≡ some T → Leaves (guideRun x T) (x .trace) r t
         → guideDone r m e c t ≡ guideService x

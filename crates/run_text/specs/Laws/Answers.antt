@@ -1,18 +1,24 @@
 -- The text by the answer of guide.
 -- Assumes nothing.
-use Prim.Native.Nat.{ℕ, _+_, _*_, _≤_}
-use mathlib.Core.Path.{_≡_, ap, ap₂, sym, subst}
+use Prim.Native.Nat.{ℕ, _+_, _-_, _*_, _≤_}
+use mathlib.Core.Path.{_≡_, ap, ap₂, sym, subst, _∙_}
 use mathlib.Core.List.{List}
 use native.Mathlib.Omega.{arith}
 use Rattle.replies.specs.declared.Reply.{Reply}
 use Rattle.services.specs.Guide.{GuideDone, guideService, cellWords}
 use Rattle.start_file.specs.Checks.{filesOf}
 use Rattle.guided_start.specs.Run.{guideInput}
-use Rattle.guide.specs.Service.{guideDone}
-use Rattle.services.specs.Listing.{roundWon}
+use Rattle.guide.specs.Service.{guideDone, judgedWord}
+use Rattle.services.specs.Listing.{listingJudge, roundWon}
 use Rattle.services.specs.Run.{runGuide, answerText, runText}
 use Rattle.answer_text.specs.Bounds.{Bounded}
 use Rattle.run_text.specs.Laws.Bounds.{guide-bounded}
+
+-- the round of the answer, by judge's word
+pub round-is : (case start : List ℕ) (number : ℕ) {w r : ℕ} → w ≡ judgedWord case start number (1024 * 5) (64 * 2) → r ≡ w - 1
+    → r ≡ roundWon (filesOf case start) number
+unfolding roundWon listingJudge
+round-is case start number is e = e ∙ ap (λ (w : ℕ). w - 1) is
 
 module _ (case start : List ℕ) (number : ℕ) {reply : Reply} {moves entries cells trace : List ℕ}
     (is : guideDone reply moves entries cells trace ≡ guideService (guideInput case start number (1024 * 5) (64 * 2) (4096 * 68) 65536)) where

@@ -1,10 +1,10 @@
--- `listing_text::round_of` meets its contract.
+-- `guided_start::round_of` meets its contract.
 -- Assumes nothing.
 use native.Mathlib.Omega.{arith}
 use Rattle.replies.specs.Numbers.{answerWord}
 use borrow.Author.Needs.{needs}
-use Rattle.listing_text.proofs.round_of.Statement.{statement}
-use Rattle.listing_text.proofs.round_of.Tie as tie
+use Rattle.guided_start.proofs.round_of.Statement.{statement}
+use Rattle.guided_start.proofs.round_of.Tie as tie
 
 enum-told : tie.Need-enum-told
 enum-told c = search needs
