@@ -13,7 +13,7 @@ ghost use Rattle.services.specs.Guide.{guideRun};
 ghost use Rattle.tables.specs.Held.{automatonOf};
 ghost use Rattle.saturation.specs.Held.{saturatedIn};
 ghost use Rattle.guided_walk.specs.Turns.{Leaves};
-ghost use Rattle.sound_files.specs.Starts.{startNumber};
+ghost use Rattle.demands.specs.Reach.{startAt};
 ghost use Rattle.sound_files.specs.Sound.{StartSound};
 ghost use Rattle.guided_start.specs.Tables.{TablesStand};
 ghost use Rattle.guided_start.specs.Run.{guideInput, lentCells, shortAtStart};
@@ -160,7 +160,7 @@ pub fn guide_start(
 ) -> Guided
     requires { ⌜ (caseRefusal (now case) ≡ 0) × StartSound (now start) × TablesStand z (now inner) (now entries) (now moves) k (now sizes) × (number < length (startsOf (now start))) × (now trace ≡ zeros (length (now trace))) ⌝ }
     ensures { λ r. ⌜ Leaves (guideRun (guideInput (now (case .entry)) (now (start .entry)) number (length (now (moves .entry))) (length (now (entries .entry))) (length (now (cells .entry))) (length (now (trace .entry)))) (saturatedIn z (now (inner .entry)) (now (entries .entry)) (now (moves .entry)) k (now (sizes .entry)))) (length (now (trace .entry))) (r .reply) (now (trace .exit)) ⌝ }
-    ensures won { λ r. ⌜ r .won ≡ round2 (saturatedIn z (now (inner .entry)) (now (entries .entry)) (now (moves .entry)) k (now (sizes .entry))) (configurationOf (now (start .entry)) (startNumber (now (start .entry)) number) .stack) (startNumber (now (start .entry)) number .control) ⌝ }
+    ensures won { λ r. ⌜ r .won ≡ round2 (saturatedIn z (now (inner .entry)) (now (entries .entry)) (now (moves .entry)) k (now (sizes .entry))) (configurationOf (now (start .entry)) (startAt (now (start .entry)) number) .stack) (startAt (now (start .entry)) number .control) ⌝ }
 {
     let mut rounds = [0u16; Limits::START_CELLS * Limits::STATES1];
     sound_files::start_rounds(z, inner, entries, moves, sizes, k, start, &mut rounds);

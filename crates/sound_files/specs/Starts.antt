@@ -3,15 +3,11 @@
 pub mod Laws
 use Prim.Native.Nat.{ℕ, _*_, _≤_, _<_}
 use mathlib.Core.List.{List}
-use lib.ListN.{length, getD}
+use lib.ListN.{length}
 use Rattle.replies.specs.declared.Acceptance.{Acceptance}
-use Rattle.files.specs.Start.{Start, startOf, startsOf}
+use Rattle.files.specs.Start.{Start, startOf}
 use Rattle.bytes_in.specs.Records.{recordAt}
 use Rattle.acceptance_words.specs.Rows.{roundIn}
-
--- start n of a start file
-unfoldable pub startNumber : List ℕ → ℕ → Start
-startNumber file n = getD (startsOf file) n (record { control = 0; root = 0 })
 
 -- since when a start is accepted, by these words of the file's cells
 unfoldable pub startRound : List ℕ → Start → Acceptance

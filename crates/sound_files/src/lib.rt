@@ -9,7 +9,8 @@ ghost use Rattle.words.specs.Lists.{zeros};
 ghost use Rattle.saturation.specs.Held.{saturatedIn};
 ghost use Rattle.acceptance.specs.Named.{TablesNamed};
 ghost use Rattle.acceptance.specs.Cells.{RoundsFilled};
-ghost use Rattle.sound_files.specs.Starts.{startNumber, startRound};
+ghost use Rattle.demands.specs.Reach.{startAt};
+ghost use Rattle.sound_files.specs.Starts.{startRound};
 ghost use Rattle.sound_files.specs.Sound.{StartSound};
 ghost use Rattle.sound_files.specs.Refusal.{filesRefusal, refusedBefore};
 use limits::Limits;
@@ -65,7 +66,7 @@ pub fn start_rounds(
 // Since when a start of a sound start file is accepted, by these words of the file's cells.
 pub fn start_accepted(start: &[u8], number: usize, rounds: &[u16]) -> Acceptance
     requires { ⌜ StartSound (now start) × (number < length (startsOf (now start))) × (16384 ≤ length (now rounds)) ⌝ }
-    ensures { λ r. ⌜ r ≡ startRound (now (rounds .entry)) (startNumber (now (start .entry)) number) ⌝ }
+    ensures { λ r. ⌜ r ≡ startRound (now (rounds .entry)) (startAt (now (start .entry)) number) ⌝ }
     ensures small { λ r. ⌜ answerWord r < 65536 ⌝ }
 {
     let x = start_records::start_at(start_file::start_body(start), number);

@@ -19,7 +19,7 @@ use Rattle.services.specs.Memory.Laws.{getD-padded}
 use Rattle.services.specs.Saturate.{saturated}
 use Rattle.services.specs.Judge.{JudgeInput, JudgeDone, judgeFiles, judgeLent, judgeLeft, mark}
 use Rattle.services.specs.Judge.Laws.{JudgeCase, case-refused, start-refused, answers-short, size-exceeded, judged, judge-cases}
-use Rattle.sound_files.specs.Starts.{startNumber}
+use Rattle.demands.specs.Reach.{startAt}
 use Rattle.sound_files.specs.Refusal.{FilesSound, refusedBefore}
 use Rattle.sound_files.specs.Refusal.Laws.{before-below}
 use Rattle.sound_files.specs.Sound.Laws.{starts-few}
@@ -60,7 +60,7 @@ module _ (case start : List ℕ) (number m e : ℕ) where
         ∙ sym (ap (λ (d : JudgeDone). getD (d .answers) number 0) (answers-exceeded x sound (starts-few sound) h) ∙ zero-past 64 [] number (omega arith))
 
     pub won-guided : {T : Saturated} {a : Acceptance} → number < length (startsOf start) → saturated (lentOf case m e) ≡ some T
-        → a ≡ round2 T (configurationOf start (startNumber start number) .stack) (startNumber start number .control)
+        → a ≡ round2 T (configurationOf start (startAt start number) .stack) (startAt start number .control)
         → answerWord a ≡ judgedWord case start number m e
     unfolding judgeLent markOf
     won-guided l h is = ap answerWord is ∙ sym (word-is x sound (starts-few sound) h number l)

@@ -4,7 +4,7 @@ use mathlib.Core.Path.{_∙_}
 use native.Mathlib.Omega.{arith}
 use Rattle.saturation.specs.Held.{saturatedIn}
 use Rattle.acceptance.specs.Cells.Laws.{states-below}
-use Rattle.sound_files.specs.Sound.Rounds.{made-zero, start-number-in, start-since}
+use Rattle.sound_files.specs.Sound.Rounds.{made-zero, start-listed, start-since}
 use borrow.Author.Needs.{needs}
 use Rattle.guided_start.proofs.guide_start.Statement.{statement}
 use Rattle.guided_start.proofs.guide_start.Tie as tie
@@ -50,7 +50,7 @@ returns c =
       c .before .before .before .before .guide-with-rounds .ensures,
       c .before .before .before .before .before .before .before .before .start-accepted .ensures .0
           ∙ start-since (saturatedIn (s .args .z) _ _ _ _ _) (states-below (p .2 .stands)) _ (p .1) (c .before .before .before .before .before .before .before .before .before .before .before .start-rounds .ensures .filled) _
-          (start-number-in _ _ (p .3)),
+          (start-listed _ _ (p .3)),
     )
 
 pub guide-start-spec : {M : Type 1} → statement M

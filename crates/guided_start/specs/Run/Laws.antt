@@ -25,9 +25,10 @@ use Rattle.rounds.specs.Won.Laws.{round2-accepts}
 use Rattle.acceptance.specs.Cells.{RoundsStand}
 use Rattle.acceptance.specs.Cells.Laws.{StatesBelow}
 use Rattle.guided_walk.specs.Turns.{Leaves}
-use Rattle.sound_files.specs.Starts.{startNumber, startRound}
+use Rattle.demands.specs.Reach.{startAt}
+use Rattle.sound_files.specs.Starts.{startRound}
 use Rattle.sound_files.specs.Sound.{StartSound}
-use Rattle.sound_files.specs.Sound.Rounds.{start-read, start-number-in, start-since}
+use Rattle.sound_files.specs.Sound.Rounds.{start-read, start-listed, start-since}
 use Rattle.guided_start.specs.Run.{guideInput, lentCells, shortAtStart}
 
 -- they are in the slice, and at most 4,096
@@ -43,8 +44,8 @@ leaves-same {n = n} {r = r} {trace = trace} e = subst (λ (q : Report). Leaves q
 -- ---- the start
 
 module _ (x : GuideInput) (there : x .number < length (startsOf (x .start))) where
-  same-start : startNumber (x .start) (x .number) ≡ startNamed x
-  unfolding startNumber startNamed
+  same-start : startAt (x .start) (x .number) ≡ startNamed x
+  unfolding startAt startNamed
   same-start = refl
 
   -- the start that was read is the one named
@@ -53,12 +54,12 @@ module _ (x : GuideInput) (there : x .number < length (startsOf (x .start))) whe
 
   -- its answer says whether it is accepted
   pub tested : (T : Saturated) {rounds : List ℕ} {a : Acceptance} {t : Bool} → StatesBelow (T .table) → StartSound (x .start)
-      → RoundsStand T (cellsOf (x .start)) rounds (length (cellsOf (x .start))) → a ≡ startRound rounds (startNumber (x .start) (x .number))
+      → RoundsStand T (cellsOf (x .start)) rounds (length (cellsOf (x .start))) → a ≡ startRound rounds (startAt (x .start) (x .number))
       → t ≡ isWon a → t ≡ accepted (T .table) (x .start) (startNamed x)
   unfolding accepted
   tested T B sound R e is =
       is
-      ∙ ap isWon (e ∙ start-since T B (x .start) sound R (startNumber (x .start) (x .number)) (start-number-in (x .start) (x .number) there))
+      ∙ ap isWon (e ∙ start-since T B (x .start) sound R (startAt (x .start) (x .number)) (start-listed (x .start) (x .number) there))
       ∙ round2-accepts T _ _
       ∙ ap (accepted (T .table) (x .start)) same-start
 

@@ -26,12 +26,12 @@ use Rattle.rounds.specs.Won.{acceptsStack}
 use Rattle.saturation.specs.Held.{saturatedIn}
 use Rattle.acceptance.specs.Cells.Laws.{states-below, cell-won}
 use Rattle.acceptance.specs.Cells.Body.{cellsIn}
-use Rattle.acceptance.specs.Laws.Starts.{cells-body}
 use Rattle.least_choices.specs.Starts.{Prepared, startCells}
 use Rattle.guided_step.specs.declared.Walk.{Walk}
 use Rattle.guided_step.specs.Walks.{walkIn}
 use Rattle.guided_walk.specs.Turns.{RunStands, Leaves}
 use Rattle.sound_files.specs.Sound.Laws.{cells-count, cells-few, cells-lent}
+use Rattle.sound_files.specs.Sound.Rounds.{cells-are}
 use Rattle.guided_start.specs.Tables.{TablesStand}
 use Rattle.guided_start.specs.Tables.Laws.{reading-stands}
 use Rattle.guided_start.specs.Run.Laws.{leaves-same}
@@ -40,9 +40,6 @@ use Rattle.guided_start.specs.Walk.{Ready}
 -- ---- the start's cells
 
 module _ (file : List ℕ) {body : List ℕ} {n : ℕ} (b : body ≡ bodyOf file 1 6) (count : n ≡ countOf file 1) where
-  cells-file : cellsIn n body ≡ cellsOf file
-  cells-file = ap₂ cellsIn count b ∙ cells-body file
-
   pub cells-number : n ≡ length (cellsOf file)
   cells-number = count ∙ sym (cells-count file)
 
@@ -58,11 +55,11 @@ module _ (file : List ℕ) {body : List ℕ} {n : ℕ} (b : body ≡ bodyOf file
         stands = r .tables .stands;
         few = r .tables .few;
         body-lent = cells-lent file (r .start-is .in-place) {words = 256} count b (omega arith) .0;
-        formed = subst Formed (sym cells-file) (r .start-is .formed);
+        formed = subst Formed (sym (cells-are file b count)) (r .start-is .formed);
         rounds-lent = omega arith;
         accepted-in = record {
           won-is = λ i l q. cell-won T (states-below (r .tables .stands)) (cellsOf file) (r .start-rounds .rounds-stand) i (omega arith) q
-              ∙ ap (λ (cells : List Cell). acceptsStack (T .table) (stackAt (stacks cells) i) q) (sym cells-file);
+              ∙ ap (λ (cells : List Cell). acceptsStack (T .table) (stackAt (stacks cells) i) q) (sym (cells-are file b count));
         };
       }
 
@@ -74,7 +71,7 @@ module _ (file : List ℕ) {body : List ℕ} {n : ℕ} (b : body ≡ bodyOf file
       λ i. record {
         control = c i;
         root = r i;
-        cells = (ap (λ (j : ℕ). guidedIn j cells) k ∙ is ∙ ap (startCells A) cells-file) i;
+        cells = (ap (λ (j : ℕ). guidedIn j cells) k ∙ is ∙ ap (startCells A) (cells-are file b count)) i;
       }
 
 -- ---- the case's rules

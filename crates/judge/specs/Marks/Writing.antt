@@ -9,7 +9,8 @@ use Rattle.replies.specs.declared.Acceptance.{Acceptance}
 use Rattle.replies.specs.Numbers.{answerWord}
 use Rattle.walks.specs.Cell.Values.{getD-map-below}
 use Rattle.files.specs.Start.{startsOf}
-use Rattle.sound_files.specs.Starts.{startNumber, startRound}
+use Rattle.demands.specs.Reach.{startAt}
+use Rattle.sound_files.specs.Starts.{startRound}
 use Rattle.judge.specs.WrittenBelow.{WrittenBelow}
 use Rattle.judge.specs.WrittenBelow.Laws.{written-more, written-all}
 use Rattle.judge.specs.Marks.{markBy}
@@ -18,13 +19,13 @@ module _ (rounds file : List ℕ) {n : ℕ} (count : n ≡ length (startsOf file
   length-marks : length (map (markBy rounds) (startsOf file)) ≡ n
   length-marks = length-map (startsOf file) (markBy rounds) ∙ sym count
 
-  mark-at : {i v : ℕ} {a : Acceptance} → i < n → a ≡ startRound rounds (startNumber file i) → v ≡ answerWord a
+  mark-at : {i v : ℕ} {a : Acceptance} → i < n → a ≡ startRound rounds (startAt file i) → v ≡ answerWord a
       → v ≡ getD (map (markBy rounds) (startsOf file)) i 0
-  unfolding markBy startNumber
+  unfolding markBy startAt
   mark-at {i} l e f = f ∙ ap answerWord e ∙ sym (getD-map-below (markBy rounds) (startsOf file) i _ 0 (omega arith))
 
   pub marks-more : {w₀ w w′ : List ℕ} {i v : ℕ} {a : Acceptance} → WrittenBelow (map (markBy rounds) (startsOf file)) w₀ w i → i < n → n ≤ length w₀
-      → a ≡ startRound rounds (startNumber file i) → v ≡ answerWord a → w′ ≡ set w i v
+      → a ≡ startRound rounds (startAt file i) → v ≡ answerWord a → w′ ≡ set w i v
       → WrittenBelow (map (markBy rounds) (startsOf file)) w₀ w′ (i + 1)
   marks-more h l b e f g =
       let len = length-marks in

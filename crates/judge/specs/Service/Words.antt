@@ -12,7 +12,7 @@ use Rattle.services.specs.Memory.Laws.{getD-padded}
 use Rattle.services.specs.Saturate.{saturated}
 use Rattle.services.specs.Judge.{JudgeInput, JudgeDone, judgeLent, judgeLeft, judgeService}
 use Rattle.sound_files.specs.Refusal.{FilesSound}
-use Rattle.sound_files.specs.Starts.{startNumber}
+use Rattle.demands.specs.Reach.{startAt}
 use Rattle.judge.specs.Marks.{markOf}
 use Rattle.judge.specs.Marks.Laws.{marks-judged}
 use Rattle.judge.specs.Service.Cases.{answers-judged}
@@ -20,8 +20,8 @@ use Rattle.judge.specs.Service.Cases.{answers-judged}
 module _ (x : JudgeInput) (sound : FilesSound (x .case) (x .start)) (lent : length (startsOf (x .start)) ≤ x .answers) {T : Saturated}
     (is : saturated (judgeLent x) ≡ some T) where
   -- by the recursion on the start's stack
-  pub word-is : (n : ℕ) → n < length (startsOf (x .start)) → getD (judgeService x .answers) n 0 ≡ markOf T (x .start) (startNumber (x .start) n)
-  unfolding judgeLeft startNumber judgeLent
+  pub word-is : (n : ℕ) → n < length (startsOf (x .start)) → getD (judgeService x .answers) n 0 ≡ markOf T (x .start) (startAt (x .start) n)
+  unfolding judgeLeft startAt judgeLent
   word-is n l =
       ap (λ (d : JudgeDone). getD (d .answers) n 0) (answers-judged x sound lent is)
       ∙ getD-padded (x .answers) _ n

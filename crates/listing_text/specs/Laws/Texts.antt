@@ -26,9 +26,10 @@ use Rattle.start_file.specs.Checks.{filesOf}
 use Rattle.saturate.specs.Service.Laws.{done-filled}
 use Rattle.text.specs.Laws.Lines.{startLine-is}
 use Rattle.acceptance.specs.Cells.Laws.{states-below}
-use Rattle.sound_files.specs.Starts.{startNumber, startRound}
+use Rattle.demands.specs.Reach.{startAt}
+use Rattle.sound_files.specs.Starts.{startRound}
 use Rattle.sound_files.specs.Sound.Laws.{start-sound, starts-few}
-use Rattle.sound_files.specs.Sound.Rounds.{start-number-in, start-since}
+use Rattle.sound_files.specs.Sound.Rounds.{start-listed, start-since}
 use Rattle.sound_files.specs.Refusal.{FilesSound, filesRefusal, refusedBefore}
 use Rattle.sound_files.specs.Refusal.Laws.{by-files}
 use Rattle.sound_files.specs.Saturated.{lentOf}
@@ -88,14 +89,14 @@ module _ (case start : List ℕ) where
 
     -- the round of a start, by the words of the cells
     pub round-won : {rounds : List ℕ} {n r : ℕ} {a : Acceptance} → StartRounds z inner entries moves k sizes start rounds → n < length (startsOf start)
-        → a ≡ startRound rounds (startNumber start n) → r ≡ answerWord a - 1 → r ≡ roundWon files n
+        → a ≡ startRound rounds (startAt start n) → r ≡ answerWord a - 1 → r ≡ roundWon files n
     unfolding roundWon listingJudge judgeLent markOf
     round-won {n = n} R l e f =
         f
         ∙ ap (λ (b : Acceptance). answerWord b - 1)
         (e
-        ∙ start-since T (states-below (prepared .tables .stands)) start (start-sound (prepared .sound)) (R .rounds-stand) (startNumber start n)
-        (start-number-in start n l))
+        ∙ start-since T (states-below (prepared .tables .stands)) start (start-sound (prepared .sound)) (R .rounds-stand) (startAt start n)
+        (start-listed start n l))
         ∙ ap (λ (w : ℕ). w - 1) (sym (word-is (listingJudge files) (prepared .sound) (starts-few (prepared .sound)) (prepared .table-is) n l))
 
     -- the line of a start is that of the reply of its run, whatever the lengths m and e of the tables

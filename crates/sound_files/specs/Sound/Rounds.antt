@@ -20,12 +20,14 @@ use Rattle.acceptance.specs.Cells.{RoundsStand, RoundsFilled}
 use Rattle.acceptance.specs.Cells.Body.{cellsIn}
 use Rattle.acceptance.specs.Cells.Laws.{StatesBelow}
 use Rattle.acceptance.specs.Laws.Starts.{cells-body, start-round}
-use Rattle.sound_files.specs.Starts.{startNumber, startRound}
+use Rattle.demands.specs.Reach.{startAt}
+use Rattle.sound_files.specs.Starts.{startRound}
 use Rattle.sound_files.specs.Sound.{StartSound}
 use Rattle.sound_files.specs.Sound.Laws.{starts-count, cells-count, start-at}
 
+-- the cells of the file are those of its second body, as they are read
 module _ (file : List ℕ) {body : List ℕ} {n : ℕ} (b : body ≡ bodyOf file 1 6) (count : n ≡ countOf file 1) where
-  cells-are : cellsIn n body ≡ cellsOf file
+  pub cells-are : cellsIn n body ≡ cellsOf file
   cells-are = ap₂ cellsIn count b ∙ cells-body file
 
   -- the cells as they are read refer to lower ones
@@ -46,21 +48,21 @@ made-zero n = ap zeros (sym (length-replicate n 0))
 
 -- a start that is read is the one of this number
 pub start-read : (file : List ℕ) (i : ℕ) {body : List ℕ} {x : Start} → i < length (startsOf file) → body ≡ bodyOf file 0 3 → x ≡ startOf (recordAt 3 i body)
-    → x ≡ startNumber file i
-unfolding startNumber
+    → x ≡ startAt file i
+unfolding startAt
 start-read file i l b e =
     let n : length (startsOf file) ≡ countOf file 0 = starts-count file in
     e ∙ ap (λ (r : List ℕ). startOf (recordAt 3 i r)) b ∙ sym (start-at file i _ (omega arith))
 
 -- its answer
 pub start-answers : (file : List ℕ) (i : ℕ) (rounds : List ℕ) {body : List ℕ} {x : Start} {a : Acceptance} → i < length (startsOf file) → body ≡ bodyOf file 0 3
-    → x ≡ startOf (recordAt 3 i body) → a ≡ roundIn rounds (x .root) (x .control) → a ≡ startRound rounds (startNumber file i)
+    → x ≡ startOf (recordAt 3 i body) → a ≡ roundIn rounds (x .root) (x .control) → a ≡ startRound rounds (startAt file i)
 unfolding startRound
 start-answers file i rounds l b e f = f ∙ ap (λ (y : Start). roundIn rounds (y .root) (y .control)) (start-read file i l b e)
 
-pub start-number-in : (file : List ℕ) (i : ℕ) → i < length (startsOf file) → List·Memᴰ (startNumber file i) (startsOf file)
-unfolding startNumber
-start-number-in file i l = getD-in (startsOf file) i _ l
+pub start-listed : (file : List ℕ) (i : ℕ) → i < length (startsOf file) → List·Memᴰ (startAt file i) (startsOf file)
+unfolding startAt
+start-listed file i l = getD-in (startsOf file) i _ l
 
 -- the words say since when a start's stack is accepted from its control
 pub start-since : (T : Saturated) → StatesBelow (T .table) → (file : List ℕ) → StartSound file → {rounds : List ℕ}
