@@ -29,7 +29,7 @@ cells-lent-requires : tie.Need-cells-lent-requires
 cells-lent-requires c κs = search needs
 
 count-of-requires : tie.Need-count-of-requires
-count-of-requires c κs = start-long _ (c .before .before .before .before .before .before .before .before .before .before .before .before .before .pre .1 .in-place)
+count-of-requires c κs = let l = start-long _ (c .before .before .before .before .before .before .before .before .before .before .before .before .before .pre .1 .in-place) in omega arith
 
 short-at-start-requires : tie.Need-short-at-start-requires
 short-at-start-requires c κs = search needs
