@@ -1,7 +1,7 @@
 /*
  * The script analyser for the bench host: target/staticlib/libexports.a, which
- * `rt staticlib exports` writes. Documents 01 and 02 (request 1) say what the
- * three services do; this page says the same for a caller in C. crates/exports
+ * `rt staticlib exports` writes. Documents 01 and 02 (requests 1 and 2) say what
+ * the four services do; this page says the same for a caller in C. crates/exports
  * proves each call equal to its definition; what this page says of numbers, words,
  * rounds and runs are the theorems of crates/demands about these definitions
  * (docs/PROMISES.md).
@@ -14,11 +14,12 @@
  * pointer or allocates, as the language has neither, and each returns, as the
  * checker asks of every loop and recursion.
  *
- * A call runs on the caller's stack and takes 1.29 MB of it, the listing 1.40 MB.
- * This is measured (host/stack.c) and not proved: call from a thread that has 2 MB.
+ * A call runs on the caller's stack and takes up to 1.29 MB of it, the listing 1.40
+ * MB. This is measured (host/stack.c) and not proved: call from a thread that has
+ * 2 MB.
  *
- * What is lent. Lengths count elements, not bytes. Only whole records count; the
- * words after the last whole record are written too, with zero.
+ * What is lent. Lengths count elements, not bytes. Only whole records count; what
+ * is lent after the last whole record is written too, with zero.
  *
  *   moves    5 words a move: order-1 state, symbol, annotation order, annotation
  *            set, rest set. A saturated table with more than 1,024 moves is
@@ -26,15 +27,17 @@
  *   entries  2 words an entry: control, set of order-2 states. A table with more
  *            than 64 order-1 states is refused with 9; every other fits 128 words.
  *   answers  a word of 16 bits a start. At most 64 starts.
- *   cells    68 words of 16 bits a cell, of which at most 4,096 cells count.
- *   trace    a word of 16 bits a step.
+ *   cells    for guide 68 words of 16 bits a cell, for replay 6 bytes a cell. At
+ *            most 4,096 cells count.
+ *   trace    for guide a word of 16 bits a step.
  *
- * A set is a word with bit n for state n. A missing file is one of length 0.
+ * Files, and the trace that replay reads, are only read. A set is a word with bit n
+ * for state n. A missing file is one of length 0.
  *
  * A refusal is a number from 1 to 255 (ANALYSER_REFUSALS says what each means);
  * no other answer is. The first of a service's numbers that applies, in rising
- * order, is returned. After a refusal every lent word is zero, and so is every
- * count.
+ * order, is returned. After a refusal every lent word and byte is zero, and so are
+ * the counts and the step.
  */
 #ifndef ANALYSER_H
 #define ANALYSER_H
@@ -46,16 +49,18 @@
 extern "C" {
 #endif
 
-/* Words of a move and of an entry, 16-bit words of a cell. */
+/* Words of a move and of an entry, 16-bit words of a cell of guide, bytes of a
+   cell of replay. */
 #define ANALYSER_MOVE_WORDS 5
 #define ANALYSER_ENTRY_WORDS 2
 #define ANALYSER_CELL_WORDS 68
+#define ANALYSER_REPLAY_CELL_BYTES 6
 
 /* Bytes of a listing. */
 #define ANALYSER_LISTING_BYTES 4280
 
-/* Document 01's sentence for each refusal; 8 counts words, as document 02 asks:
-   REFUSAL(number, sentence). */
+/* The documents' sentence for each refusal; 8 counts words, and 7 is for replay
+   too, as document 02 asks: REFUSAL(number, sentence). */
 #define ANALYSER_REFUSALS(REFUSAL) \
     REFUSAL(1, "the case's first byte, contents table, a count or the length is wrong") \
     REFUSAL(2, "a field of case body 1 is out of range") \
@@ -63,15 +68,21 @@ extern "C" {
     REFUSAL(4, "edges or moves are not strictly increasing") \
     REFUSAL(5, "the start file's first byte, contents table, a count or the length is wrong") \
     REFUSAL(6, "a start or cell is out of range, refers to a cell of the wrong order, or fills an unused field") \
-    REFUSAL(7, "guide: the start named is not in the file") \
+    REFUSAL(7, "guide, replay: the start named is not in the file") \
     REFUSAL(8, "judge: fewer answer words than starts") \
-    REFUSAL(9, "the saturated table has more moves than lent or than 1,024, more entries than lent, or more than 64 order-1 states")
+    REFUSAL(9, "the saturated table has more moves than lent or than 1,024, more entries than lent, or more than 64 order-1 states") \
+    REFUSAL(10, "the trace has an odd number of bytes") \
+    REFUSAL(11, "the replay needs more cells than lent or than 4,096")
 
 /* Answers of the guide that are no refusals. */
 #define ANALYSER_ARRIVED 0
 #define ANALYSER_TRACE_FULL 256
 #define ANALYSER_CELLS_SHORT 257
 #define ANALYSER_NO_RUN 258
+
+/* Answers of replay that are no refusals. */
+#define ANALYSER_ACCEPTED 0
+#define ANALYSER_FAILS 260
 
 /*
  * Saturate: computes the saturated table of a case.
@@ -137,6 +148,41 @@ uint64_t analyser_guide(
     uint16_t *cells, size_t cells_length,
     uint16_t *trace, size_t trace_length,
     uint64_t *steps, uint64_t *cells_used);
+
+/*
+ * Replay: says whether recorded rules lead from one start into the target,
+ * whoever recorded them. trace holds rule numbers of two bytes each, low byte
+ * first.
+ *
+ * Returns the refusal 1 to 7, 10 or 11, or one of these:
+ *
+ *   ANALYSER_ACCEPTED  the trace is a run: its rules exist, apply one after
+ *                      another, and lead into the target
+ *   ANALYSER_FAILS     it is none. *step is the first step, counted from 0, whose
+ *                      rule does not exist or does not apply, or the number of
+ *                      rule numbers in the trace if only the end of the run is
+ *                      not in the target
+ *
+ * After every other answer *step is 0. cells is working memory, zero after every
+ * call.
+ *
+ * The start file's cells are needed before the first step, and each step needs the
+ * new cells that document 01 lists for its operation. 11 means that the start
+ * file's cells, or those used and the new ones of a step whose rule exists and
+ * applies, are more than lent or than 4,096. The steps are taken in order: the
+ * first one that fails, or that needs more cells than there are, decides.
+ *
+ * A trace is accepted exactly if it is a run of the case's rules from the start
+ * that ends in the target, and its cells suffice. The trace of a guide that arrived
+ * is accepted if at least as many cells are lent as the guide says it used.
+ */
+uint64_t analyser_replay(
+    const uint8_t *case_file, size_t case_length,
+    const uint8_t *start_file, size_t start_length,
+    uint64_t number,
+    const uint8_t *trace, size_t trace_length,
+    uint8_t *cells, size_t cells_length,
+    uint64_t *step);
 
 /*
  * Listing: the text that the printing program prints for two files, with the

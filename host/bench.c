@@ -1,6 +1,8 @@
 /*
  * A small bench host: reads a case file and a start file, saturates, judges, and
- * guides from each start that is marked yes. Prints what it gets.
+ * guides from each start that is marked yes. A run that arrived is replayed, as the
+ * guide wrote it and with a rule number behind it that no case has. Prints what it
+ * gets.
  *
  * usage: bench CASE START
  *
@@ -36,6 +38,10 @@ static uint64_t entries[ENTRIES * ANALYSER_ENTRY_WORDS];
 static uint16_t answers[STARTS];
 static uint16_t cells[CELLS * ANALYSER_CELL_WORDS];
 static uint16_t trace[STEPS];
+static uint8_t replay_cells[CELLS * ANALYSER_REPLAY_CELL_BYTES];
+
+/* What the guide wrote, as bytes, with room for one more rule number. */
+static uint8_t recorded[2 * (STEPS + 1)];
 
 static void read_file(const char *path, struct file *into)
 {
@@ -135,6 +141,37 @@ static uint64_t judge(void)
     return answer;
 }
 
+/* Replays the first rule numbers of what is recorded, with as many cells as the
+   guide used. */
+static void replay(const char *what, uint64_t number, size_t rules, uint64_t cells_used)
+{
+    uint64_t step;
+    uint64_t answer = analyser_replay(
+        case_file.bytes, case_file.length,
+        start_file.bytes, start_file.length,
+        number,
+        recorded, 2 * rules,
+        replay_cells, cells_used * ANALYSER_REPLAY_CELL_BYTES,
+        &step);
+    switch (answer) {
+    case ANALYSER_ACCEPTED: printf("%s: accepted\n", what); break;
+    case ANALYSER_FAILS: printf("%s: fails at step %" PRIu64 "\n", what, step); break;
+    default: printf("%s: %s\n", what, words_for(answer));
+    }
+}
+
+/* Replays the run that the guide wrote, and a damaged copy of it. */
+static void replay_run(uint64_t number, size_t steps, uint64_t cells_used)
+{
+    for (size_t i = 0; i < steps; i++) {
+        recorded[2 * i] = trace[i] & 255;
+        recorded[2 * i + 1] = trace[i] >> 8;
+    }
+    recorded[2 * steps] = recorded[2 * steps + 1] = 255;
+    replay("replay", number, steps, cells_used);
+    replay("replay with rule 65535 behind it", number, steps + 1, cells_used);
+}
+
 static void guide(uint64_t number)
 {
     uint64_t steps, cells_used;
@@ -153,6 +190,9 @@ static void guide(uint64_t number)
         printf(" %u", (unsigned)trace[i]);
     }
     printf("\n");
+    if (answer == ANALYSER_ARRIVED) {
+        replay_run(number, steps, cells_used);
+    }
 }
 
 /* The number of starts of a start file that judge has not refused. */

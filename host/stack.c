@@ -43,6 +43,10 @@ static uint64_t moves[MOVES_LENGTH], entries[ENTRIES_LENGTH];
 static uint8_t text[ANALYSER_LISTING_BYTES];
 static uint16_t answers[STARTS], cells[CELLS_LENGTH], trace[STEPS];
 
+/* The longest trace that the guide wrote, as bytes. */
+static uint8_t recorded[2 * STEPS], replay_cells[4096 * ANALYSER_REPLAY_CELL_BYTES];
+static size_t recorded_length;
+
 static void saturate(void)
 {
     uint64_t moves_used, entries_used;
@@ -56,13 +60,36 @@ static void judge(void)
                    entries, ENTRIES_LENGTH, answers, STARTS);
 }
 
+static void record(size_t steps)
+{
+    recorded_length = 2 * steps;
+    for (size_t i = 0; i < steps; i++) {
+        recorded[2 * i] = trace[i] & 255;
+        recorded[2 * i + 1] = trace[i] >> 8;
+    }
+}
+
 static void guide(void)
 {
     uint64_t steps, cells_used;
+    recorded_length = 0;
     for (uint64_t number = 0; number < STARTS; number++) {
         analyser_guide(case_file, case_length, start_file, start_length, number, moves,
                        MOVES_LENGTH, entries, ENTRIES_LENGTH, cells, CELLS_LENGTH, trace,
                        STEPS, &steps, &cells_used);
+        if (2 * steps > recorded_length) {
+            record(steps);
+        }
+    }
+}
+
+/* The guide's longest trace from every start; from its own it is a run. */
+static void replay(void)
+{
+    uint64_t step;
+    for (uint64_t number = 0; number < STARTS; number++) {
+        analyser_replay(case_file, case_length, start_file, start_length, number, recorded,
+                        recorded_length, replay_cells, sizeof replay_cells, &step);
     }
 }
 
@@ -76,7 +103,8 @@ static struct measured {
     void (*call)(void);
     size_t most;
 } measured[] = {
-    {"saturate", saturate, 0}, {"judge", judge, 0}, {"guide", guide, 0}, {"listing", listing, 0},
+    {"saturate", saturate, 0}, {"judge", judge, 0},     {"guide", guide, 0},
+    {"replay", replay, 0},     {"listing", listing, 0},
 };
 
 #define FUNCTIONS (sizeof measured / sizeof measured[0])

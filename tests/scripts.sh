@@ -100,7 +100,7 @@ guided_runs() {
     is_silent
     gives 0 $'start 2 no\n' ./guide "$model/case.bin" "$model/start.bin" 2
     gives 3 $'refused 7\n' ./guide "$model/case.bin" "$model/start.bin" 3
-    says "guide: the start named is not in the file"
+    says "guide, replay: the start named is not in the file"
     gives 3 $'refused 7\n' ./guide "$model/case.bin" "$model/start.bin" 18446744073709551616
     is_clear
 }

@@ -9,6 +9,7 @@ use crate::data::hex;
 use crate::lent::Lent;
 use crate::proved;
 use crate::random::Random;
+use crate::replay::{REPLAY_CELL_BYTES, ReplayReply};
 use crate::services::GuideReply;
 
 /// Words on both sides of a lent slice that must stay as they are.
@@ -57,6 +58,11 @@ impl Both {
         Both { lent, random }
     }
 
+    /// Lends so many cells to replay.
+    pub fn lend_to_replay(&mut self, cells: usize) {
+        self.lent.replay_cells.resize(cells * REPLAY_CELL_BYTES, 0);
+    }
+
     fn words(&mut self, length: usize) -> Rubbish<u64> {
         Rubbish::new(length, || self.random.word())
     }
@@ -65,19 +71,18 @@ impl Both {
         Rubbish::new(length, || self.random.word() as u16)
     }
 
+    fn bytes(&mut self, length: usize) -> Rubbish<u8> {
+        Rubbish::new(length, || self.random.word() as u8)
+    }
+
     pub fn saturate(&mut self, case: &[u8]) -> (u64, u64, u64) {
         let second = self.lent.saturate(case);
         let mut moves = self.words(self.lent.moves.len());
         let mut entries = self.words(self.lent.entries.len());
         let proved = proved::saturate(case, moves.lent(), entries.lent());
         let tables = self.tables_agree(&moves, &entries);
-        self.answer(
-            "saturate",
-            second,
-            proved,
-            &[("tables", tables)],
-            (case, &[]),
-        )
+        let service = || "saturate".to_string();
+        self.answer(service, second, proved, &[("tables", tables)], (case, &[]))
     }
 
     pub fn judge(&mut self, case: &[u8], start: &[u8]) -> u64 {
@@ -90,7 +95,8 @@ impl Both {
             ("tables", self.tables_agree(&moves, &entries)),
             ("answers", answers.holds(&self.lent.answers)),
         ];
-        self.answer("judge", second, proved, &agree, (case, start))
+        let service = || "judge".to_string();
+        self.answer(service, second, proved, &agree, (case, start))
     }
 
     pub fn guide(&mut self, case: &[u8], start: &[u8], number: u64) -> GuideReply {
@@ -113,13 +119,17 @@ impl Both {
             ("cells", cells.holds(&self.lent.cells)),
             ("trace", trace.holds(&self.lent.trace)),
         ];
-        self.answer(
-            &format!("guide {number}"),
-            second,
-            proved,
-            &agree,
-            (case, start),
-        )
+        let service = || format!("guide {number}");
+        self.answer(service, second, proved, &agree, (case, start))
+    }
+
+    pub fn replay(&mut self, case: &[u8], start: &[u8], number: u64, trace: &[u8]) -> ReplayReply {
+        let second = self.lent.replay(case, start, number, trace);
+        let mut cells = self.bytes(self.lent.replay_cells.len());
+        let proved = proved::replay(case, start, number, trace, cells.lent());
+        let agree = [("cells", cells.holds(&self.lent.replay_cells))];
+        let service = || format!("replay {number} of {}", hex(trace));
+        self.answer(service, second, proved, &agree, (case, start))
     }
 
     fn tables_agree(&self, moves: &Rubbish<u64>, entries: &Rubbish<u64>) -> bool {
@@ -129,7 +139,7 @@ impl Both {
     /// The answer, if both gave it and all memory agrees.
     fn answer<T: PartialEq + Debug>(
         &self,
-        service: &str,
+        service: impl FnOnce() -> String,
         second: T,
         proved: T,
         agree: &[(&str, bool)],
@@ -147,6 +157,7 @@ impl Both {
                 answers,
                 cells,
                 trace,
+                replay_cells,
             } = &self.lent;
             let lengths = [
                 moves.len(),
@@ -154,11 +165,13 @@ impl Both {
                 answers.len(),
                 cells.len(),
                 trace.len(),
+                replay_cells.len(),
             ];
             panic!(
-                "{service}: second {second:?}, proved {proved:?}, memory that differs {others:?}\n\
-                 words of moves, entries, answers, cells, trace: {lengths:?}\n\
+                "{}: second {second:?}, proved {proved:?}, memory that differs {others:?}\n\
+                 lengths of moves, entries, answers, cells, trace, cells of replay: {lengths:?}\n\
                  case {}\nstart {}",
+                service(),
                 hex(case),
                 hex(start),
             );

@@ -7,7 +7,7 @@
 
 use crate::sets::{Set, is_part, range};
 
-/// A refusal number of document 01.
+/// A refusal number of document 01 or 02.
 pub type Refusal = u64;
 
 /// "At most 64 order-1 states": the inner ones and the entries together.

@@ -1,10 +1,12 @@
 //! Memory lent to the services in tests. It holds words that are not zero
 //! before each call, so that a word left as it was is noticed.
 
+use crate::replay::{REPLAY_CELL_BYTES, ReplayReply, replay};
 use crate::services::{
     CELL_WORDS, ENTRY_WORDS, GuideReply, LISTING_CELLS, LISTING_ENTRIES, LISTING_MOVES,
     LISTING_TRACE, MOVE_WORDS, guide, judge, round_of_answer, saturate,
 };
+use crate::traces::recorded;
 
 /// The lent slices.
 #[derive(Clone, Debug, PartialEq, Eq)]
@@ -14,6 +16,7 @@ pub struct Lent {
     pub answers: Vec<u16>,
     pub cells: Vec<u16>,
     pub trace: Vec<u16>,
+    pub replay_cells: Vec<u8>,
 }
 
 impl Lent {
@@ -23,7 +26,8 @@ impl Lent {
         Lent::new(LISTING_MOVES, LISTING_ENTRIES, LISTING_CELLS, LISTING_TRACE)
     }
 
-    /// The given numbers of moves, entries, cells and trace words.
+    /// The given numbers of moves, entries, cells and trace words; as many cells
+    /// for replay as for guide.
     pub fn new(moves: usize, entries: usize, cells: usize, trace: usize) -> Lent {
         Lent {
             moves: vec![0; moves * MOVE_WORDS],
@@ -31,16 +35,18 @@ impl Lent {
             answers: vec![0; 64],
             cells: vec![0; cells * CELL_WORDS],
             trace: vec![0; trace],
+            replay_cells: vec![0; cells * REPLAY_CELL_BYTES],
         }
     }
 
-    /// Puts words other than zero everywhere.
+    /// Puts words and bytes other than zero everywhere.
     fn fill(&mut self) {
         self.moves.fill(u64::MAX);
         self.entries.fill(u64::MAX);
         self.answers.fill(u16::MAX);
         self.cells.fill(u16::MAX);
         self.trace.fill(u16::MAX);
+        self.replay_cells.fill(u8::MAX);
     }
 
     pub fn saturate(&mut self, case: &[u8]) -> (u64, u64, u64) {
@@ -72,6 +78,11 @@ impl Lent {
         )
     }
 
+    pub fn replay(&mut self, case: &[u8], start: &[u8], number: u64, trace: &[u8]) -> ReplayReply {
+        self.fill();
+        replay(case, start, number, trace, &mut self.replay_cells)
+    }
+
     /// The rounds that judge's words of the first starts name; the words after
     /// them must be zero.
     pub fn rounds(&self, starts: usize) -> Vec<Option<usize>> {
@@ -91,7 +102,12 @@ impl Lent {
         self.answers.iter().all(|&answer| answer == 0)
     }
 
-    /// Whether the lent cells are zero.
+    /// Whether the cells lent to replay are zero.
+    pub fn replay_cells_are_zero(&self) -> bool {
+        self.replay_cells.iter().all(|&byte| byte == 0)
+    }
+
+    /// Whether the cells lent to guide are zero.
     pub fn cells_are_zero(&self) -> bool {
         self.cells.iter().all(|&word| word == 0)
     }
@@ -100,4 +116,24 @@ impl Lent {
     pub fn trace_is_zero_from(&self, from: usize) -> bool {
         self.trace[from..].iter().all(|&word| word == 0)
     }
+}
+
+/// Replay's answer to rule numbers with so many cells, which must be zero after.
+pub fn replayed(files: (&[u8], &[u8]), number: u64, trace: &[u16], cells: usize) -> ReplayReply {
+    let bytes = cells * REPLAY_CELL_BYTES;
+    replayed_bytes(files, number, &recorded(trace), bytes)
+}
+
+/// Replay's answer to the bytes of a trace with so many bytes of cells.
+pub fn replayed_bytes(
+    (case, start): (&[u8], &[u8]),
+    number: u64,
+    trace: &[u8],
+    bytes: usize,
+) -> ReplayReply {
+    let mut lent = Lent::new(0, 0, 0, 0);
+    lent.replay_cells.resize(bytes, 0);
+    let reply = lent.replay(case, start, number, trace);
+    assert!(lent.replay_cells_are_zero(), "the cells lent to replay");
+    reply
 }

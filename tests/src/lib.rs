@@ -1,6 +1,6 @@
 //! A second implementation of the three services and the listing of document
-//! 01, as document 02 changes them, written from their sentences alone and meant
-//! for comparison in tests.
+//! 01, as document 02 changes them, and of the replay that it adds, written from
+//! their sentences alone and meant for comparison in tests.
 //!
 //! Speed is no aim here. Each module names the section of document 01 that it
 //! follows; quoted sentences in comments are from there.
@@ -12,6 +12,7 @@ pub mod automaton;
 pub mod compare;
 pub mod damage;
 pub mod data;
+pub mod deep;
 pub mod derivation;
 pub mod encode;
 pub mod file;
@@ -24,6 +25,7 @@ pub mod pairs;
 pub mod plant;
 pub mod proved;
 pub mod random;
+pub mod replay;
 pub mod requests;
 pub mod saturation;
 pub mod search;
@@ -32,4 +34,5 @@ pub mod sets;
 pub mod stack;
 pub mod start_file;
 pub mod table;
+pub mod traces;
 pub mod won;

@@ -1,12 +1,16 @@
 //! Generated pairs of files with what tests ask of them: runs replayed on
-//! nested stacks, cells counted, the guide's answer by document 01's sentence.
+//! nested stacks, cells counted, the guide's answer by document 01's sentence,
+//! replay's by document 02's.
 
 use crate::automaton::accepts;
 use crate::generate::{LATE, Pair, SHAPES, Shape, pair};
+use crate::lent::Lent;
 use crate::random::seeds;
+use crate::replay::{ReplayReply, Run};
 use crate::search::{Bounds, Outcome, search};
 use crate::services::GuideReply::{self, Arrived, CellsShort, TraceFull};
-use crate::stack::{Configuration, configuration, new_cells, replay};
+use crate::services::MOST_CELLS;
+use crate::stack::{Configuration, after_rules, configuration, new_cells};
 use crate::table::Table;
 
 /// The generated pairs of all shapes, with what names them in a failure.
@@ -37,7 +41,7 @@ impl Pair {
 
     /// The end of the run that the trace is from the start, each rule applying.
     pub fn end_of_run(&self, number: usize, trace: &[u16], name: &str) -> Configuration {
-        replay(&self.case.rules, self.configuration(number), trace)
+        after_rules(&self.case.rules, self.configuration(number), trace)
             .unwrap_or_else(|| panic!("{name} start {number}: a rule does not apply"))
     }
 
@@ -83,6 +87,44 @@ impl Pair {
             }
         }
         unreachable!("the run is finite")
+    }
+
+    /// The run without steps from a start.
+    pub fn run(&self, number: usize) -> Run {
+        Run::new(&self.start, &self.start.starts[number])
+    }
+
+    /// What the guide writes for a start, if it arrives with the memory lent.
+    pub fn guided(&self, lent: &mut Lent, number: usize) -> Option<Vec<u16>> {
+        let reply = lent.guide(&self.case_file, &self.start_file, number as u64);
+        let arrived = matches!(reply, Arrived { .. });
+        arrived.then(|| lent.trace[..reply.steps()].to_vec())
+    }
+
+    /// The steps of the longest run from a start that the trace begins with.
+    pub fn longest_run(&self, number: usize, trace: &[u16]) -> usize {
+        let rules = &self.case.rules;
+        let is_run =
+            |m: usize| after_rules(rules, self.configuration(number), &trace[..m]).is_some();
+        let steps: Vec<usize> = (1..=trace.len()).collect();
+        steps.partition_point(|&m| is_run(m))
+    }
+
+    /// What replay must answer with `c` cells: 11 if the longest run that the
+    /// trace begins with takes more cells than count; otherwise that run's steps
+    /// if it is not the whole trace or does not end in the target.
+    pub fn expected_replay(&self, number: usize, trace: &[u16], c: usize) -> ReplayReply {
+        let steps = self.longest_run(number, trace);
+        let run = &trace[..steps];
+        if self.cells_after(run) > c.min(MOST_CELLS) {
+            return ReplayReply::Refused(11);
+        }
+        let end = self.end_of_run(number, run, "the longest run");
+        if steps == trace.len() && accepts(Table::new(&self.case).whole(), &end) {
+            return ReplayReply::Accepted;
+        }
+        let step = steps as u64;
+        ReplayReply::Fails { step }
     }
 }
 

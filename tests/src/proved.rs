@@ -2,6 +2,7 @@
 //! signatures as the second implementation. `host/analyser.h` says what its
 //! functions promise.
 
+use crate::replay::ReplayReply;
 use crate::services::GuideReply;
 
 // A slice of the proved library is a pointer and a length here, as in C.
@@ -46,6 +47,19 @@ unsafe extern "C" {
         trace_length: usize,
         steps: *mut u64,
         cells_used: *mut u64,
+    ) -> u64;
+
+    fn analyser_replay(
+        case: *const u8,
+        case_length: usize,
+        start: *const u8,
+        start_length: usize,
+        number: u64,
+        trace: *const u8,
+        trace_length: usize,
+        cells: *mut u8,
+        cells_length: usize,
+        step: *mut u64,
     ) -> u64;
 
     fn analyser_listing(
@@ -171,5 +185,40 @@ fn reply(number: u64, steps: u64, cells: u64) -> GuideReply {
                 _ => panic!("guide answers {number}"),
             }
         }
+    }
+}
+
+/// As `replay::replay`.
+pub fn replay(
+    case: &[u8],
+    start: &[u8],
+    number: u64,
+    trace: &[u8],
+    cells: &mut [u8],
+) -> ReplayReply {
+    let mut step = u64::MAX;
+    // Safety: as above.
+    let answer = unsafe {
+        analyser_replay(
+            case.as_ptr(),
+            case.len(),
+            start.as_ptr(),
+            start.len(),
+            number,
+            trace.as_ptr(),
+            trace.len(),
+            cells.as_mut_ptr(),
+            cells.len(),
+            &mut step,
+        )
+    };
+    if answer == 260 {
+        return ReplayReply::Fails { step };
+    }
+    assert_eq!(step, 0, "the step of answer {answer}");
+    match answer {
+        0 => ReplayReply::Accepted,
+        1..=255 => ReplayReply::Refused(answer),
+        _ => panic!("replay answers {answer}"),
     }
 }

@@ -1,17 +1,22 @@
 //! The examples of document 02's requests, in `tests/data/vectors02`.
 
 use crate::data::{bytes, bytes_of};
+use crate::replay::{REPLAY_CELL_BYTES, ReplayReply};
 use crate::services::{ENTRY_WORDS, LISTING_ENTRIES, LISTING_MOVES, MOVE_WORDS};
 
 /// The last request that has landed.
-const LANDED: u64 = 1;
+const LANDED: u64 = 2;
 
 /// The requests whose files are here, and how many lines of each hold now.
-const FILES: [(u64, usize); 1] = [(1, 20)];
+const FILES: [(u64, usize); 2] = [(1, 20), (2, 28)];
 
-/// The signatures of the services that the examples call.
-pub type Judge = fn(&[u8], &[u8], &mut [u64], &mut [u64], &mut [u16]) -> u64;
-pub type Listing = fn(&[u8], &[u8]) -> String;
+/// The services that the examples call.
+#[derive(Clone, Copy)]
+pub struct Services {
+    pub judge: fn(&[u8], &[u8], &mut [u64], &mut [u64], &mut [u16]) -> u64,
+    pub listing: fn(&[u8], &[u8]) -> String,
+    pub replay: fn(&[u8], &[u8], u64, &[u8], &mut [u8]) -> ReplayReply,
+}
 
 /// A line of a request's file.
 struct Example {
@@ -22,13 +27,13 @@ struct Example {
 }
 
 /// The services reply as every line says whose reply holds now.
-pub fn check_examples(judge: Judge, listing: Listing) {
+pub fn check_examples(services: Services) {
     for (request, holding) in FILES {
         let file = format!("vectors02/{request:02}.txt");
         let text = String::from_utf8(bytes(&file)).expect("text");
         let examples: Vec<Example> = text.lines().filter_map(example).collect();
         assert_eq!(examples.len(), holding, "lines of {file} that hold");
-        examples.into_iter().for_each(|e| e.check(judge, listing));
+        examples.into_iter().for_each(|e| e.check(services));
     }
 }
 
@@ -57,12 +62,13 @@ fn named(argument: &str) -> (String, String) {
 
 impl Example {
     /// The services reply as the line says.
-    fn check(mut self, judge: Judge, listing: Listing) {
+    fn check(mut self, services: Services) {
         let case = bytes_of(&self.take("case").expect("a case"));
         let start = bytes_of(&self.take("start").expect("a start file"));
         let reply = match self.call.as_str() {
-            "judge" => self.judge(judge, &case, &start),
-            "listing" => in_one_line(&listing(&case, &start)),
+            "judge" => self.judge(services, &case, &start),
+            "listing" => in_one_line(&(services.listing)(&case, &start)),
+            "replay" => self.replay(services, &case, &start),
             call => panic!("{}: the call {call} is not known", self.name),
         };
         assert!(self.arguments.is_empty(), "{}: not all used", self.name);
@@ -71,18 +77,33 @@ impl Example {
 
     /// Judge's reply. "Every lent slice that is not plainly zero" is in the
     /// line's reply, so the tables are zero.
-    fn judge(&mut self, judge: Judge, case: &[u8], start: &[u8]) -> String {
+    fn judge(&mut self, services: Services, case: &[u8], start: &[u8]) -> String {
         let moves = self.number("moves").unwrap_or(LISTING_MOVES);
         let entries = self.number("entries").unwrap_or(LISTING_ENTRIES);
         let answers = self.number("answers").expect("answer words");
         let mut moves = vec![u64::MAX; moves * MOVE_WORDS];
         let mut entries = vec![u64::MAX; entries * ENTRY_WORDS];
         let mut answers = vec![u16::MAX; answers];
-        let code = judge(case, start, &mut moves, &mut entries, &mut answers);
+        let code = (services.judge)(case, start, &mut moves, &mut entries, &mut answers);
         let tables = moves.iter().chain(&entries);
         assert!(tables.copied().all(|word| word == 0), "{}", self.name);
         let answers: Vec<String> = answers.iter().map(u16::to_string).collect();
         format!("code={code} answers={}", answers.join(","))
+    }
+
+    /// Replay's reply. No line's reply has cells, so they are zero.
+    fn replay(&mut self, services: Services, case: &[u8], start: &[u8]) -> String {
+        let number = self.number("number").expect("a start number") as u64;
+        let trace = bytes_of(&self.take("trace").expect("a trace"));
+        let cells = self.number("cells").expect("cells");
+        let mut cells = vec![u8::MAX; cells * REPLAY_CELL_BYTES];
+        let reply = (services.replay)(case, start, number, &trace, &mut cells);
+        assert!(cells.iter().all(|&byte| byte == 0), "{}", self.name);
+        match reply {
+            ReplayReply::Refused(number) => format!("kind=refused number={number}"),
+            ReplayReply::Accepted => "kind=accepted".to_string(),
+            ReplayReply::Fails { step } => format!("kind=fails step={step}"),
+        }
     }
 
     /// Takes out the argument of this name, if the line has it.

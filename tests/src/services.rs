@@ -185,13 +185,19 @@ fn prepare(
     number: u64,
     lent: Size,
 ) -> Result<(Case, StartFile, Table), Refusal> {
+    let (case, file) = with_start(case, start, number)?;
+    let table = saturated_table(&case, lent).ok_or(9u64)?;
+    Ok((case, file, table))
+}
+
+/// The files of a call that names a start, or the refusal 1 to 7.
+pub fn with_start(case: &[u8], start: &[u8], number: u64) -> Result<(Case, StartFile), Refusal> {
     let case = decode_case(case)?;
     let file = decode_start(start, &case)?;
     if number >= file.starts.len() as u64 {
         return Err(7);
     }
-    let table = saturated_table(&case, lent).ok_or(9u64)?;
-    Ok((case, file, table))
+    Ok((case, file))
 }
 
 /// No run, then cells short for the start file, then the walk.

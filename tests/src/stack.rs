@@ -195,7 +195,7 @@ impl Configuration {
 }
 
 /// The configuration after the rules of these numbers, if each one applies.
-pub fn replay(rules: &[Rule], first: Configuration, trace: &[u16]) -> Option<Configuration> {
+pub fn after_rules(rules: &[Rule], first: Configuration, trace: &[u16]) -> Option<Configuration> {
     let mut now = first;
     for &number in trace {
         now = now.apply(rules.get(usize::from(number))?)?;

@@ -1,5 +1,7 @@
 //! The proved library against the second implementation on damaged files.
 
+use std::collections::BTreeMap;
+
 use second::compare::Both;
 use second::damage::{
     bodies_swapped, changed, counts_off_by_one, cuts, lines_swapped, longer, offsets_off_by_one,
@@ -7,6 +9,8 @@ use second::damage::{
 use second::generate::{Pair, SHAPES, pair};
 use second::lent::Lent;
 use second::random::{Random, seeds};
+use second::replay::ReplayReply::{Accepted, Fails, Refused};
+use second::traces::{recorded, wander};
 
 /// Small generated pairs.
 fn small_pairs(count: u64) -> Vec<Pair> {
@@ -19,22 +23,64 @@ fn small_pairs(count: u64) -> Vec<Pair> {
         .collect()
 }
 
-fn memory() -> Both {
-    Both::new(Lent::new(200, 64, 64, 20))
+/// Both implementations on copies of files, with a trace for replay.
+struct Calls {
+    both: Both,
+    trace: Vec<u8>,
+    /// How often replay gave each answer: a refusal's number, 0 for accepted,
+    /// 260 for fails.
+    replayed: BTreeMap<u64, usize>,
 }
 
-/// The services on a case file that may be damaged.
-fn on_case(both: &mut Both, case: &[u8], start: &[u8]) {
-    both.saturate(case);
-    both.judge(case, start);
-    both.guide(case, start, 0);
-}
+impl Calls {
+    fn new() -> Calls {
+        Calls {
+            both: Both::new(Lent::new(200, 64, 64, 20)),
+            trace: Vec::new(),
+            replayed: BTreeMap::new(),
+        }
+    }
 
-/// The same on a start file.
-fn on_start(both: &mut Both, case: &[u8], start: &[u8]) {
-    both.judge(case, start);
-    both.guide(case, start, 0);
-    both.guide(case, start, 3);
+    /// Takes for replay a run of a few steps, if possible one into the target,
+    /// from the first start of the sound files.
+    fn take_trace(&mut self, pair: &Pair) {
+        let run = wander(&mut Random::new(1), pair, 0, 6);
+        let steps = run.arrivals.last().copied().unwrap_or(run.trace.len());
+        self.trace = recorded(&run.trace[..steps]);
+    }
+
+    /// The services on a case file that may be damaged.
+    fn on_case(&mut self, case: &[u8], start: &[u8]) {
+        self.both.saturate(case);
+        self.both.judge(case, start);
+        self.both.guide(case, start, 0);
+        self.replay(case, start, 0);
+    }
+
+    /// The same on a start file.
+    fn on_start(&mut self, case: &[u8], start: &[u8]) {
+        self.both.judge(case, start);
+        self.both.guide(case, start, 0);
+        self.both.guide(case, start, 3);
+        self.replay(case, start, 0);
+        self.replay(case, start, 3);
+    }
+
+    fn replay(&mut self, case: &[u8], start: &[u8], number: u64) {
+        let answer = match self.both.replay(case, start, number, &self.trace) {
+            Accepted => 0,
+            Fails { .. } => 260,
+            Refused(number) => number,
+        };
+        *self.replayed.entry(answer).or_default() += 1;
+    }
+
+    /// Each of these answers of replay has occurred.
+    fn assert_replayed(&self, answers: &[u64]) {
+        println!("answers of replay: {:?}", self.replayed);
+        let often = |answer: &u64| self.replayed.get(answer).is_some_and(|&n| n >= 5);
+        assert!(answers.iter().all(often), "{answers:?}");
+    }
 }
 
 /// Copies with a wrong length, contents table or order of bodies.
@@ -50,34 +96,38 @@ fn misplaced(file: &[u8]) -> Vec<Vec<u8>> {
 
 #[test]
 fn cut_and_misplaced_files() {
-    let mut both = memory();
+    let mut calls = Calls::new();
     for pair in small_pairs(8) {
+        calls.take_trace(&pair);
         for copy in misplaced(&pair.case_file) {
-            on_case(&mut both, &copy, &pair.start_file);
+            calls.on_case(&copy, &pair.start_file);
         }
         for copy in misplaced(&pair.start_file) {
-            on_start(&mut both, &pair.case_file, &copy);
+            calls.on_start(&pair.case_file, &copy);
         }
     }
+    calls.assert_replayed(&[1, 5]);
 }
 
 #[test]
 fn every_byte_changed() {
-    let mut both = memory();
+    let mut calls = Calls::new();
     for pair in small_pairs(3) {
+        calls.take_trace(&pair);
         for at in 0..pair.case_file.len() {
             for value in values_near(pair.case_file[at]) {
                 let copy = changed(&pair.case_file, at, value);
-                on_case(&mut both, &copy, &pair.start_file);
+                calls.on_case(&copy, &pair.start_file);
             }
         }
         for at in 0..pair.start_file.len() {
             for value in values_near(pair.start_file[at]) {
                 let copy = changed(&pair.start_file, at, value);
-                on_start(&mut both, &pair.case_file, &copy);
+                calls.on_start(&pair.case_file, &copy);
             }
         }
     }
+    calls.assert_replayed(&[0, 1, 2, 3, 4, 5, 6, 7, 260]);
 }
 
 fn values_near(byte: u8) -> [u8; 7] {
@@ -88,8 +138,9 @@ fn values_near(byte: u8) -> [u8; 7] {
 /// Several bytes changed at once, among them small values that stay in range.
 #[test]
 fn several_bytes_changed() {
-    let mut both = memory();
+    let mut calls = Calls::new();
     for pair in small_pairs(12) {
+        calls.take_trace(&pair);
         let mut random = Random::new(pair.case_file.len() as u64);
         for _ in 0..60 {
             let mut case = pair.case_file.clone();
@@ -98,10 +149,11 @@ fn several_bytes_changed() {
                 scramble(&mut random, &mut case, 33);
                 scramble(&mut random, &mut start, 17);
             }
-            on_case(&mut both, &case, &pair.start_file);
-            on_start(&mut both, &pair.case_file, &start);
+            calls.on_case(&case, &pair.start_file);
+            calls.on_start(&pair.case_file, &start);
         }
     }
+    calls.assert_replayed(&[0, 2, 3, 4, 6, 7, 260]);
 }
 
 /// Changes a byte from `from` on, most often to a small value.

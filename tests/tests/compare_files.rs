@@ -13,14 +13,19 @@ use second::models::{
 };
 use second::proved;
 use second::random::is_long;
-use second::requests::check_examples;
+use second::replay::ReplayReply::{Accepted, Fails, Refused};
+use second::requests::{Services, check_examples};
+use second::services::GuideReply::Arrived;
 use second::services::{LISTING_ENTRIES, LISTING_MOVES, MOST_CELLS, listing, listing_answer};
+use second::traces::recorded;
 use second::won::{EXAMPLE_WORDS, example_case, example_start};
 
 // ---- the files that came with documents 01 and 02
 
 /// The proved listing is this text, which has no rounds, and the services answer
-/// as it says, judge with its rounds, guide from every `step`th start.
+/// as it says, judge with its rounds, guide from every `step`th start. Where
+/// guide arrives, replay accepts with the cells that it says, and not with one
+/// fewer.
 fn check_listing(both: &mut Both, (case, start): (&[u8], &[u8]), step: usize, text: &str) {
     let printed = proved::listing(case, start);
     let (without, rounds) = without_rounds(&printed);
@@ -41,6 +46,14 @@ fn check_listing(both: &mut Both, (case, start): (&[u8], &[u8]), step: usize, te
         let reply = both.guide(case, start, number as u64);
         let answer = listing_answer(rounds[number], reply);
         assert_eq!(*line, format!("start {number} {answer}"));
+        if let Arrived { cells, .. } = reply {
+            let trace = recorded(&both.lent.trace[..reply.steps()]);
+            let number = number as u64;
+            both.lend_to_replay(cells as usize);
+            assert_eq!(both.replay(case, start, number, &trace), Accepted);
+            both.lend_to_replay(cells as usize - 1);
+            assert_eq!(both.replay(case, start, number, &trace), Refused(11));
+        }
     }
 }
 
@@ -56,7 +69,11 @@ fn every_vector() {
 
 #[test]
 fn every_example_of_the_requests() {
-    check_examples(proved::judge, proved::listing);
+    check_examples(Services {
+        judge: proved::judge,
+        listing: proved::listing,
+        replay: proved::replay,
+    });
 }
 
 /// Rounds that hang on each part of a stack, and on choices that are not least.
@@ -72,7 +89,7 @@ fn example_of_rounds() {
 }
 
 /// The vector with the longest runs, with cells from too few to more than count
-/// and traces of many lengths.
+/// and traces of many lengths; what guide writes is replayed with as many cells.
 #[test]
 fn long_runs() {
     let all = vectors();
@@ -94,7 +111,9 @@ fn long_runs() {
         for trace in [0, 1, 1000, 1024, 4096, 65536] {
             let mut both = Both::new(Lent::new(LISTING_MOVES, LISTING_ENTRIES, cells, trace));
             for number in 0..u64::from(start[3]) {
-                both.guide(case, start, number);
+                let reply = both.guide(case, start, number);
+                let trace = recorded(&both.lent.trace[..reply.steps()]);
+                both.replay(case, start, number, &trace);
             }
         }
     }
@@ -115,14 +134,34 @@ fn every_larger_file() {
     }
 }
 
-/// All services; guide from each of the first numbers, and from a number that
-/// no file has.
+/// All services; guide and replay from each of the first numbers, and from a
+/// number that no file has.
 fn every_service(both: &mut Both, case: &[u8], start: &[u8]) {
     both.saturate(case);
     both.judge(case, start);
     for number in [0, 1, 2, 64, u64::MAX] {
         both.guide(case, start, number);
+        for trace in [
+            &[][..],
+            &[0],
+            &[0, 0],
+            &[1, 0],
+            &[0, 0, 1, 0],
+            &[0, 0, 2, 0],
+        ] {
+            both.replay(case, start, number, trace);
+        }
     }
+}
+
+/// Missing files, as files of length 0, and files that are exchanged.
+#[test]
+fn empty_and_exchanged_files() {
+    let mut both = Both::new(Lent::as_listing());
+    for (case, start) in [(&[][..], &[][..]), (&[], &START_A), (&CASE_A, &[])] {
+        every_service(&mut both, case, start);
+    }
+    every_service(&mut both, &START_A, &CASE_A);
 }
 
 #[test]
@@ -156,6 +195,22 @@ fn at_the_edges() {
         let naming_itself = changed(&START_A, at, own_number);
         assert_eq!(both.judge(&CASE_A, &naming_itself), 6);
     }
+}
+
+/// Replay with 256 rules, the last of them number 255, and with 255; from the
+/// last of 64 starts, and from the one after it.
+#[test]
+fn replay_at_the_edges() {
+    let mut both = Both::new(Lent::as_listing());
+    let mut replay = |rules: usize, number: u64, trace: &[u16]| {
+        let (case, start) = (case_a_with_rules(rules), start_a_with_starts(64));
+        both.replay(&case, &start, number, &recorded(trace))
+    };
+    assert_eq!(replay(256, 0, &[0, 255]), Accepted);
+    assert_eq!(replay(256, 0, &[0, 256]), Fails { step: 1 });
+    assert_eq!(replay(255, 0, &[0, 255]), Fails { step: 1 });
+    assert_eq!(replay(256, 63, &[0, 1]), Accepted);
+    assert_eq!(replay(256, 64, &[0, 1]), Refused(7));
 }
 
 /// P, I, J and A from 0 to past their bounds.
@@ -289,6 +344,10 @@ fn cells_at_their_limit() {
         assert!(matches!(refusal, 0 | 6));
         for number in 0..64 {
             both.guide(case, &start(256), number);
+            for cells in 255..258 {
+                both.lend_to_replay(cells);
+                both.replay(case, &start(256), number, &[0, 0, 1, 0]);
+            }
         }
         assert_eq!(both.judge(case, &start(257)), 5);
     }

@@ -9,17 +9,19 @@ use second::file::decode_case;
 use second::generate::{Pair, SHAPES, pair};
 use second::lent::Lent;
 use second::random::seeds;
+use second::replay::ReplayReply;
 use second::services::GuideReply::{Arrived, NoRun, Refused};
 use second::services::listing;
 use second::start_file::decode_start;
 
-/// The replies of the three services: saturate, judge, and guide for start 0,
-/// where a reply that is no refusal counts as 0.
+/// The replies of the services: saturate, judge, and guide and replay for start
+/// 0, where a reply that is no refusal counts as 0.
 #[derive(Clone, Copy, Debug, PartialEq, Eq)]
 struct Replies {
     saturate: u64,
     judge: u64,
     guide: u64,
+    replay: u64,
 }
 
 /// Runs the services; checks the range of refusals and the memory they leave.
@@ -56,6 +58,20 @@ fn run(lent: &mut Lent, case: &[u8], start: &[u8]) -> Replies {
         saturate,
         judge,
         guide,
+        replay: run_replay(lent, case, start),
+    }
+}
+
+/// Replays rules 0 and 1.
+fn run_replay(lent: &mut Lent, case: &[u8], start: &[u8]) -> u64 {
+    let reply = lent.replay(case, start, 0, &[0, 0, 1, 0]);
+    assert!(lent.replay_cells_are_zero());
+    match reply {
+        ReplayReply::Refused(number) => {
+            assert!(matches!(number, 1..=6 | 11), "replay {number}");
+            number
+        }
+        _ => 0,
     }
 }
 
@@ -65,6 +81,7 @@ fn assert_case_refused(lent: &mut Lent, case: &[u8], start: &[u8], refusal: u64)
         saturate: refusal,
         judge: refusal,
         guide: refusal,
+        replay: refusal,
     };
     assert_eq!(run(lent, case, start), all);
     assert_eq!(listing(case, start), format!("refused {refusal}\n"));
@@ -73,7 +90,8 @@ fn assert_case_refused(lent: &mut Lent, case: &[u8], start: &[u8], refusal: u64)
 fn assert_start_refused(lent: &mut Lent, case: &[u8], start: &[u8], refusal: u64) {
     let replies = run(lent, case, start);
     assert!(matches!(replies.saturate, 0 | 9));
-    assert_eq!((replies.judge, replies.guide), (refusal, refusal));
+    let others = [replies.judge, replies.guide, replies.replay];
+    assert_eq!(others, [refusal; 3]);
     assert_eq!(listing(case, start), format!("refused {refusal}\n"));
 }
 
@@ -176,13 +194,12 @@ fn check_changed_case(lent: &mut Lent, copy: &[u8], start: &[u8]) {
             assert_eq!(encode_case(&case), copy);
             assert!(matches!(replies.saturate, 0 | 9));
             assert!(matches!(replies.judge, 0 | 5 | 6 | 9));
+            assert!(matches!(replies.replay, 0 | 5 | 6));
         }
         Err(refusal) => {
             assert!((1..=4).contains(&refusal));
-            assert_eq!(
-                [replies.saturate, replies.judge, replies.guide],
-                [refusal; 3]
-            );
+            let others = [replies.judge, replies.guide, replies.replay];
+            assert_eq!((replies.saturate, others), (refusal, [refusal; 3]));
         }
     }
 }
@@ -194,10 +211,12 @@ fn check_changed_start(lent: &mut Lent, pair: &Pair, copy: &[u8]) {
         Ok(start) => {
             assert_eq!(encode_start(&start), copy);
             assert!(matches!(replies.judge, 0 | 9));
+            assert_eq!(replies.replay, 0);
         }
         Err(refusal) => {
             assert!(matches!(refusal, 5 | 6));
-            assert_eq!((replies.judge, replies.guide), (refusal, refusal));
+            let others = [replies.judge, replies.guide, replies.replay];
+            assert_eq!(others, [refusal; 3]);
         }
     }
 }

@@ -4,6 +4,7 @@
 use second::encode::{encode_case, encode_start};
 use second::file::{Case, Cell, Edge, Entry, Move, Rule, Start, StartFile};
 use second::lent::Lent;
+use second::replay::ReplayReply;
 use second::services::GuideReply::{CellsShort, NoRun, Refused};
 use second::services::listing;
 
@@ -78,16 +79,19 @@ fn assert_case_bytes(case: &[u8], refusal: u64) {
     let mut lent = Lent::as_listing();
     assert_eq!(lent.saturate(case), (refusal, 0, 0));
     assert!(lent.tables_are_zero());
-    assert_judge_and_guide(case, &encode_start(&sound_start()), refusal);
+    assert_pair_bytes(case, &encode_start(&sound_start()), refusal);
 }
 
-fn assert_judge_and_guide(case: &[u8], start: &[u8], refusal: u64) {
+fn assert_pair_bytes(case: &[u8], start: &[u8], refusal: u64) {
     let mut lent = Lent::as_listing();
     assert_eq!(lent.judge(case, start), refusal);
     assert!(lent.tables_are_zero() && lent.answers_are_zero());
     assert_eq!(lent.guide(case, start, 0), Refused(refusal));
     assert!(lent.tables_are_zero() && lent.cells_are_zero());
     assert!(lent.trace_is_zero_from(0));
+    let replay = lent.replay(case, start, 0, &[]);
+    assert_eq!(replay, ReplayReply::Refused(refusal));
+    assert!(lent.replay_cells_are_zero());
     assert_eq!(listing(case, start), format!("refused {refusal}\n"));
 }
 
@@ -103,14 +107,14 @@ fn assert_start(refusal: u64, change: impl Fn(&mut StartFile)) {
     let mut start = sound_start();
     change(&mut start);
     let case = encode_case(&sound_case());
-    assert_judge_and_guide(&case, &encode_start(&start), refusal);
+    assert_pair_bytes(&case, &encode_start(&start), refusal);
 }
 
 /// The sound start file with one byte changed is refused with 6.
 fn assert_start_byte(at: usize, value: u8) {
     let mut start = encode_start(&sound_start());
     start[at] = value;
-    assert_judge_and_guide(&encode_case(&sound_case()), &start, 6);
+    assert_pair_bytes(&encode_case(&sound_case()), &start, 6);
 }
 
 #[test]
@@ -254,8 +258,8 @@ fn the_lowest_number() {
     let start = encode_start(&start);
     let mut case = sound_case();
     case.moves.swap(0, 1);
-    assert_judge_and_guide(&encode_case(&case), &start, 4);
-    assert_judge_and_guide(&encode_case(&sound_case()), &start[..20], 5);
+    assert_pair_bytes(&encode_case(&case), &start, 4);
+    assert_pair_bytes(&encode_case(&sound_case()), &start[..20], 5);
 }
 
 #[test]
@@ -296,7 +300,8 @@ fn kinds_and_unused_fields_of_the_start_file() {
     assert_start_byte(23 + 18 + 1, 1);
 }
 
-/// "Guide: the start named is not in the file", before 9.
+/// "Guide: the start named is not in the file", before 9, and for replay before
+/// 10 and 11.
 #[test]
 fn the_start_named() {
     let case = encode_case(&sound_case());
@@ -306,6 +311,9 @@ fn the_start_named() {
             assert_eq!(lent.guide(&case, &start, number), Refused(7));
             assert!(lent.tables_are_zero() && lent.cells_are_zero());
             assert!(lent.trace_is_zero_from(0));
+            let replay = lent.replay(&case, &start, number, &[1]);
+            assert_eq!(replay, ReplayReply::Refused(7));
+            assert!(lent.replay_cells_are_zero());
         }
     }
 }

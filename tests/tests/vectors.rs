@@ -4,14 +4,16 @@
 use second::automaton::accepts;
 use second::data::{Vector, bytes, larger_files, vectors, without_rounds};
 use second::file::decode_case;
-use second::lent::Lent;
-use second::requests::check_examples;
+use second::lent::{Lent, replayed};
+use second::replay::ReplayReply::{Accepted, Refused};
+use second::replay::replay;
+use second::requests::{Services, check_examples};
 use second::saturation::saturate;
 use second::services::GuideReply::{Arrived, CellsShort};
 use second::services::{
     LISTING_ENTRIES, LISTING_MOVES, MOST_CELLS, judge, listing, listing_answer,
 };
-use second::stack::{configuration, replay};
+use second::stack::{after_rules, configuration};
 use second::start_file::decode_start;
 use second::table::{Size, Table};
 
@@ -27,11 +29,16 @@ fn every_vector() {
 
 #[test]
 fn every_example_of_the_requests() {
-    check_examples(judge, listing);
+    check_examples(Services {
+        judge,
+        listing,
+        replay,
+    });
 }
 
 /// The services answer as the listing says, and the traces of the vectors are
-/// runs on nested stacks that end in the target if they arrived.
+/// runs on nested stacks that end in the target if they arrived, and then replay
+/// accepts them, exactly if it has the cells.
 #[test]
 fn every_trace_of_the_vectors() {
     let mut lent = Lent::as_listing();
@@ -59,13 +66,19 @@ fn check_traces(lent: &mut Lent, vector: &Vector) {
         let line = format!("start {number} {}", listing_answer(round, reply));
         assert_eq!(Some(line.as_str()), lines.next(), "{name}");
         let trace = &lent.trace[..reply.steps()];
-        let end = replay(&case.rules, configuration(&file, start), trace);
+        let end = after_rules(&case.rules, configuration(&file, start), trace);
         let end = end.unwrap_or_else(|| panic!("{name} start {number}: no run"));
         let arrived = matches!(reply, Arrived { .. });
         assert!(
             !arrived || accepts(own.whole(), &end),
             "{name} start {number}"
         );
+        if let Arrived { cells, .. } = reply {
+            let files = (&vector.case[..], &vector.start[..]);
+            let with = |cells: u64| replayed(files, number, trace, cells as usize);
+            assert_eq!(with(cells), Accepted, "{name} start {number}");
+            assert_eq!(with(cells - 1), Refused(11), "{name} start {number}");
+        }
     }
 }
 

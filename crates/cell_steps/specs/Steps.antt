@@ -2,9 +2,10 @@
 -- Assumes nothing.
 pub mod Laws
 pub mod Choices
-use Prim.Native.Nat.{ℕ, _+_}
+use Prim.Native.Nat.{ℕ, _+_, _≤_}
+use mathlib.Core.Path.{_≡_}
 use mathlib.Core.List.{List, [], _∷_, map, zipWith}
-use lib.ListN.{getD}
+use lib.ListN.{length, getD, take}
 use Rattle.stacks.specs.Stack.{Operation, rewrite, push1, push2, copy, pop1, pop2, collapse1, collapse2}
 use Rattle.walks.specs.Cell as walks
 use Rattle.walks.specs.Guide.{Guided, chooses}
@@ -23,6 +24,15 @@ putCell ws n c = withCell ws n (valueOf c)
 -- the words where these are the cells from number n on, with no choices
 abbrev pub withCells : List ℕ → ℕ → List walks.Cell → List ℕ
 withCells = putFrom putCell
+
+-- cell i of these, counted from 0
+unfoldable pub cellNumber : List walks.Cell → ℕ → walks.Cell
+cellNumber cs i = getD cs i walks.empty1
+
+-- The first i of these cells are written from number n on, each one by `put`: the words ws have become us.
+pub record CellsPut (put : List ℕ → ℕ → walks.Cell → List ℕ) (ws : List ℕ) (n : ℕ) (cs : List walks.Cell) (i : ℕ) (us : List ℕ) : Type 0 where
+  pub within : i ≤ length cs
+  pub is : us ≡ putFrom put ws n (take i cs)
 
 -- the symbol that an operation names, or 0
 unfoldable pub symbolOf : Operation → ℕ

@@ -6,8 +6,8 @@ ghost use lib.ListN.{length};
 ghost use Rattle.stacks.specs.Stack.{newCells, copy};
 ghost use Rattle.walks.specs.Cell.{symbol, above, cellsAfter, rootAfter};
 ghost use Rattle.case_records.specs.Values.{theOperation};
-ghost use Rattle.cell_memory.specs.Memory.{guidedIn};
-ghost use Rattle.cell_steps.specs.Steps.{withCells, symbolOf, one, all, withAllChosen, stepChosen, stepChoices, guidedBy};
+ghost use Rattle.cell_memory.specs.Memory.{cellOf, guidedIn};
+ghost use Rattle.cell_steps.specs.Steps.{withCells, cellNumber, symbolOf, one, all, withAllChosen, stepChosen, stepChoices, guidedBy};
 use case_records::Operation;
 use cell_memory::Cell;
 
@@ -60,76 +60,90 @@ pub fn root_after(op: Operation, n: usize, x: Top) -> usize
     }
 }
 
-// ---- cells without choices
+// ---- the new cells by value
 
-// Cell n is the symbol of x, and cell n + 1 the order-2 stack that it tops.
-fn put_top(cells: &mut [u16], n: usize, x: Top)
-    requires { ⌜ ((n + 2) * 68 ≤ length (now cells)) × (n < 2 ^ 16) ⌝ }
-    ensures { λ r. ⌜ now (cells .exit) ≡ withCells (now (cells .entry)) n (symbol (x .symbol) (x .annotation) (x .rest) ∷ above n (x .below) ∷ []) ⌝ }
+// Cell i of two: the symbol of x, which is cell n, and the order-2 stack that it tops.
+fn topping(n: u16, x: Top, i: usize) -> Cell
+    requires { ⌜ i < 2 ⌝ }
+    ensures { λ r. ⌜ cellOf r ≡ cellNumber (symbol (x .symbol) (x .annotation) (x .rest) ∷ above n (x .below) ∷ []) i ⌝ }
 {
-    cell_memory::put_cell(cells, n, Cell::Symbol(x.symbol, x.annotation, x.rest));
-    cell_memory::put_cell(cells, n + 1, Cell::Above(n as u16, x.below));
+    if i == 0 {
+        return Cell::Symbol(x.symbol, x.annotation, x.rest);
+    }
+    Cell::Above(n, x.below)
 }
 
-// Symbol b with this annotation is pushed on x.
-fn put_pushed(cells: &mut [u16], n: usize, x: Top, b: u16, annotation: u16)
-    requires { ⌜ ((n + 3) * 68 ≤ length (now cells)) × (n ≤ 4096) ⌝ }
-    ensures { λ r. ⌜ now (cells .exit) ≡ withCells (now (cells .entry)) n (symbol (x .symbol) (x .annotation) (x .rest) ∷ symbol b annotation n ∷ above (n + 1) (x .below) ∷ []) ⌝ }
+// Cell i of three: the symbol of x, which is cell n, then symbol b with this annotation on it, and the order-2 stack that it tops.
+fn pushed(n: u16, x: Top, b: u16, annotation: u16, i: usize) -> Cell
+    requires { ⌜ (i < 3) × (n ≤ 4096) ⌝ }
+    ensures { λ r. ⌜ cellOf r ≡ cellNumber (symbol (x .symbol) (x .annotation) (x .rest) ∷ symbol b annotation n ∷ above (n + 1) (x .below) ∷ []) i ⌝ }
 {
-    cell_memory::put_cell(cells, n, Cell::Symbol(x.symbol, x.annotation, x.rest));
-    put_top(
-        cells,
-        n + 1,
-        Top {
-            symbol: b,
-            annotation: annotation,
-            rest: n as u16,
-            below: x.below,
-        },
-    );
+    if i == 0 {
+        return Cell::Symbol(x.symbol, x.annotation, x.rest);
+    }
+    let new_top = Top {
+        symbol: b,
+        annotation: annotation,
+        rest: n,
+        below: x.below,
+    };
+    topping(n + 1, new_top, i - 1)
 }
 
-// The top order-1 stack of x twice.
-fn put_copied(cells: &mut [u16], n: usize, x: Top)
-    requires { ⌜ ((n + 4) * 68 ≤ length (now cells)) × (n ≤ 4096) ⌝ }
-    ensures { λ r. ⌜ now (cells .exit) ≡ withCells (now (cells .entry)) n (cellsAfter copy n (x .symbol) (x .annotation) (x .rest) (x .below)) ⌝ }
+// Cell i of four: the top order-1 stack of x, which is cell n, twice.
+fn copied(n: u16, x: Top, i: usize) -> Cell
+    requires { ⌜ (i < 4) × (n ≤ 4096) ⌝ }
+    ensures { λ r. ⌜ cellOf r ≡ cellNumber (cellsAfter copy n (x .symbol) (x .annotation) (x .rest) (x .below)) i ⌝ }
 {
-    put_top(cells, n, x);
-    put_top(
-        cells,
-        n + 2,
-        Top {
-            symbol: x.symbol,
-            annotation: x.annotation,
-            rest: x.rest,
-            below: (n + 1) as u16,
-        },
-    );
+    if i < 2 {
+        return topping(n, x, i);
+    }
+    let upper = Top {
+        symbol: x.symbol,
+        annotation: x.annotation,
+        rest: x.rest,
+        below: n + 1,
+    };
+    topping(n + 2, upper, i - 2)
 }
 
-// The new cells of the operation, from cell n on, without choices.
-fn put_cells(cells: &mut [u16], n: usize, op: Operation, x: Top)
-    requires { ⌜ ((n + newCells (theOperation op)) * 68 ≤ length (now cells)) × (n ≤ 4096) × (symbolOf (theOperation op) < 2 ^ 16) ⌝ }
-    ensures { λ r. ⌜ now (cells .exit) ≡ withCells (now (cells .entry)) n (cellsAfter (theOperation op) n (x .symbol) (x .annotation) (x .rest) (x .below)) ⌝ }
+// New cell i of the operation on x, counted from 0, where n cells are there before it.
+pub fn new_cell(op: Operation, n: u16, x: Top, i: usize) -> Cell
+    requires { ⌜ (i < newCells (theOperation op)) × (n ≤ 4096) × (symbolOf (theOperation op) < 2 ^ 16) ⌝ }
+    ensures { λ r. ⌜ cellOf r ≡ cellNumber (cellsAfter (theOperation op) n (x .symbol) (x .annotation) (x .rest) (x .below)) i ⌝ }
 {
     match op {
-        Operation::Rewrite(b) => put_top(
-            cells,
-            n,
-            Top {
+        Operation::Rewrite(b) => {
+            let rewritten = Top {
                 symbol: b as u16,
                 annotation: x.annotation,
                 rest: x.rest,
                 below: x.below,
-            },
-        ),
-        Operation::Push1(b) => put_pushed(cells, n, x, b as u16, x.rest),
-        Operation::Push2(b) => put_pushed(cells, n, x, b as u16, x.below),
-        Operation::Copy => put_copied(cells, n, x),
-        Operation::Pop1 => cell_memory::put_cell(cells, n, Cell::Above(x.rest, x.below)),
-        Operation::Pop2 => {}
-        Operation::Collapse1 => cell_memory::put_cell(cells, n, Cell::Above(x.annotation, x.below)),
-        Operation::Collapse2 => {}
+            };
+            topping(n, rewritten, i)
+        }
+        Operation::Push1(b) => pushed(n, x, b as u16, x.rest, i),
+        Operation::Push2(b) => pushed(n, x, b as u16, x.below, i),
+        Operation::Copy => copied(n, x, i),
+        Operation::Pop1 => Cell::Above(x.rest, x.below),
+        Operation::Pop2 => Cell::Empty1,
+        Operation::Collapse1 => Cell::Above(x.annotation, x.below),
+        Operation::Collapse2 => Cell::Empty1,
+    }
+}
+
+// ---- cells without choices
+
+// Writes the new cells of the operation, from cell n on, without choices.
+fn put_cells(cells: &mut [u16], n: usize, op: Operation, x: Top)
+    requires { ⌜ ((n + newCells (theOperation op)) * 68 ≤ length (now cells)) × (n ≤ 4096) × (symbolOf (theOperation op) < 2 ^ 16) ⌝ }
+    ensures { λ r. ⌜ now (cells .exit) ≡ withCells (now (cells .entry)) n (cellsAfter (theOperation op) n (x .symbol) (x .annotation) (x .rest) (x .below)) ⌝ }
+{
+    let count = new_cells(op);
+    let mut i: usize = 0;
+    while i < count {
+        cell_memory::put_cell(cells, n + i, new_cell(op, n as u16, x, i));
+        i += 1;
     }
 }
 

@@ -1,4 +1,4 @@
--- Demand 1: whatever the files and the lengths of the lent slices, a service judges them or refuses with document 01's number, and every lent
+-- Demand 1: whatever the files and the lengths of the lent slices, a service judges them or refuses with the papers' number, and every lent
 -- word then holds what the papers state. The services' contracts equate their code with the definitions; this is what the definitions
 -- say. The proof is `demand1` in Demand1/Proof.antt.
 -- Assumes nothing.
@@ -10,6 +10,8 @@ use lib.ListN.{length, getD}
 use Rattle.automata.specs.Automaton.{Automaton}
 use Rattle.replies.specs.declared.Reply.{Reply}
 use Rattle.replies.specs.declared.Reply.the-variants.{Refused, NoRun, Walked}
+use Rattle.replies.specs.declared.Replayed.{Replayed}
+use Rattle.replies.specs.declared.Replayed.the-variants as Replayed
 use Rattle.replies.specs.Numbers.{countsOf}
 use Rattle.words.specs.Lists.{zeros}
 use Rattle.files.specs.Start.{startsOf}
@@ -17,9 +19,11 @@ use Rattle.services.specs.Memory.{padded, moveTable, entryTable}
 use Rattle.services.specs.Saturate.{Lent, SaturateDone, saturateService}
 use Rattle.services.specs.Judge.{JudgeInput, JudgeDone, judgeService}
 use Rattle.services.specs.Guide.{GuideInput, GuideDone, guideService}
+use Rattle.services.specs.Replay.{ReplayInput, ReplayDone, replayService}
 use Rattle.demands.specs.Reach.{Runs, Marks}
 use Rattle.demands.specs.Size.{SaturatedTable}
-use Rattle.demands.specs.Refusals.{Returned, saturateRefusals, judgeRefusals, guideRefusals}
+use Rattle.demands.specs.Refusals.{Returned, saturateRefusals, judgeRefusals, guideRefusals, replayRefusals}
+use Rattle.demands.specs.Traces.{RealFault, StepFails}
 use Rattle.demands.specs.FullRun.{fullTrace}
 
 -- ---- saturate
@@ -87,9 +91,24 @@ pub record GuideStates (x : GuideInput) (d : GuideDone) : Type 0 where
   pub cells-zero : d .cells ≡ zeros (x .cells)
   pub trace-length : length (d .trace) ≡ x .trace
 
+-- ---- replay
+
+-- the number of each answer: a refusal's is the first that applies; where none applies, the trace is a real fault and accepted, or its first
+-- step that fails is named
+abbrev pub ReplayAnswered : ReplayInput → Replayed → Type 0
+ReplayAnswered x (Replayed.Refused n) = Returned replayRefusals x n × (n ≡ 0 → ⊥)
+ReplayAnswered x Replayed.Accepted = Returned replayRefusals x 0 × RealFault x
+ReplayAnswered x (Replayed.FailsAt n) = Returned replayRefusals x 0 × StepFails x n
+
+-- what document 02 states of replay's answer d to x: "The lent cells are always zeroed."
+pub record ReplayStates (x : ReplayInput) (d : ReplayDone) : Type 0 where
+  pub answered : ReplayAnswered x (d .reply)
+  pub cells-zero : d .cells ≡ zeros (x .cells)
+
 -- for every input of each service
 abbrev pub Demand1 : Type 0
 Demand1 =
     ((x : Lent) → SaturateStates x (saturateService x))
     × ((x : JudgeInput) → JudgeStates x (judgeService x))
     × ((x : GuideInput) → GuideStates x (guideService x))
+    × ((x : ReplayInput) → ReplayStates x (replayService x))

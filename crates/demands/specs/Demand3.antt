@@ -18,13 +18,12 @@ use Rattle.replies.specs.declared.Halt.the-variants.{CellsShort}
 use Rattle.replies.specs.Numbers.{refusalOf}
 use Rattle.walks.specs.Guide.{Walk, walkConfiguration}
 use Rattle.files.specs.Case.{ownOf, rulesOf}
-use Rattle.files.specs.Start.{startsOf, cellsOf}
+use Rattle.files.specs.Start.{startsOf, cellsOf, configurationAt}
 use Rattle.services.specs.Memory.{padded}
 use Rattle.words.specs.Lists.{zeros}
 use Rattle.services.specs.Judge.{JudgeInput, judgeService}
 use Rattle.services.specs.Guide.{GuideInput, GuideDone, cellsLent, guideService}
 use Rattle.guidance.specs.Halt.{haltBy, isArrival}
-use Rattle.demands.specs.Reach.{configurationAt}
 use Rattle.demands.specs.FullRun.{FullRun, used, Stops}
 use Rattle.demands.specs.Demand2.{judgeFor}
 

@@ -1,4 +1,4 @@
--- The demands leave nothing open: demand 1 leaves saturate and judge one answer to each input, and demands 1 and 3 leave guide one.
+-- The demands leave nothing open: demand 1 leaves saturate, judge and replay one answer to each input, and demands 1 and 3 leave guide one.
 -- Assumes nothing.
 use Prim.Native.Nat.{ℕ, zero, suc, _≤_, _<_}
 use mathlib.Core.Path.{_≡_, refl, ap, ap₂, sym, _∙_, subst}
@@ -13,21 +13,25 @@ use Rattle.stacks.specs.System.{Rule}
 use Rattle.automata.specs.Automaton.{Automaton}
 use Rattle.replies.specs.declared.Reply.{Reply}
 use Rattle.replies.specs.declared.Reply.the-variants.{Refused, NoRun, Walked}
+use Rattle.replies.specs.declared.Replayed.{Replayed}
+use Rattle.replies.specs.declared.Replayed.the-variants as Replayed
 use Rattle.files.specs.Case.{rulesOf}
 use Rattle.files.specs.Start.{startsOf, cellsOf}
 use Rattle.services.specs.Memory.{padded, moveTable, entryTable}
 use Rattle.services.specs.Saturate.{Lent, SaturateDone, saturateService}
 use Rattle.services.specs.Judge.{JudgeInput, JudgeDone, judgeService}
 use Rattle.services.specs.Guide.{GuideInput, GuideDone, cellsLent, guideService}
+use Rattle.services.specs.Replay.{ReplayInput, ReplayDone, replayService}
 use Rattle.guidance.specs.Halt.{Reason, haltBy}
 use Rattle.demands.specs.Reach.{Runs, WonIn, Marks}
 use Rattle.demands.specs.Size.Laws.{one-saturated}
-use Rattle.demands.specs.Refusals.{Returned, saturateRefusals, judgeRefusals, guideRefusals}
+use Rattle.demands.specs.Refusals.{Returned, saturateRefusals, judgeRefusals, guideRefusals, replayRefusals}
 use Rattle.demands.specs.Refusals.Laws.{returned-one}
+use Rattle.demands.specs.Traces.Laws.{fails-once, fault-fails-not}
 use Rattle.demands.specs.FullRun.{used, HaltsAfter, has-arrived, is-full, is-short, Stops}
 use Rattle.demands.specs.FullRun.Laws.{one-full-run}
-use Rattle.demands.specs.Demand1.{SaturateStates, JudgeStates, Answered, GuideStates}
-use Rattle.demands.specs.Demand1.Proof.{demand1-saturate, demand1-judge, demand1-guide}
+use Rattle.demands.specs.Demand1.{SaturateStates, JudgeStates, Answered, GuideStates, ReplayAnswered, ReplayStates}
+use Rattle.demands.specs.Demand1.Proof.{demand1-saturate, demand1-judge, demand1-guide, demand1-replay}
 use Rattle.demands.specs.Demand2.{judgeFor}
 use Rattle.demands.specs.Demand3.{MarkedYes, AnswersRun, Guides}
 use Rattle.demands.specs.Demand3.Proof.{guides, runs-marked}
@@ -167,3 +171,25 @@ guide-only x d s g =
     same (Walked i) v (Refused m) z (a, _, b) (c, bad, f) k = absurd (bad (returned-one guideRefusals x c a))
     same (Walked i) v NoRun z (a, runs, b) (c, none, f) k = absurd (none runs)
     same (Walked i) v (Walked j) z (a, runs, b) (c, _, f) k = k a runs
+
+-- ---- replay
+
+replayed-one : (x : ReplayInput) (u w : Replayed) → ReplayAnswered x u → ReplayAnswered x w → u ≡ w
+replayed-one x (Replayed.Refused n) (Replayed.Refused m) (a, _) (c, _) = ap Replayed.Refused (returned-one replayRefusals x a c)
+replayed-one x (Replayed.Refused n) Replayed.Accepted (a, bad) (c, _) = absurd (bad (returned-one replayRefusals x a c))
+replayed-one x (Replayed.Refused n) (Replayed.FailsAt m) (a, bad) (c, _) = absurd (bad (returned-one replayRefusals x a c))
+replayed-one x Replayed.Accepted (Replayed.Refused m) (a, _) (c, bad) = absurd (bad (returned-one replayRefusals x c a))
+replayed-one x Replayed.Accepted Replayed.Accepted a c = refl
+replayed-one x Replayed.Accepted (Replayed.FailsAt m) (_, f) (_, s) = absurd (fault-fails-not x f s)
+replayed-one x (Replayed.FailsAt n) (Replayed.Refused m) (a, _) (c, bad) = absurd (bad (returned-one replayRefusals x c a))
+replayed-one x (Replayed.FailsAt n) Replayed.Accepted (_, s) (_, f) = absurd (fault-fails-not x f s)
+replayed-one x (Replayed.FailsAt n) (Replayed.FailsAt m) (_, s) (_, t) = ap Replayed.FailsAt (fails-once x s t)
+
+replay-done : {d e : ReplayDone} → d .reply ≡ e .reply → d .cells ≡ e .cells → d ≡ e
+replay-done r cs = λ i. record { reply = r i; cells = cs i }
+
+-- Demand 1 leaves replay one answer.
+pub replay-only : (x : ReplayInput) (d : ReplayDone) → ReplayStates x d → d ≡ replayService x
+replay-only x d s =
+    let t = demand1-replay x in
+    replay-done (replayed-one x (d .reply) (replayService x .reply) (s .answered) (t .answered)) (s .cells-zero ∙ sym (t .cells-zero))

@@ -12,9 +12,8 @@ use Rattle.automata.specs.Automaton.{Automaton}
 use Rattle.automata.specs.Saturation.{Saturated, saturate}
 use Rattle.walks.specs.Guide.{Walk, startWalk, Next, arrived, stuck, next, walkAfter, traceAfter}
 use Rattle.files.specs.Case.{ownOf, rulesOf}
-use Rattle.files.specs.Start.{cellsOf}
+use Rattle.files.specs.Start.{cellsOf, startAt}
 use Rattle.guidance.specs.Halt.{Reason, arrival, trace-full, cells-short, cellsOfSteps}
-use Rattle.demands.specs.Reach.{startAt}
 
 -- ---- the full run
 

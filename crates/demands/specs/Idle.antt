@@ -1,11 +1,11 @@
--- Document 01's idle programs, and those that report another round. The answer that each gives at a worked model contradicts the demand's
--- statement, read alone.
+-- Document 01's idle programs, those that report another round, and those that replay in another way. The answer that each gives at a
+-- worked model contradicts the demand's statement, read alone.
 -- Assumes nothing.
-use Prim.Native.Nat.{ℕ, _*_}
+use Prim.Native.Nat.{ℕ, _+_, _*_}
 use mathlib.Core.Bool.{false≢true}
 use mathlib.Core.Path.{_≡_, refl, ap, sym, _∙_, subst}
 use mathlib.Core.Option.{none, some}
-use mathlib.Core.List.{List, [], _∷_, map}
+use mathlib.Core.List.{List, [], _∷_, _++_, map}
 use lib.ListN.{getD}
 use lib.Dec.{lit<}
 use borrow.Author.Tests.{eqb-false}
@@ -14,29 +14,30 @@ use Rattle.replies.specs.declared.Counts.{Counts}
 use Rattle.replies.specs.declared.Halt.the-variants.{Arrived, CellsShort}
 use Rattle.replies.specs.declared.Reply.{Reply}
 use Rattle.replies.specs.declared.Reply.the-variants.{Refused, NoRun, Walked}
-use Rattle.replies.specs.Numbers.{replyCounts}
+use Rattle.replies.specs.declared.Replayed.the-variants as Replayed
+use Rattle.replies.specs.Numbers.{replyCounts, replayNumber, replayStep}
 use Rattle.walks.specs.Guide.{Walk}
 use Rattle.words.specs.Lists.{zeros}
 use Rattle.files.specs.Case.{ownOf, rulesOf}
-use Rattle.files.specs.Start.{startsOf}
+use Rattle.files.specs.Start.{startsOf, startAt, configurationAt}
 use Rattle.services.specs.Memory.{padded, moveTable}
 use Rattle.services.specs.Saturate.{Lent, SaturateDone}
 use Rattle.services.specs.Judge.{JudgeDone, mark}
 use Rattle.services.specs.Guide.{GuideInput, GuideDone}
+use Rattle.services.specs.Replay.{ReplayInput, ReplayDone, replayService}
 use Rattle.guidance.specs.Halt.{isArrival}
 use Rattle.models.specs.Computing.{computed}
-use Rattle.models.specs.Files.{caseA, startA, startC, caseCircle}
-use Rattle.demands.specs.Reach.{startAt, configurationAt}
+use Rattle.models.specs.Files.{two, caseA, startA, startC, startCC, caseCircle, casePast, caseCollapse, startCollapse}
 use Rattle.demands.specs.Refusals.{guideRefusals}
 use Rattle.demands.specs.Refusals.Laws.{returned-one}
 use Rattle.demands.specs.FullRun.{saturatedTable, walkFrom, fullWalk, fullTrace, fullNext, FullRun}
 use Rattle.demands.specs.FullRun.Laws.{one-full-run}
-use Rattle.demands.specs.Demand1.{SaturateStates, JudgeStates, Answered, GuideStates}
+use Rattle.demands.specs.Demand1.{SaturateStates, JudgeStates, Answered, GuideStates, ReplayAnswered, ReplayStates}
 use Rattle.demands.specs.Demand1.Proof.{demand1-guide}
 use Rattle.demands.specs.Demand2.{judgeFor, JudgeMarks}
 use Rattle.demands.specs.Demand3.{MarkedYes, Guides}
-use Rattle.demands.specs.Determined.{saturate-only, judge-only, run-only}
-use Rattle.demands.specs.Instances.{inputA, unrefused-A, run-A}
+use Rattle.demands.specs.Determined.{saturate-only, judge-only, run-only, replay-only}
+use Rattle.demands.specs.Instances.{inputA, unrefused-A, run-A, replayA}
 
 -- ---- the inputs: model A with tables of 17 and 7 words, 10 cells and three trace words
 
@@ -53,6 +54,13 @@ guideA n = record { case = caseA; start = startA; number = n; moves = 17; entrie
 -- the circle model, with as many
 unfoldable pub guideCircle : GuideInput
 guideCircle = record { case = caseCircle; start = startC; number = 0; moves = 17; entries = 7; cells = 10 * 68; trace = 3 }
+
+-- replay of a trace that collapses, with nine cells, and of one that goes past the target, with seven
+unfoldable pub replayCollapse : ℕ → List ℕ → ReplayInput
+replayCollapse n trace = record { case = caseCollapse; start = startCollapse; number = n; trace = trace; cells = 9 * 6 }
+
+unfoldable pub replayPast : ReplayInput
+replayPast = record { case = casePast; start = startCC; number = 0; trace = two 0 ++ two 1; cells = 7 * 6 }
 
 -- ---- "Refusing every file"
 
@@ -183,3 +191,68 @@ no-run-always d e s = let (_, h, _) = subst (λ (r : Reply). Answered (guideA 0)
 pub untouched-trace : (d : GuideDone) → d .reply ≡ NoRun → (d .trace ≡ zeros 3 → ⊥) → GuideStates (guideA 2) d → ⊥
 unfolding guideA
 untouched-trace d e h s = let (_, _, z) = subst (λ (r : Reply). Answered (guideA 2) r (d .trace)) e (s .answered) in h z
+
+-- ---- replay: refusing every trace, accepting none, and cells left as they were
+
+replay-is : (x : ReplayInput) (d : ReplayDone) → ReplayStates x d → d .reply ≡ replayService x .reply
+replay-is x d s = ap (λ (e : ReplayDone). e .reply) (replay-only x d s)
+
+pub refuses-replay : (d : ReplayDone) (n : ℕ) → d .reply ≡ Replayed.Refused n → ReplayStates (replayA 0 (two 0 ++ two 1) (9 * 6)) d → ⊥
+unfolding computed replayA
+refuses-replay d n e s =
+    let (_, bad) = subst (ReplayAnswered (replayA 0 (two 0 ++ two 1) (9 * 6))) e (s .answered) in
+    bad (ap replayNumber (sym e ∙ replay-is _ d s))
+
+pub accepts-none : (d : ReplayDone) (n : ℕ) → d .reply ≡ Replayed.FailsAt n → ReplayStates (replayA 0 (two 0 ++ two 1) (9 * 6)) d → ⊥
+unfolding computed replayA
+accepts-none d n e s = eqb-false 260 0 refl (ap replayNumber (sym e ∙ replay-is _ d s))
+
+pub untouched-replay : (d : ReplayDone) → (d .cells ≡ zeros 54 → ⊥) → ReplayStates (replayA 0 (two 0 ++ two 1) (9 * 6)) d → ⊥
+unfolding replayA
+untouched-replay d h s = h (s .cells-zero)
+
+-- ---- all rule numbers tested before the first step: rule 99 does not exist, but rule 1 fails before it
+
+pub numbers-tested-first : (d : ReplayDone) → d .reply ≡ Replayed.FailsAt 1 → ReplayStates (replayA 0 (two 1 ++ two 99) (9 * 6)) d → ⊥
+unfolding computed replayA
+numbers-tested-first d e s = eqb-false 1 0 refl (ap replayStep (sym e ∙ replay-is _ d s))
+
+-- ---- a collapse at the wrong order accepted
+
+pub collapses-1-on-order-2 : (d : ReplayDone) → d .reply ≡ Replayed.Accepted → ReplayStates (replayCollapse 1 (two 0)) d → ⊥
+unfolding computed replayCollapse
+collapses-1-on-order-2 d e s = eqb-false 0 260 refl (ap replayNumber (sym e ∙ replay-is _ d s))
+
+pub collapses-2-on-order-1 : (d : ReplayDone) → d .reply ≡ Replayed.Accepted → ReplayStates (replayCollapse 0 (two 1)) d → ⊥
+unfolding computed replayCollapse
+collapses-2-on-order-1 d e s = eqb-false 0 260 refl (ap replayNumber (sym e ∙ replay-is _ d s))
+
+-- ---- a trace accepted that passes through the target and goes on
+
+pub accepts-past-target : (d : ReplayDone) → d .reply ≡ Replayed.Accepted → ReplayStates replayPast d → ⊥
+unfolding computed replayPast
+accepts-past-target d e s = eqb-false 0 260 refl (ap replayNumber (sym e ∙ replay-is _ d s))
+
+-- ---- the target of the saturated table in place of the case's own: start 0 of model A is accepted before its first step
+
+pub saturated-target : (d : ReplayDone) → d .reply ≡ Replayed.Accepted → ReplayStates (replayA 0 [] (9 * 6)) d → ⊥
+unfolding computed replayA
+saturated-target d e s = eqb-false 0 260 refl (ap replayNumber (sym e ∙ replay-is _ d s))
+
+-- ---- cells of a step counted before the step is known to apply
+
+pub cells-counted-first : (d : ReplayDone) → d .reply ≡ Replayed.Refused 11 → ReplayStates (replayA 1 (two 0) (6 * 6)) d → ⊥
+unfolding computed replayA
+cells-counted-first d e s = eqb-false 11 260 refl (ap replayNumber (sym e ∙ replay-is _ d s))
+
+-- ---- a later step that fails named where cells are missing at "the step it has come to"
+
+pub looks-ahead : (d : ReplayDone) → d .reply ≡ Replayed.FailsAt 1 → ReplayStates (replayA 0 (two 0 ++ two 99) (8 * 6)) d → ⊥
+unfolding computed replayA
+looks-ahead d e s = eqb-false 260 11 refl (ap replayNumber (sym e ∙ replay-is _ d s))
+
+-- ---- the start file's cells counted after the first step
+
+pub start-cells-late : (d : ReplayDone) → d .reply ≡ Replayed.FailsAt 0 → ReplayStates (replayA 0 (two 99) (5 * 6 + 5)) d → ⊥
+unfolding computed replayA
+start-cells-late d e s = eqb-false 260 11 refl (ap replayNumber (sym e ∙ replay-is _ d s))

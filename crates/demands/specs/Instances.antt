@@ -1,17 +1,22 @@
 -- The demands at models A and C: their hypotheses are met by the models' files, by computation, and what follows.
 -- Assumes nothing.
+use Prim.Native.Nat.{ℕ, _*_}
 use mathlib.Core.Path.{refl}
+use mathlib.Core.List.{List, _++_}
 use lib.Dec.{lit<}
 use borrow.Author.Tests.{eqb-false}
 use Rattle.services.specs.Judge.{JudgeInput}
+use Rattle.services.specs.Replay.{ReplayInput}
 use Rattle.models.specs.Computing.{computed}
-use Rattle.models.specs.Files.{caseA, startA, caseC, startC}
+use Rattle.models.specs.Files.{two, caseA, startA, caseC, startC}
 use Rattle.demands.specs.Reach.{Runs, WonIn}
 use Rattle.demands.specs.Refusals.{Returned, judgeRefusals}
+use Rattle.demands.specs.Traces.{RealFault}
 use Rattle.demands.specs.Demand1.Proof.{demand1-judge}
 use Rattle.demands.specs.Demand2.Proof.{judge-marks}
 use Rattle.demands.specs.Demand3.{MarkedYes, GuidedRun}
 use Rattle.demands.specs.Demand3.Proof.{demand3}
+use Rattle.demands.specs.Replays.Proof.{replay-answers}
 
 -- judge with tables of 17 and 7 words and five answers
 unfoldable pub inputA : JudgeInput
@@ -61,3 +66,12 @@ run-C = judge-marks inputC (demand1-judge inputC .number) .each-mark 0 (lit< tt)
 pub guided-C : GuidedRun caseC startC 0
 unfolding inputC
 guided-C = demand3 inputC 0 marked-C
+
+-- replay of the trace of these bytes from start n of model A, with so many bytes lent for cells
+unfoldable pub replayA : ℕ → List ℕ → ℕ → ReplayInput
+replayA n trace cells = record { case = caseA; start = startA; number = n; trace = trace; cells = cells }
+
+-- rules 0 and 1 from start 0, with nine cells, are accepted, so they are a real fault
+pub fault-A : RealFault (replayA 0 (two 0 ++ two 1) (9 * 6))
+unfolding computed replayA
+fault-A = replay-answers (replayA 0 (two 0 ++ two 1) (9 * 6)) .accepted .0 refl .1

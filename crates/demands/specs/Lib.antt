@@ -1,10 +1,12 @@
 pub mod Reach
 pub mod Size
+pub mod Traces
 pub mod Refusals
 pub mod FullRun
 pub mod Demand1
 pub mod Demand2
 pub mod Demand3
+pub mod Replays
 pub mod Determined
 pub mod Instances
 pub mod Idle

@@ -6,14 +6,13 @@ use mathlib.Core.Bool.{true, false}
 use mathlib.Core.Path.{_≡_}
 use mathlib.Core.Logic.{_↔_}
 use mathlib.Core.List.{List, map}
-use lib.ListN.{getD}
 use Rattle.stacks.specs.System.{Configuration, Rule, Run}
 use Rattle.stacks.specs.Published.{Transitions, publishedRule}
 use Rattle.automata.specs.Automaton.{Automaton}
 use Rattle.automata.specs.Acceptance.{accepts2, inTarget}
 use Rattle.automata.specs.Saturation.{tableAfter}
 use Rattle.files.specs.Case.{ownOf, rulesOf}
-use Rattle.files.specs.Start.{Start, startsOf, configurationOf}
+use Rattle.files.specs.Start.{configurationAt}
 
 -- a finite run of the rules leads from c into the target of the own automaton
 pub record Reaches (rules : List Rule) (own : Automaton) (c : Configuration) : Type 0 where
@@ -29,13 +28,6 @@ pub record PublishedReaches (rules : List Rule) (own : Automaton) (c : Configura
   pub in-target : inTarget own end ≡ true
 
 -- ---- the starts of a start file
-
--- start n of a start file, and its configuration
-unfoldable pub startAt : List ℕ → ℕ → Start
-startAt file n = getD (startsOf file) n (record { control = 0; root = 0 })
-
-unfoldable pub configurationAt : List ℕ → ℕ → Configuration
-configurationAt file n = configurationOf file (startAt file n)
 
 -- a finite run of the case's rules, as document 001 publishes them, leads from start n into the target
 abbrev pub Runs : List ℕ → List ℕ → ℕ → Type 0

@@ -1,7 +1,7 @@
--- Document 01's table of refusals: each number with the sentence that says when it applies, in the order of the tests.
+-- The papers' table of refusals: each number with the sentence that says when it applies, in the order of the tests.
 -- Assumes nothing.
 pub mod Laws
-use Prim.Native.Nat.{ℕ, _≤_, _<_}
+use Prim.Native.Nat.{ℕ, _%_, _≤_, _<_}
 use mathlib.Core.Bool.{Bool, false}
 use mathlib.Core.Path.{_≡_}
 use mathlib.Core.Logic.{_⊎_}
@@ -14,7 +14,9 @@ use Rattle.files.specs.Start.{Files, startBodies, startsOf, startRight, CellByt
 use Rattle.services.specs.Saturate.{Lent}
 use Rattle.services.specs.Judge.{JudgeInput, judgeLent, judgeFiles}
 use Rattle.services.specs.Guide.{GuideInput, guideLent, guideFiles}
+use Rattle.services.specs.Replay.{ReplayInput, replayFiles}
 use Rattle.demands.specs.Size.{Exceeds}
+use Rattle.demands.specs.Traces.{CellsMissing}
 
 -- a line of the table: a number, and when it applies to an input
 pub record Refusal (X : Type 0) : Type 1 where
@@ -72,15 +74,21 @@ StartOrCellWrong f =
     SomeFails (startRight (head (f .case) .P) (cellRecords (f .start))) (startsOf (f .start))
     ⊎ CellWrong (head (f .case) .A) (cellRecords (f .start))
 
--- 7: "Guide: the start named is not in the file."
-abbrev pub StartMissing : GuideInput → Type 0
-StartMissing x = length (startsOf (x .start)) ≤ x .number
+-- 7: "The start named is not in the file."
+abbrev pub StartMissing : List ℕ → ℕ → Type 0
+StartMissing start number = length (startsOf start) ≤ number
 
 -- 8: judge has fewer answers, words of 16 bits, than starts. "Refusal 8 counts these words."
 abbrev pub AnswersShort : JudgeInput → Type 0
 AnswersShort x = x .answers < length (startsOf (x .start))
 
 -- 9 is `Exceeds` in Size.antt.
+
+-- 10: "The trace has an odd number of bytes."
+abbrev pub TraceOdd : ReplayInput → Type 0
+TraceOdd x = length (x .trace) % 2 ≡ 1
+
+-- 11 is `CellsMissing` in Traces.antt.
 
 -- ---- the numbers of each service, in the order of the tests
 
@@ -106,4 +114,13 @@ judgeRefusals =
 abbrev pub guideRefusals : List (Refusal GuideInput)
 guideRefusals =
     caseRefusals (λ x. x .case)
-    ++ (startRefusals guideFiles ++ (refusal 7 StartMissing ∷ refusal 9 (λ x. Exceeds (guideLent x)) ∷ []))
+    ++ (startRefusals guideFiles ++ (refusal 7 (λ x. StartMissing (x .start) (x .number)) ∷ refusal 9 (λ x. Exceeds (guideLent x)) ∷ []))
+
+-- of replay, 11 left out
+abbrev pub earlyRefusals : List (Refusal ReplayInput)
+earlyRefusals =
+    caseRefusals (λ x. x .case)
+    ++ (startRefusals replayFiles ++ (refusal 7 (λ x. StartMissing (x .start) (x .number)) ∷ refusal 10 TraceOdd ∷ []))
+
+abbrev pub replayRefusals : List (Refusal ReplayInput)
+replayRefusals = earlyRefusals ++ (refusal 11 CellsMissing ∷ [])

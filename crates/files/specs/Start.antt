@@ -107,3 +107,10 @@ cellsOf file = map cellOf (cellRecords file)
 -- "A start's configuration is its control with the stack that its root cell stands for."
 unfoldable pub configurationOf : List ℕ → Start → Configuration
 configurationOf file x = record { control = x .control; stack = order2 (stackAt (stacks (cellsOf file)) (x .root)) }
+
+-- start n of a start file, and its configuration
+unfoldable pub startAt : List ℕ → ℕ → Start
+startAt file n = getD (startsOf file) n (record { control = 0; root = 0 })
+
+unfoldable pub configurationAt : List ℕ → ℕ → Configuration
+configurationAt file n = configurationOf file (startAt file n)

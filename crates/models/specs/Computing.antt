@@ -11,6 +11,7 @@ use Rattle.services.specs.Guide
 use Rattle.services.specs.Judge
 use Rattle.services.specs.Listing
 use Rattle.services.specs.Memory
+use Rattle.services.specs.Replay
 use Rattle.services.specs.Run
 use Rattle.services.specs.Saturate
 use Rattle.models.specs.Files
@@ -25,7 +26,7 @@ unfolding Case.caseBodies Case.headOf Case.head Case.inner1 Case.inner2 Case.hea
 open-case = 0
 
 unfoldable pub open-start : ℕ
-unfolding Start.startBodies Start.startOf Start.cellBytes Start.startsOf Start.cellRecords Start.orderOf Start.refersTo Start.cellRight Start.cellsRight Start.startRight Start.startFileRight Start.startTests Start.startRefusal Start.cellOf Start.cellsOf Start.configurationOf
+unfolding Start.startBodies Start.startOf Start.cellBytes Start.startsOf Start.cellRecords Start.orderOf Start.refersTo Start.cellRight Start.cellsRight Start.startRight Start.startFileRight Start.startTests Start.startRefusal Start.cellOf Start.cellsOf Start.configurationOf Start.startAt Start.configurationAt
 open-start = 0
 
 unfoldable pub open-guide : ℕ
@@ -48,6 +49,10 @@ unfoldable pub open-memory : ℕ
 unfolding Lists.zeros Memory.padded Memory.moveWords Memory.entryWords Memory.moveTable Memory.entryTable Memory.lent
 open-memory = 0
 
+unfoldable pub open-replay : ℕ
+unfolding Replay.replayFiles Replay.ruleNumbers Replay.replayCells Replay.traceTests Replay.cellTests Replay.replayRefusal Replay.taken Replay.replayed Replay.replayRun Replay.replayReply Replay.replayService
+open-replay = 0
+
 unfoldable pub open-run : ℕ
 unfolding Run.runGuide Run.spacedNumbers Run.numbersText Run.traceLine Run.answerText Run.runText Run.noStart Run.withDigit Run.numberNamed
 open-run = 0
@@ -57,9 +62,9 @@ unfolding Saturate.saturated Saturate.tooLarge Saturate.sizeTests Saturate.satur
 open-saturate = 0
 
 unfoldable pub open-files : ℕ
-unfolding Files.two Files.line Files.head Files.rule Files.entry Files.plain Files.start Files.empty1 Files.symbol Files.empty2 Files.above Files.caseA Files.startA Files.caseB Files.startB Files.caseC Files.startC Files.startCC Files.caseCircle Files.times Files.startsA Files.rulesA Files.itselfA
+unfolding Files.two Files.line Files.head Files.rule Files.entry Files.plain Files.start Files.empty1 Files.symbol Files.empty2 Files.above Files.caseA Files.startA Files.caseB Files.startB Files.caseC Files.startC Files.startCC Files.caseCircle Files.casePast Files.caseCollapse Files.startCollapse Files.times Files.startsA Files.rulesA Files.itselfA
 open-files = 0
 
 unfoldable pub computed : ℕ
-unfolding open-bytes open-case open-start open-replies open-guide open-judge open-listing open-memory open-run open-saturate open-files Computing.computed
+unfolding open-bytes open-case open-start open-replies open-guide open-judge open-listing open-memory open-replay open-run open-saturate open-files Computing.computed
 computed = 0

@@ -1,9 +1,9 @@
 -- The sentences of document 01 that are marked *, its sentence "At the edges", and what document 02 states by example: a table of examples
 -- from the bytes of the files to the reply and all lent memory, and one theorem that covers it. It holds by computation of the definitions.
 -- Assumes nothing.
-use Prim.Native.Nat.{ℕ, _*_}
+use Prim.Native.Nat.{ℕ, _+_, _*_}
 use mathlib.Core.Path.{_≡_, refl}
-use mathlib.Core.List.{List, [], _∷_}
+use mathlib.Core.List.{List, [], _∷_, _++_}
 use Rattle.automata.specs.Automaton.{Automaton}
 use lib.ListN.{replicate}
 use Rattle.automata.specs.Saturation.{tableAfter}
@@ -11,15 +11,18 @@ use Rattle.automata.specs.Models
 use Rattle.replies.specs.declared.Halt.the-variants.{Arrived}
 use Rattle.replies.specs.declared.Reply.{Reply}
 use Rattle.replies.specs.declared.Reply.the-variants.{NoRun, Walked}
+use Rattle.replies.specs.declared.Replayed.{Replayed}
+use Rattle.replies.specs.declared.Replayed.the-variants.{Refused, Accepted, FailsAt}
 use Rattle.files.specs.Case.{ownOf, rulesOf}
 use Rattle.words.specs.Lists.{zeros}
 use Rattle.services.specs.Saturate.{saturateService}
 use Rattle.services.specs.Judge.{judgeService}
 use Rattle.services.specs.Guide.{guideService}
+use Rattle.services.specs.Replay.{replayService}
 use Rattle.services.specs.Listing.{listingText, ascii}
 use Rattle.services.specs.Run.{runText, numberNamed}
 use Rattle.models.specs.Computing.{computed}
-use Rattle.models.specs.Files.{caseA, startA, caseB, startB, caseC, startC, startCC, startsA, rulesA, itselfA}
+use Rattle.models.specs.Files.{two, caseA, startA, caseB, startB, caseC, startC, startCC, casePast, caseCollapse, startCollapse, startsA, rulesA, itselfA}
 
 -- ---- what an example says
 
@@ -33,6 +36,8 @@ pub data Example : Type 0 where
   judges : List ℕ → List ℕ → ℕ → ℕ → List ℕ → Example
   -- guide to the start of this number, with 17 and 7 words, 10 cells and 3 trace words lent: its reply, and what the trace holds
   guides : List ℕ → List ℕ → ℕ → Reply → List ℕ → Example
+  -- replay of the trace of these bytes from the start of this number, with so many bytes lent for cells: its reply
+  replays : List ℕ → List ℕ → ℕ → List ℕ → ℕ → Replayed → Example
   -- the text that the printing program prints
   lists : List ℕ → List ℕ → List ℕ → Example
   -- the text that the program `run` prints for the number that these bytes name
@@ -50,6 +55,9 @@ Holds (judges case start answers code words) =
 Holds (guides case start number reply trace) =
     guideService (record { case = case; start = start; number = number; moves = 17; entries = 7; cells = 10 * 68; trace = 3 })
     ≡ record { reply = reply; moves = zeros 17; entries = zeros 7; cells = zeros (10 * 68); trace = trace }
+Holds (replays case start number trace cells reply) =
+    replayService (record { case = case; start = start; number = number; trace = trace; cells = cells })
+    ≡ record { reply = reply; cells = zeros cells }
 Holds (lists case start text) = listingText (record { case = case; start = start }) ≡ text
 Holds (runs case start argument text) = runText (record { case = case; start = start }) (numberNamed argument) ≡ text
 
@@ -105,6 +113,30 @@ examples =
     ∷ guides caseC startC 0 (arrived 2 8) (0 ∷ 1 ∷ 0 ∷ [])
     ∷ judges caseC startCC 1 0 (2 ∷ [])
     ∷ guides caseC startCC 0 (arrived 1 5) (1 ∷ 0 ∷ 0 ∷ [])
+    -- Document 02, 2: what guide wrote for A's start 0 is accepted with 9 cells, that is with 54 bytes, also if some more are lent. "Only the
+    -- arrival is missing" after rule 0 alone, and after none, where the saturated table accepts but A's own does not.
+    ∷ replays caseA startA 0 (two 0 ++ two 1) (9 * 6) Accepted
+    ∷ replays caseA startA 0 (two 0 ++ two 1) (9 * 6 + 5) Accepted
+    ∷ replays caseA startA 0 (two 0) (9 * 6) (FailsAt 1)
+    ∷ replays caseA startA 0 [] (9 * 6) (FailsAt 0)
+    ∷ replays caseA startA 1 [] (6 * 6) Accepted
+    -- "The first step that fails, counted from 0": not the rule after it that does not exist; and a step that fails needs no cells.
+    ∷ replays caseA startA 0 (two 1 ++ two 99) (9 * 6) (FailsAt 0)
+    ∷ replays caseA startA 0 (two 0 ++ two 99) (9 * 6) (FailsAt 1)
+    ∷ replays caseA startA 1 (two 0) (6 * 6) (FailsAt 0)
+    -- 11 "for the start file or at the step it has come to, if that does not fail"
+    ∷ replays caseA startA 0 (two 99) (5 * 6 + 5) (Refused 11)
+    ∷ replays caseA startA 0 (two 0 ++ two 99) (8 * 6) (Refused 11)
+    -- 10: "the trace has an odd number of bytes, after 7"
+    ∷ replays caseA startA 0 (two 0 ++ (1 ∷ [])) 0 (Refused 10)
+    ∷ replays caseA startA 3 (two 0 ++ (1 ∷ [])) 0 (Refused 7)
+    -- "Apply one after another and end in the target": not where a trace goes on from the target, and not a collapse at the wrong order.
+    ∷ replays casePast startCC 0 (two 0) (5 * 6) Accepted
+    ∷ replays casePast startCC 0 (two 0 ++ two 1) (7 * 6) (FailsAt 2)
+    ∷ replays caseCollapse startCollapse 0 (two 0) (9 * 6) Accepted
+    ∷ replays caseCollapse startCollapse 0 (two 1) (9 * 6) (FailsAt 0)
+    ∷ replays caseCollapse startCollapse 1 (two 0) (9 * 6) (FailsAt 0)
+    ∷ replays caseCollapse startCollapse 1 (two 1) (8 * 6) Accepted
     -- "At the edges: 64 starts pass, 65 give 5; 256 rules pass, 257 give 1; a cell naming itself gives 6."
     ∷ judges caseA (startsA 64) 64 0 (replicate 64 1)
     ∷ judges caseA (startsA 65) 65 5 (zeros 65)
@@ -118,4 +150,4 @@ examples =
 pub all-hold : AllHold examples
 unfolding computed Models.ownA Models.firstA Models.tableA
 all-hold =
-    (refl, (refl, (refl, (refl, (refl, (refl, (refl, (refl, (refl, (refl, (refl, (refl, (refl, (refl, (refl, (refl, (refl, (refl, (refl, (refl, (refl, (refl, (refl, (refl, (refl, (refl, (refl, (refl, (refl, tt)))))))))))))))))))))))))))))
+    (refl, (refl, (refl, (refl, (refl, (refl, (refl, (refl, (refl, (refl, (refl, (refl, (refl, (refl, (refl, (refl, (refl, (refl, (refl, (refl, (refl, (refl, (refl, (refl, (refl, (refl, (refl, (refl, (refl, (refl, (refl, (refl, (refl, (refl, (refl, (refl, (refl, (refl, (refl, (refl, (refl, (refl, (refl, (refl, (refl, (refl, (refl, tt)))))))))))))))))))))))))))))))))))))))))))))))

@@ -131,6 +131,43 @@ caseCircle =
     ++ entry 1 0
     ++ plain 1 0
 
+-- ---- traces that are no faults
+
+-- Model C with a rule that goes on from its target: rules 0: (0,0,6,0,1), 1: (1,0,1,0,0). Start file: startCC.
+unfoldable pub casePast : List ℕ
+casePast =
+    (4 ∷ []) ++ line 1 1 33 ++ line 2 2 47 ++ line 3 1 57 ++ line 4 1 61
+    ++ head 2 0 0 1
+    ++ rule 0 0 6 0 1
+    ++ rule 1 0 1 0 0
+    ++ entry 1 0
+    ++ plain 0 0
+
+-- Model C with the rules 0: (0,0,7,0,1), 1: (0,0,8,0,1), which collapse.
+unfoldable pub caseCollapse : List ℕ
+caseCollapse =
+    (4 ∷ []) ++ line 1 1 33 ++ line 2 2 47 ++ line 3 1 57 ++ line 4 1 61
+    ++ head 2 0 0 1
+    ++ rule 0 0 7 0 1
+    ++ rule 0 0 8 0 1
+    ++ entry 1 0
+    ++ plain 0 0
+
+-- for it: symbol 0 annotated by the order-1 stack of symbol 0, and by the order-2 stack of that
+unfoldable pub startCollapse : List ℕ
+startCollapse =
+    (2 ∷ []) ++ line 1 2 17 ++ line 2 8 23
+    ++ start 0 5
+    ++ start 0 7
+    ++ empty1
+    ++ symbol 0 0 0
+    ++ empty2
+    ++ above 1 2
+    ++ symbol 0 1 0
+    ++ above 4 2
+    ++ symbol 0 3 0
+    ++ above 6 2
+
 -- ---- at the edges
 
 -- n times the same bytes

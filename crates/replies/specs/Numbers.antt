@@ -9,6 +9,8 @@ use Rattle.replies.specs.declared.Halt.{Halt}
 use Rattle.replies.specs.declared.Halt.the-variants.{Arrived, TraceFull, CellsShort}
 use Rattle.replies.specs.declared.Reply.{Reply}
 use Rattle.replies.specs.declared.Reply.the-variants.{Refused, NoRun, Walked}
+use Rattle.replies.specs.declared.Replayed.{Replayed}
+use Rattle.replies.specs.declared.Replayed.the-variants as Replayed
 
 -- "0 for no, otherwise that round plus 1."
 unfoldable pub answerWord : Acceptance → ℕ
@@ -43,3 +45,15 @@ replyCounts NoRun = record { steps = 0; cells = 0 }
 replyCounts (Walked (Arrived c)) = c
 replyCounts (Walked (TraceFull c)) = c
 replyCounts (Walked (CellsShort c)) = c
+
+-- The same for what replay answers: document 02's number of a refusal, 0 for a trace that is accepted, and 260 for one that fails.
+abbrev pub replayNumber : Replayed → ℕ
+replayNumber (Replayed.Refused n) = n
+replayNumber Replayed.Accepted = 0
+replayNumber (Replayed.FailsAt n) = 260
+
+-- the step that fails, 0 where none does
+abbrev pub replayStep : Replayed → ℕ
+replayStep (Replayed.Refused n) = 0
+replayStep Replayed.Accepted = 0
+replayStep (Replayed.FailsAt n) = n

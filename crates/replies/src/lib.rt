@@ -1,4 +1,4 @@
-// The answers of the three services, and of acceptance: types only. specs/ gives the papers' number and values for each of their cases.
+// The answers of the services, and of acceptance: types only. specs/ gives the papers' number and values for each of their cases.
 
 // What saturate returns: 0 with its numbers of moves and entries, or a refusal's number with 0 and 0.
 pub struct Saturation {
@@ -31,4 +31,11 @@ pub enum Reply {
     Refused(u64),
     NoRun,
     Walked(Halt),
+}
+
+// What replay answers: a refusal, that the trace is accepted, or the step that fails, counted from 0.
+pub enum Replayed {
+    Refused(u64),
+    Accepted,
+    FailsAt(u64),
 }

@@ -5,7 +5,7 @@ use Prim.Native.Nat.{ℕ, _/_, min}
 use mathlib.Core.Bool.{Bool, true, false}
 use mathlib.Core.Option.{none, some}
 use mathlib.Core.List.{List, [], _∷_, _++_}
-use lib.ListN.{length, getD}
+use lib.ListN.{length}
 use lib.Dec.{eqb, leb}
 use Rattle.automata.specs.Automaton.{Automaton}
 use Rattle.automata.specs.Acceptance.{accepts2}
@@ -16,7 +16,7 @@ use Rattle.replies.specs.declared.Halt.the-variants.{CellsShort}
 use Rattle.walks.specs.Guide.{Report, walkedBy, noRun, startWalk, guided}
 use Rattle.files.specs.Bytes.{Test, firstHit, testsOn}
 use Rattle.files.specs.Case.{caseTests, rulesOf}
-use Rattle.files.specs.Start.{Files, Start, startTests, startsOf, cellsOf, configurationOf}
+use Rattle.files.specs.Start.{Files, Start, startTests, startsOf, cellsOf, configurationOf, startAt}
 use Rattle.services.specs.Memory.{padded}
 use Rattle.words.specs.Lists.{zeros}
 use Rattle.services.specs.Saturate.{Lent, saturated, sizeTests}
@@ -38,13 +38,15 @@ unfoldable pub guideFiles : GuideInput → Files
 guideFiles x = record { case = x .case; start = x .start }
 
 -- refusal 7: "the start named is not in the file"
-unfoldable pub numberTests : List (Test GuideInput)
-numberTests = record { fails = λ x. leb (length (startsOf (x .start))) (x .number); refusal = 7 } ∷ []
+unfoldable pub numberTests : {X : Type 0} → (X → List ℕ) → (X → ℕ) → List (Test X)
+numberTests start number = record { fails = λ x. leb (length (startsOf (start x))) (number x); refusal = 7 } ∷ []
 
 -- refusals 1 to 7 and 9
 unfoldable pub guideRefusal : GuideInput → ℕ
 guideRefusal =
-    firstHit (testsOn (λ x. x .case) caseTests ++ (testsOn guideFiles startTests ++ (numberTests ++ testsOn guideLent sizeTests)))
+    firstHit
+    (testsOn (λ x. x .case) caseTests
+    ++ (testsOn guideFiles startTests ++ (numberTests (λ x. x .start) (λ x. x .number) ++ testsOn guideLent sizeTests)))
 
 -- A lent cell is 68 words of 16 bits: its four fields and a choice for each of 64 states.
 unfoldable pub cellWords : ℕ
@@ -56,7 +58,7 @@ cellsLent x = min (x .cells / cellWords) 4096
 
 -- the start named
 unfoldable pub startNamed : GuideInput → Start
-startNamed x = getD (startsOf (x .start)) (x .number) (record { control = 0; root = 0 })
+startNamed x = startAt (x .start) (x .number)
 
 -- "It is short if the lent cells .. are fewer than the start file's cells (tested before arrival, with 0 steps and 0 cells)."
 unfoldable pub guideWalk : GuideInput → Saturated → Report

@@ -10,34 +10,43 @@ use std::{env, fs};
 use second::data::{bytes, data};
 use second::file::decode_case;
 use second::lent::Lent;
+use second::replay::{self, ReplayReply};
 use second::services::{self, GuideReply, LISTING_ENTRIES, LISTING_MOVES};
 use second::table::Size;
+use second::traces::recorded;
 use second::{proved, saturation};
 
 /// The second implementation is left out where it would take longer.
 const MOST_SECONDS: f64 = 20.0;
 
+/// A replay is short: each is made so often.
+const REPLAYS: usize = 100;
+
 type Saturate = fn(&[u8], &mut [u64], &mut [u64]) -> (u64, u64, u64);
 type Judge = fn(&[u8], &[u8], &mut [u64], &mut [u64], &mut [u16]) -> u64;
 type Guide = fn(&[u8], &[u8], u64, &mut [u64], &mut [u64], &mut [u16], &mut [u16]) -> GuideReply;
+type Replay = fn(&[u8], &[u8], u64, &[u8], &mut [u8]) -> ReplayReply;
 
 /// The services of one of the two.
 struct Services {
     saturate: Saturate,
     judge: Judge,
     guide: Guide,
+    replay: Replay,
 }
 
 const PROVED: Services = Services {
     saturate: proved::saturate,
     judge: proved::judge,
     guide: proved::guide,
+    replay: proved::replay,
 };
 
 const SECOND: Services = Services {
     saturate: services::saturate,
     judge: services::judge,
     guide: services::guide,
+    replay: replay::replay,
 };
 
 impl Services {
@@ -77,6 +86,43 @@ impl Services {
             }
         })
     }
+
+    /// Replays the runs, each of which is accepted.
+    fn replay(&self, case: &[u8], start: &[u8], runs: &[(u64, Vec<u8>)]) -> f64 {
+        let mut cells = Lent::as_listing().replay_cells;
+        timed(|| {
+            for (number, trace) in runs.iter().cycle().take(REPLAYS * runs.len()) {
+                let reply = (self.replay)(case, start, *number, trace, &mut cells);
+                assert_eq!(reply, ReplayReply::Accepted);
+            }
+        })
+    }
+}
+
+/// What the proved guide writes for each start from which it arrives, with the
+/// start's number.
+fn runs(case: &[u8], start: &[u8]) -> Vec<(u64, Vec<u8>)> {
+    let run = |number: u64| {
+        let Lent {
+            mut moves,
+            mut entries,
+            mut cells,
+            mut trace,
+            ..
+        } = Lent::as_listing();
+        let reply = proved::guide(
+            case,
+            start,
+            number,
+            &mut moves,
+            &mut entries,
+            &mut cells,
+            &mut trace,
+        );
+        let arrived = matches!(reply, GuideReply::Arrived { .. });
+        arrived.then(|| (number, recorded(&trace[..reply.steps()])))
+    };
+    (0..starts(start)).filter_map(run).collect()
 }
 
 /// The seconds that the calls take.
@@ -130,6 +176,13 @@ fn bench(name: &str) {
     let guided = soon(starts).then(|| SECOND.guide(&case, &start));
     let proved = PROVED.guide(&case, &start);
     print_line(&format!("guide, {starts} starts"), proved, guided);
+    let runs = runs(&case, &start);
+    if !runs.is_empty() {
+        let proved = PROVED.replay(&case, &start, &runs);
+        let replayed = SECOND.replay(&case, &start, &runs);
+        let what = format!("replay, {} runs, {REPLAYS} times", runs.len());
+        print_line(&what, proved, Some(replayed));
+    }
 }
 
 /// The table's moves, entries and rounds.

@@ -1,12 +1,13 @@
 -- What holds of cells and choices that are written one after another: the cells before them are kept, and these follow.
 -- Assumes nothing.
-use Prim.Native.Nat.{ℕ, zero, suc, _+_, _*_, _<_, _≤_}
+use Prim.Native.Nat.{ℕ, zero, suc, _+_, _*_, _-_, _<_, _≤_}
 use mathlib.Core.Path.{_≡_, refl, ap, ap₂, sym, _∙_}
 use mathlib.Core.List.{List, [], _∷_, _++_, map, zipWith, append-nil, append-assoc}
 use native.Mathlib.Nat.{add-zero}
 use native.Mathlib.Numerals.{add-one}
 use native.Mathlib.Omega.{arith}
-use lib.ListN.{length, getD}
+use lib.ListN.{length, getD, take, List·getD-append}
+use lib.Seq.{length-take-le, take-suc, take-length}
 use Rattle.stacks.specs.Stack as Stack
 use Rattle.stacks.specs.Stack.{rewrite, push1, push2, copy, pop1, pop2, collapse1, collapse2, newCells}
 use Rattle.files.specs.Case.{operationOf}
@@ -18,7 +19,7 @@ use Rattle.case_records.specs.declared.Operation.{Operation}
 use Rattle.case_records.specs.Values.{theOperation}
 use Rattle.cell_memory.specs.Memory.{cellOf, valueOf, guidedCell, guidedIn, withCell}
 use Rattle.cell_memory.specs.Memory.Laws.{cellOf-valueOf, guidedIn-same, choosing, length-withCell, withCell-other, withCell-guided, length-withChoice, withChoice-other, withChoice-guided, length-withChoices, withChoices-other, withChoices-guided}
-use Rattle.cell_steps.specs.Steps.{putFrom, putCell, withCells, symbolOf, CellChoices, one, all, choiceOf, withChosen, withAllChosen, stepChosen, stepChoices, plain, guidedBy}
+use Rattle.cell_steps.specs.Steps.{putFrom, putCell, withCells, cellNumber, CellsPut, symbolOf, CellChoices, one, all, choiceOf, withChosen, withAllChosen, stepChosen, stepChoices, plain, guidedBy}
 
 -- ---- cells from a number on
 
@@ -81,6 +82,39 @@ module _ {X : Type 0} (put : List ℕ → ℕ → X → List ℕ) where
   putFrom-before ChoicesFit other (x ∷ xs) h ws n i l =
       let d : i ≡ n → ⊥ = omega arith in
       putFrom-before ChoicesFit other xs (h .1) (put ws n x) (n + 1) i (omega arith) ∙ other ws n x (h .0) i d
+
+-- ---- cells one after another
+
+module _ (put : List ℕ → ℕ → walks.Cell → List ℕ) where
+  pub cells-none : (ws : List ℕ) (n : ℕ) (cs : List walks.Cell) → CellsPut put ws n cs 0 ws
+  unfolding putFrom
+  cells-none ws n cs = record { within = omega arith; is = refl }
+
+  cells-next : {ws us vs : List ℕ} {n : ℕ} {cs : List walks.Cell} {i : ℕ} {c : walks.Cell} → CellsPut put ws n cs i us → i < length cs
+      → c ≡ cellNumber cs i → vs ≡ put us (n + i) c → CellsPut put ws n cs (i + 1) vs
+  unfolding putFrom cellNumber
+  cells-next {ws} {us} {vs} {n} {cs} {i} {c} h l e f =
+      let k : length (take i cs) ≡ i = length-take-le i cs (h .within) in
+      let g : vs ≡ put us (n + length (take i cs)) (getD cs i walks.empty1) = f ∙ λ j. put us (n + sym k j) (e j) in
+      record {
+        within = omega arith;
+        is = put-more put ws n (take i cs) (getD cs i walks.empty1 ∷ []) (h .is) g
+            ∙ ap (putFrom put ws n) (sym (ap (λ (m : ℕ). take m cs) (add-one i) ∙ take-suc cs i walks.empty1 l));
+      }
+
+  cells-all : {ws us : List ℕ} {n : ℕ} {cs : List walks.Cell} {i : ℕ} → CellsPut put ws n cs i us → length cs ≤ i → us ≡ putFrom put ws n cs
+  cells-all {ws} {us} {n} {cs} {i} h l =
+      let e : i ≡ length cs = omega (arith, h .within) in
+      h .is ∙ ap (putFrom put ws n) (ap (λ (k : ℕ). take k cs) e ∙ take-length cs)
+
+  -- of an operation
+  module _ (op : Stack.Operation) {ws us : List ℕ} (n a u s t : ℕ) {i : ℕ} (h : CellsPut put ws n (cellsAfter op n a u s t) i us) where
+    pub step-next : {vs : List ℕ} {c : walks.Cell} → i < newCells op → c ≡ cellNumber (cellsAfter op n a u s t) i → vs ≡ put us (n + i) c
+        → CellsPut put ws n (cellsAfter op n a u s t) (i + 1) vs
+    step-next l e f = let k : length (cellsAfter op n a u s t) ≡ newCells op = length-cellsAfter op n a u s t in cells-next h (omega arith) e f
+
+    pub step-all : newCells op ≤ i → us ≡ putFrom put ws n (cellsAfter op n a u s t)
+    step-all l = let k : length (cellsAfter op n a u s t) ≡ newCells op = length-cellsAfter op n a u s t in cells-all h (omega arith)
 
 -- ---- cells
 
@@ -200,10 +234,47 @@ module _ (r number p′ edge : ℕ) (es ms : List ℕ) where
 
 -- ---- an operation by value
 
--- what is written for the operation that op is, is written for op
-pub cells-by : {out : List ℕ} {op o : Operation} (ws : List ℕ) (n a u s t : ℕ) → op ≡ o → out ≡ withCells ws n (cellsAfter (theOperation o) n a u s t)
-    → out ≡ withCells ws n (cellsAfter (theOperation op) n a u s t)
-cells-by ws n a u s t e h = h ∙ ap (λ (x : Operation). withCells ws n (cellsAfter (theOperation x) n a u s t)) (sym e)
+-- the first cell of a list, and one of the others
+pub at-first : (x : walks.Cell) (xs : List walks.Cell) {i : ℕ} → i ≡ 0 → x ≡ cellNumber (x ∷ xs) i
+unfolding cellNumber
+at-first x xs e = ap (λ (j : ℕ). getD (x ∷ xs) j walks.empty1) (sym e)
+
+pub at-next : (x : walks.Cell) (xs : List walks.Cell) (i : ℕ) {v : walks.Cell} → (i ≡ 0 → ⊥) → v ≡ cellNumber xs (i - 1) → v ≡ cellNumber (x ∷ xs) i
+unfolding cellNumber
+at-next x xs i h f =
+    let e : suc (i - 1) ≡ i = omega arith in
+    f ∙ ap (λ (j : ℕ). getD (x ∷ xs) j walks.empty1) e
+
+-- one of the first two of four, and one of the others
+pub at-lower : (a b x y : walks.Cell) (i : ℕ) {v : walks.Cell} → i < 2 → v ≡ cellNumber (a ∷ b ∷ []) i → v ≡ cellNumber (a ∷ b ∷ x ∷ y ∷ []) i
+unfolding cellNumber
+at-lower a b x y i h f = f ∙ sym (List·getD-append (a ∷ b ∷ []) (x ∷ y ∷ []) walks.empty1 i h)
+
+pub at-upper : (a b x y : walks.Cell) (i : ℕ) {v : walks.Cell} → 2 ≤ i → v ≡ cellNumber (x ∷ y ∷ []) (i - 2) → v ≡ cellNumber (a ∷ b ∷ x ∷ y ∷ []) i
+at-upper a b x y i h f =
+    let d : i ≡ 0 → ⊥ = omega arith in
+    let d′ : i - 1 ≡ 0 → ⊥ = omega arith in
+    let e : i - 2 ≡ i - 1 - 1 = omega arith in
+    at-next a (b ∷ x ∷ y ∷ []) i d (at-next b (x ∷ y ∷ []) (i - 1) d′ (f ∙ ap (cellNumber (x ∷ y ∷ [])) e))
+
+-- the new cells of the operation that op is are those of op
+pub cell-by : {v : walks.Cell} {op o : Operation} (n a u s t i : ℕ) → op ≡ o → v ≡ cellNumber (cellsAfter (theOperation o) n a u s t) i
+    → v ≡ cellNumber (cellsAfter (theOperation op) n a u s t) i
+cell-by n a u s t i e h = h ∙ ap (λ (x : Operation). cellNumber (cellsAfter (theOperation x) n a u s t) i) (sym e)
+
+-- an operation with one new cell or none
+pub cell-one : {op o : Operation} (n a u s t i : ℕ) (v : walks.Cell) → op ≡ o → cellsAfter (theOperation o) n a u s t ≡ v ∷ []
+    → i < newCells (theOperation op) → v ≡ cellNumber (cellsAfter (theOperation op) n a u s t) i
+cell-one {op} {o} n a u s t i v e f h =
+    let l : length (cellsAfter (theOperation op) n a u s t) ≡ newCells (theOperation op) = length-cellsAfter (theOperation op) n a u s t in
+    let k : length (cellsAfter (theOperation op) n a u s t) ≡ 1 = ap (λ (x : Operation). length (cellsAfter (theOperation x) n a u s t)) e ∙ ap length f in
+    let z : i ≡ 0 = omega arith in
+    cell-by n a u s t i e (at-first v [] z ∙ ap (λ (cs : List walks.Cell). cellNumber cs i) (sym f))
+
+pub cell-none : {op o : Operation} (n a u s t i : ℕ) → op ≡ o → cellsAfter (theOperation o) n a u s t ≡ []
+    → walks.empty1 ≡ cellNumber (cellsAfter (theOperation op) n a u s t) i
+unfolding cellNumber
+cell-none n a u s t i e f = cell-by n a u s t i e (ap (λ (cs : List walks.Cell). getD cs i walks.empty1) (sym f))
 
 pub chosen-by : {out : List ℕ} {op o : Operation} (ws : List ℕ) (n r number p′ edge : ℕ) (es ms : List ℕ) → op ≡ o
     → out ≡ withAllChosen ws n (stepChosen r number p′ edge es ms (theOperation o)) → out ≡ withAllChosen ws n (stepChosen r number p′ edge es ms (theOperation op))

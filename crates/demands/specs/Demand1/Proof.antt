@@ -2,6 +2,7 @@
 -- Assumes nothing.
 use Prim.Native.Nat.{ℕ, _≤_, _<_}
 use mathlib.Core.Path.{_≡_, refl, ap, sym, _∙_, subst}
+use mathlib.Core.Logic.{inl, inr}
 use mathlib.Core.Option.{none, some, Option·none-ne-some}
 use mathlib.Core.Bool.{true, false}
 use mathlib.Core.List.{List, [], _∷_, map}
@@ -12,6 +13,8 @@ use borrow.Author.Tests.{eqb-false}
 use Rattle.words.specs.Lists.Laws.{length-zeros}
 use Rattle.automata.specs.Saturation.{Saturated}
 use Rattle.rounds.specs.Limits.{KeepsLimits, saturate-some, within-keeps}
+use Rattle.replies.specs.declared.Replayed.{Replayed}
+use Rattle.replies.specs.declared.Replayed.the-variants as Replayed
 use Rattle.replies.specs.Numbers.{countsOf}
 use Rattle.walks.specs.Guide.{Report, walkedBy, noRun}
 use Rattle.files.specs.Case.{caseRefusal, ownOf, rulesOf}
@@ -24,13 +27,18 @@ use Rattle.services.specs.Judge.{JudgeInput, JudgeDone, judgeFiles, judgeLent, 
 use Rattle.services.specs.Judge.Laws.{JudgeCase, start-refused, answers-short, judged, judge-cases}
 use Rattle.services.specs.Guide.{GuideInput, GuideDone, accepted, guideFiles, guideLent, startNamed, guideWalk, guideLeft, refused, guideService}
 use Rattle.services.specs.Guide.Laws.{GuideCase, Started, start-missing, no-run, cells-short, walked, guide-cases, walk-goes, walk-short}
+use Rattle.services.specs.Replay.{ReplayInput, ReplayDone, replayFiles, replayRun, replayService}
+use Rattle.services.specs.Replay.Laws.{Replays, replies, ReplayCase, trace-odd, start-short, replays, replay-cases}
 use Rattle.demands.specs.Size.{Exceeds}
 use Rattle.demands.specs.Size.Laws.{saturated-table, none-exceeds, exceeds-none}
-use Rattle.demands.specs.Refusals.{Refusal, refusal, Returned, AnswersShort, StartMissing, saturateRefusals, judgeRefusals, guideRefusals}
+use Rattle.demands.specs.Traces.{CellsMissing}
+use Rattle.demands.specs.Traces.Laws.{Ends, accepts, fails-at, is-short, replay-ends, fault-fits, fails-fits}
+use Rattle.demands.specs.Refusals.{Refusal, refusal, Returned, AnswersShort, StartMissing, TraceOdd}
+use Rattle.demands.specs.Refusals.{saturateRefusals, judgeRefusals, guideRefusals, replayRefusals}
 use Rattle.demands.specs.Refusals.Laws.{case-returned, past-case, files-case, files-start, past-files, applies-here, applies-not, none-applies}
 use Rattle.demands.specs.FullRun.{fullTrace}
 use Rattle.demands.specs.FullRun.Laws.{full-short}
-use Rattle.demands.specs.Demand1.{SaturateStates, JudgeStates, Answered, GuideStates, Demand1}
+use Rattle.demands.specs.Demand1.{SaturateStates, JudgeStates, Answered, GuideStates, ReplayAnswered, ReplayStates, Demand1}
 use Rattle.demands.specs.Laws.Accepted.{table-marks, mark-at, started-runs, started-none}
 use Rattle.demands.specs.Demand3.Answer.{walk-report}
 
@@ -151,10 +159,10 @@ module _ (x : JudgeInput) where
 
 module _ (x : GuideInput) where
   abbrev numberLines : List (Refusal GuideInput)
-  numberLines = refusal 7 StartMissing ∷ refusal 9 (λ y. Exceeds (guideLent y)) ∷ []
+  numberLines = refusal 7 (λ y. StartMissing (y .start) (y .number)) ∷ refusal 9 (λ y. Exceeds (guideLent y)) ∷ []
 
   there-guide : (n : ℕ) → x .number < length (startsOf (x .start)) → Returned (refusal 9 (λ y. Exceeds (guideLent y)) ∷ []) x n → Returned numberLines x n
-  there-guide n h r = applies-not (refusal 7 StartMissing) _ x n (λ l. lt-irrefl _ (lt-of-lt-of-le h l)) r
+  there-guide n h r = applies-not (refusal 7 (λ y. StartMissing (y .start) (y .number))) _ x n (λ l. lt-irrefl _ (lt-of-lt-of-le h l)) r
 
   -- where guide does not refuse
   started-returned : (T : Saturated) → Started x T → Returned guideRefusals x 0
@@ -191,12 +199,57 @@ module _ (x : GuideInput) where
       go : (d : GuideDone) → GuideCase x d → GuideStates x d
       go d (GuideCase.case-refused bad) = guide-refused _ bad (files-case x (λ y. y .case) guideFiles numberLines bad)
       go d (GuideCase.start-refused s bad) = guide-refused _ bad (files-start x (λ y. y .case) guideFiles numberLines s bad)
-      go d (start-missing s f h) = guide-refused 7 (eqb-false 7 0 refl) (past-files x (λ y. y .case) guideFiles numberLines 7 s f (applies-here (refusal 7 StartMissing) _ x h))
+      go d (start-missing s f h) = guide-refused 7 (eqb-false 7 0 refl) (past-files x (λ y. y .case) guideFiles numberLines 7 s f (applies-here (refusal 7 (λ y. StartMissing (y .start) (y .number))) _ x h))
       go d (GuideCase.size-exceeded s f h o) =
           guide-refused 9 (eqb-false 9 0 refl) (past-files x (λ y. y .case) guideFiles numberLines 9 s f (there-guide 9 h (size-applies guideLent x s o)))
       go d (no-run T s a) = guide-none T s a
       go d (cells-short T s a l) = guide-walks T s a (walk-short x T l)
       go d (walked T s a l) = guide-walks T s a (walk-goes x T l)
 
+-- ---- replay
+
+module _ (x : ReplayInput) where
+  abbrev shortLine : Refusal ReplayInput
+  shortLine = refusal 11 CellsMissing
+
+  abbrev traceLines : List (Refusal ReplayInput)
+  traceLines = refusal 7 (λ y. StartMissing (y .start) (y .number)) ∷ refusal 10 TraceOdd ∷ shortLine ∷ []
+
+  there-replay : (n : ℕ) → x .number < length (startsOf (x .start)) → Returned (refusal 10 TraceOdd ∷ shortLine ∷ []) x n → Returned traceLines x n
+  there-replay n h r = applies-not (refusal 7 (λ y. StartMissing (y .start) (y .number))) _ x n (λ l. lt-irrefl _ (lt-of-lt-of-le h l)) r
+
+  even-replay : (n : ℕ) → (TraceOdd x → ⊥) → Returned (shortLine ∷ []) x n → Returned (refusal 10 TraceOdd ∷ shortLine ∷ []) x n
+  even-replay n h r = applies-not (refusal 10 TraceOdd) _ x n h r
+
+  -- the line of 11, where none before it applies
+  past-early : (n : ℕ) → Replays x → Returned (shortLine ∷ []) x n → Returned replayRefusals x n
+  past-early n p r = past-files x (λ y. y .case) replayFiles traceLines n (p .sound-case) (p .sound-start) (there-replay n (p .start-there) (even-replay n (p .even) r))
+
+  replay-fits : (CellsMissing x → ⊥) → Returned (shortLine ∷ []) x 0
+  replay-fits h = applies-not shortLine [] x 0 h (none-applies x)
+
+  pub ended-answered : Replays x → (r : Replayed) → Ends x r → ReplayAnswered x r
+  ended-answered p r (accepts f) = (past-early 0 p (replay-fits (fault-fits x f)), f)
+  ended-answered p r (fails-at s) = (past-early 0 p (replay-fits (fails-fits x s)), s)
+  ended-answered p r (is-short s) = (past-early 11 p (applies-here shortLine [] x (inr s)), eqb-false 11 0 refl)
+
+  pub demand1-replay : ReplayStates x (replayService x)
+  demand1-replay = go (replayService x) (replay-cases x)
+    where
+      refuses : (n : ℕ) → (n ≡ 0 → ⊥) → Returned replayRefusals x n → ReplayStates x (replies x (Replayed.Refused n))
+      refuses n bad r = record { answered = (r, bad); cells-zero = refl }
+
+      go : (d : ReplayDone) → ReplayCase x d → ReplayStates x d
+      go d (ReplayCase.case-refused bad) = refuses _ bad (files-case x (λ y. y .case) replayFiles traceLines bad)
+      go d (ReplayCase.start-refused s bad) = refuses _ bad (files-start x (λ y. y .case) replayFiles traceLines s bad)
+      go d (ReplayCase.start-missing s f h) =
+          refuses 7 (eqb-false 7 0 refl) (past-files x (λ y. y .case) replayFiles traceLines 7 s f (applies-here (refusal 7 (λ y. StartMissing (y .start) (y .number))) _ x h))
+      go d (trace-odd s f t h) =
+          refuses 10 (eqb-false 10 0 refl) (past-files x (λ y. y .case) replayFiles traceLines 10 s f (there-replay 10 t (applies-here (refusal 10 TraceOdd) _ x h)))
+      go d (start-short s f t e h) =
+          refuses 11 (eqb-false 11 0 refl)
+          (past-files x (λ y. y .case) replayFiles traceLines 11 s f (there-replay 11 t (even-replay 11 e (applies-here shortLine [] x (inl h)))))
+      go d (replays p) = record { answered = ended-answered p (replayRun x) (replay-ends x (p .start-fits)); cells-zero = refl }
+
 pub demand1 : Demand1
-demand1 = (demand1-saturate, demand1-judge, demand1-guide)
+demand1 = (demand1-saturate, demand1-judge, demand1-guide, demand1-replay)

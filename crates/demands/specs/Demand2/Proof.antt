@@ -23,7 +23,7 @@ use Rattle.replies.specs.declared.Reply.the-variants.{Refused, NoRun, Walked}
 use Rattle.replies.specs.Numbers.{refusalOf}
 use Rattle.walks.specs.Guide.{Report, walkedBy, noRun}
 use Rattle.files.specs.Case.{ownOf, rulesOf}
-use Rattle.files.specs.Start.{startsOf}
+use Rattle.files.specs.Start.{startsOf, configurationAt}
 use Rattle.services.specs.Memory.Laws.{getD-padded}
 use Rattle.services.specs.Saturate.{Lent, SaturateDone, saturated, saturateRefused, saturateFilled, saturateService}
 use Rattle.services.specs.Saturate.Laws.{SaturateCase, case-refused, size-exceeded, filled, saturate-cases}
@@ -31,7 +31,7 @@ use Rattle.services.specs.Judge.{JudgeInput, JudgeDone, judgeLent, judgeLeft, j
 use Rattle.services.specs.Judge.Laws.{JudgeCase, start-refused, answers-short, judged, judge-cases}
 use Rattle.services.specs.Guide.{GuideInput, GuideDone, accepted, guideLent, startNamed, guideWalk, guideLeft, refused, guideService}
 use Rattle.services.specs.Guide.Laws.{GuideCase, Started, start-missing, no-run, cells-short, walked, guide-cases, walk-goes}
-use Rattle.demands.specs.Reach.{configurationAt, Runs, WonIn, Marks}
+use Rattle.demands.specs.Reach.{Runs, WonIn, Marks}
 use Rattle.demands.specs.Size.{Exceeds}
 use Rattle.demands.specs.Size.Laws.{none-exceeds, exceeds-none}
 use Rattle.demands.specs.Refusals.{Returned, refusal, StartMissing, judgeRefusals, guideRefusals}
@@ -75,7 +75,7 @@ start-there x r =
     let after-4 = unreturned _ _ x (eqb-false 0 4 refl) after-3 .1 in
     let after-5 = unreturned _ _ x (eqb-false 0 5 refl) after-4 .1 in
     let after-6 = unreturned _ _ x (eqb-false 0 6 refl) after-5 .1 in
-    let there = unreturned (refusal 7 StartMissing) _ x (eqb-false 0 7 refl) after-6 .0 in
+    let there = unreturned (refusal 7 (λ y. StartMissing (y .start) (y .number))) _ x (eqb-false 0 7 refl) after-6 .0 in
     by-test (leb (length (startsOf (x .start))) (x .number)) (λ t. absurd (there (leb-true _ _ t))) (λ t. leb-false _ _ t)
 
 -- what demand 1 says of an answer gives: no run exactly if there is none

@@ -22,7 +22,7 @@ use Rattle.replies.specs.declared.Halt.{Halt}
 use Rattle.replies.specs.declared.Halt.the-variants.{CellsShort}
 use Rattle.walks.specs.Guide.{Walk, walkConfiguration, walkAfter, traceAfter, walkedBy, guided}
 use Rattle.files.specs.Case.{ownOf, rulesOf}
-use Rattle.files.specs.Start.{Files, Start, startTests, startRefusal, startsOf, cellsOf, configurationOf}
+use Rattle.files.specs.Start.{Files, Start, startTests, startRefusal, startsOf, cellsOf, configurationOf, startAt, configurationAt}
 use Rattle.files.specs.Bytes.{firstHit}
 use Rattle.files.specs.Start.Laws.{start-facts, start-cells}
 use Rattle.services.specs.Memory.{lent}
@@ -37,7 +37,6 @@ use Rattle.guidance.specs.Prefix.{FirstHalt, guided-prefix, guided-arrives, arr
 use Rattle.guidance.specs.Decoration.{start-bare}
 use Rattle.guidance.specs.Arrival.{GuidedArrival, start-arrival, start-configuration}
 use Rattle.demands.specs.Laws.FromBytes.{case-saturated}
-use Rattle.demands.specs.Reach.{startAt, configurationAt}
 use Rattle.demands.specs.FullRun.{saturatedTable, walkFrom, fullTrace, used, HaltsAfter, is-full, Stops}
 use Rattle.demands.specs.FullRun.Laws.{saturated-is, full-walk, full-trace, full-next, stop-halts, stop-least, cells-after, length-trace}
 use Rattle.demands.specs.Demand3.{Walks, TooShort, AnswersRun, RunArrives}

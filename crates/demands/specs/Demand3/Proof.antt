@@ -12,13 +12,13 @@ use Rattle.automata.specs.Saturation.{Saturated}
 use Rattle.replies.specs.Numbers.{refusalOf}
 use Rattle.walks.specs.Guide.{Report, walkedBy, noRun}
 use Rattle.files.specs.Case.{caseRefusal}
-use Rattle.files.specs.Start.{startRefusal, startsOf}
+use Rattle.files.specs.Start.{startRefusal, startsOf, startAt}
 use Rattle.services.specs.Saturate.{saturated}
 use Rattle.services.specs.Judge.{JudgeInput, JudgeDone, judgeLent, judgeFiles, judgeLeft, judgeService}
 use Rattle.services.specs.Judge.Laws.{JudgeCase, case-refused, start-refused, answers-short, size-exceeded, judged, judge-cases}
 use Rattle.services.specs.Guide.{GuideInput, GuideDone, accepted, guideFiles, guideLent, startNamed, guideWalk, guideLeft, refused, guideService}
 use Rattle.services.specs.Guide.Laws.{GuideCase, Started, start-missing, no-run, cells-short, walked, guide-cases, walk-goes, walk-short}
-use Rattle.demands.specs.Reach.{startAt, Runs}
+use Rattle.demands.specs.Reach.{Runs}
 use Rattle.demands.specs.Refusals.{Returned, guideRefusals}
 use Rattle.demands.specs.FullRun.{saturatedTable}
 use Rattle.demands.specs.FullRun.Laws.{saturated-is, one-full-run}

@@ -26,7 +26,7 @@ use Rattle.rounds.specs.Won.Few.{saturated-accepts, word-few}
 use Rattle.walks.specs.Cell.Values.{getD-map-below}
 use Rattle.files.specs.Case.Laws.{case-rules, case-table, case-own}
 use Rattle.files.specs.Case.{ownOf, rulesOf, caseRefusal}
-use Rattle.files.specs.Start.{Files, Start, startRefusal, startsOf, configurationOf}
+use Rattle.files.specs.Start.{Files, Start, startRefusal, startsOf, configurationOf, startAt, configurationAt}
 use Rattle.services.specs.Memory.{lent, padded}
 use Rattle.services.specs.Memory.Laws.{getD-padded}
 use Rattle.services.specs.Saturate.{Lent, saturated}
@@ -35,7 +35,7 @@ use Rattle.services.specs.Judge.Laws.{JudgeCase, case-refused, start-refused, a
 use Rattle.services.specs.Guide.{GuideInput, accepted, guideLent, startNamed}
 use Rattle.services.specs.Guide.Laws.{Started}
 use Rattle.services.specs.Listing.{listingJudge, roundWon}
-use Rattle.demands.specs.Reach.{startAt, configurationAt, Runs, roundTable, WonIn, Marks}
+use Rattle.demands.specs.Reach.{Runs, roundTable, WonIn, Marks}
 use Rattle.demands.specs.Reach.Laws.{reaches-published, accepted-reaches, reaches-accepted}
 
 -- a saturated table of a sound case accepts a start exactly if there is a run from it

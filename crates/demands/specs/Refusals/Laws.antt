@@ -1,4 +1,4 @@
--- The first number of document 01's table that applies: there is only one, and the tests of the files find it.
+-- The first number of the papers' table that applies: there is only one, and the tests of the files find it.
 -- Assumes nothing.
 use Prim.Native.Nat.{ℕ, zero, suc, _+_, _<_}
 use mathlib.Core.Bool.{Bool, true, false, not, _&&_, false≢true}
@@ -8,11 +8,12 @@ use mathlib.Core.List.{List, [], _∷_, _++_, map, List·Memᴰ, List·Memᴰ·h
 use native.Mathlib.Nat.{zero-add}
 use native.Mathlib.Omega.{arith}
 use lib.ListN.{length, getD}
-use lib.Dec.{leb}
-use borrow.Author.Tests.{leb-false, lt-leb}
+use lib.Dec.{eqb, leb}
+use borrow.Author.Tests.{eqb-false, leb-false, lt-leb}
+use borrow.Author.Tests as tests
 use Rattle.words.specs.Lists.{every}
 use Rattle.words.specs.Lists.Laws.{every-in}
-use Rattle.words.specs.Laws.Tests.{by-test}
+use Rattle.words.specs.Laws.Tests.{by-test, and-left, and-right}
 use Rattle.words.specs.Order.{rising}
 use Rattle.files.specs.Bytes.{Test, firstHit, testsOn, placed}
 use Rattle.files.specs.Bytes.Laws.{numbered, numbered-cons, numbered-testsOn, unrefused, firstHit-fails, firstHit-passes, firstHit-testsOn}
@@ -51,6 +52,48 @@ module _ {X : Type 0} where
   unfolding Returned
   unreturned r rs x bad (inl (a, e)) = absurd (bad e)
   unreturned r rs x bad (inr (a, e)) = (a, e)
+
+  -- ---- lines before others
+
+  -- k is the number of none of these lines
+  unfoldable pub unlisted : ℕ → List (Refusal X) → Bool
+  unlisted k [] = true
+  unlisted k (r ∷ rs) = not (eqb k (r .number)) && unlisted k rs
+
+  unlisted-cons : (k : ℕ) (r : Refusal X) (rs : List (Refusal X)) → unlisted k (r ∷ rs) ≡ true → (k ≡ r .number → ⊥) × (unlisted k rs ≡ true)
+  unfolding unlisted
+  unlisted-cons k r rs u =
+      let t : Bool = not (eqb k (r .number)) in
+      (eqb-false k (r .number) (tests.not-true (eqb k (r .number)) (and-left t _ u)), and-right t _ u)
+
+  -- where no number is returned, none of the first lines is
+  pub returned-before : (rs more : List (Refusal X)) (x : X) → Returned (rs ++ more) x 0 → Returned rs x 0
+  unfolding Returned
+  returned-before [] more x e = refl
+  returned-before (r ∷ rs) more x (inl a) = inl a
+  returned-before (r ∷ rs) more x (inr (a, e)) = inr (a, returned-before rs more x e)
+
+  -- where none of the first lines is returned, those that follow count
+  pub returned-then : (rs more : List (Refusal X)) (x : X) (n : ℕ) → unlisted 0 rs ≡ true → Returned rs x 0 → Returned more x n → Returned (rs ++ more) x n
+  unfolding Returned
+  returned-then [] more x n u e b = b
+  returned-then (r ∷ rs) more x n u e b =
+      let (h, v) = unlisted-cons 0 r rs u in
+      let (a, f) = unreturned r rs x h e in
+      inr (a, returned-then rs more x n v f b)
+
+  -- where the number of the last line alone is returned, that line applies, and none before it is returned
+  pub returned-last : (rs : List (Refusal X)) (r : Refusal X) (x : X) → unlisted (r .number) rs ≡ true → (r .number ≡ 0 → ⊥)
+      → Returned (rs ++ r ∷ []) x (r .number) → Returned rs x 0 × r .applies x
+  unfolding Returned
+  returned-last [] r x u bad (inl (a, e)) = (refl, a)
+  returned-last [] r x u bad (inr (a, e)) = absurd (bad e)
+  returned-last (s ∷ rs) r x u bad (inl (a, e)) = absurd (unlisted-cons (r .number) s rs u .0 e)
+  returned-last (s ∷ rs) r x u bad (inr (a, e)) =
+      let (f, b) = returned-last rs r x (unlisted-cons (r .number) s rs u .1) bad e in
+      (inr (a, f), b)
+
+  -- ---- tests and lines
 
   -- A list of tests and a list of refusals say the same of x: each test has the number of its refusal and fails exactly if that applies, where
   -- the tests before it have passed.

@@ -13,13 +13,12 @@ use Rattle.replies.specs.declared.Acceptance.{Acceptance}
 use Rattle.replies.specs.Numbers.{answerWord}
 use Rattle.automata.specs.Saturation.{Saturated}
 use Rattle.rounds.specs.Won.{round2}
-use Rattle.files.specs.Start.{startsOf, configurationOf}
+use Rattle.files.specs.Start.{startsOf, configurationOf, startAt}
 use Rattle.services.specs.Memory.{padded}
 use Rattle.services.specs.Memory.Laws.{getD-padded}
 use Rattle.services.specs.Saturate.{saturated}
 use Rattle.services.specs.Judge.{JudgeInput, JudgeDone, judgeFiles, judgeLent, judgeLeft, mark}
 use Rattle.services.specs.Judge.Laws.{JudgeCase, case-refused, start-refused, answers-short, size-exceeded, judged, judge-cases}
-use Rattle.demands.specs.Reach.{startAt}
 use Rattle.sound_files.specs.Refusal.{FilesSound, refusedBefore}
 use Rattle.sound_files.specs.Refusal.Laws.{before-below}
 use Rattle.sound_files.specs.Sound.Laws.{starts-few}

@@ -14,7 +14,7 @@ use Rattle.replies.specs.declared.Reply.the-variants.{NoRun}
 use Rattle.replies.specs.declared.Halt.the-variants.{CellsShort}
 use Rattle.walks.specs.Guide.{Report, walkedBy, noRun, startWalk, guided}
 use Rattle.files.specs.Case.{rulesOf}
-use Rattle.files.specs.Start.{Start, startOf, startsOf, cellsOf}
+use Rattle.files.specs.Start.{Start, startOf, startsOf, cellsOf, startAt}
 use Rattle.words.specs.Lists.{zeros}
 use Rattle.services.specs.Guide.{GuideInput, accepted, cellWords, cellsLent, startNamed, guideWalk, guideRun}
 use Rattle.services.specs.Guide.Laws.{walk-short, walk-goes}
@@ -25,7 +25,6 @@ use Rattle.rounds.specs.Won.Laws.{round2-accepts}
 use Rattle.acceptance.specs.Cells.{RoundsStand}
 use Rattle.acceptance.specs.Cells.Laws.{StatesBelow}
 use Rattle.guided_walk.specs.Turns.{Leaves}
-use Rattle.demands.specs.Reach.{startAt}
 use Rattle.sound_files.specs.Starts.{startRound}
 use Rattle.sound_files.specs.Sound.{StartSound}
 use Rattle.sound_files.specs.Sound.Rounds.{start-read, start-listed, start-since}

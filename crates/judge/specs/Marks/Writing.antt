@@ -8,8 +8,7 @@ use lib.ListN.{length, getD, drop, set, length-map}
 use Rattle.replies.specs.declared.Acceptance.{Acceptance}
 use Rattle.replies.specs.Numbers.{answerWord}
 use Rattle.walks.specs.Cell.Values.{getD-map-below}
-use Rattle.files.specs.Start.{startsOf}
-use Rattle.demands.specs.Reach.{startAt}
+use Rattle.files.specs.Start.{startsOf, startAt}
 use Rattle.sound_files.specs.Starts.{startRound}
 use Rattle.judge.specs.WrittenBelow.{WrittenBelow}
 use Rattle.judge.specs.WrittenBelow.Laws.{written-more, written-all}

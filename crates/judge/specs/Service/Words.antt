@@ -7,12 +7,11 @@ use mathlib.Core.List.{List}
 use lib.ListN.{length, getD}
 use Rattle.automata.specs.Saturation.{Saturated}
 use Rattle.walks.specs.Cell.Values.{getD-map-below}
-use Rattle.files.specs.Start.{startsOf}
+use Rattle.files.specs.Start.{startsOf, startAt}
 use Rattle.services.specs.Memory.Laws.{getD-padded}
 use Rattle.services.specs.Saturate.{saturated}
 use Rattle.services.specs.Judge.{JudgeInput, JudgeDone, judgeLent, judgeLeft, judgeService}
 use Rattle.sound_files.specs.Refusal.{FilesSound}
-use Rattle.demands.specs.Reach.{startAt}
 use Rattle.judge.specs.Marks.{markOf}
 use Rattle.judge.specs.Marks.Laws.{marks-judged}
 use Rattle.judge.specs.Service.Cases.{answers-judged}

@@ -14,7 +14,7 @@ use Rattle.replies.specs.declared.Acceptance.{Acceptance}
 use Rattle.replies.specs.declared.Saturation.{Saturation}
 use Rattle.replies.specs.declared.Reply.{Reply}
 use Rattle.replies.specs.Numbers.{answerWord}
-use Rattle.files.specs.Start.{Files, startsOf}
+use Rattle.files.specs.Start.{Files, startsOf, startAt}
 use Rattle.services.specs.Saturate.{saturated, saturateFilled, saturateService}
 use Rattle.services.specs.Judge.{judgeLent, judgeLeft, judgeService}
 use Rattle.services.specs.Guide.{guideLent, guideRun, guideLeft, cellWords}
@@ -26,7 +26,6 @@ use Rattle.start_file.specs.Checks.{filesOf}
 use Rattle.saturate.specs.Service.Laws.{done-filled}
 use Rattle.text.specs.Laws.Lines.{startLine-is}
 use Rattle.acceptance.specs.Cells.Laws.{states-below}
-use Rattle.demands.specs.Reach.{startAt}
 use Rattle.sound_files.specs.Starts.{startRound}
 use Rattle.sound_files.specs.Sound.Laws.{start-sound, starts-few}
 use Rattle.sound_files.specs.Sound.Rounds.{start-listed, start-since}

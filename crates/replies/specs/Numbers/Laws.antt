@@ -5,7 +5,9 @@ use native.Mathlib.Omega.{arith}
 use Rattle.replies.specs.declared.Halt.the-variants.{Arrived, TraceFull, CellsShort}
 use Rattle.replies.specs.declared.Reply.{Reply}
 use Rattle.replies.specs.declared.Reply.the-variants.{Refused, NoRun, Walked}
-use Rattle.replies.specs.Numbers.{numberOf}
+use Rattle.replies.specs.declared.Replayed.{Replayed}
+use Rattle.replies.specs.declared.Replayed.the-variants as Replayed
+use Rattle.replies.specs.Numbers.{numberOf, replayNumber}
 
 unfoldable pub IsRefusal : Reply → Type 0
 IsRefusal (Refused n) = Unit {0}
@@ -20,3 +22,15 @@ refusal-number NoRun l m = omega arith
 refusal-number (Walked (Arrived c)) l m = omega arith
 refusal-number (Walked (TraceFull c)) l m = omega arith
 refusal-number (Walked (CellsShort c)) l m = omega arith
+
+unfoldable pub IsReplayRefusal : Replayed → Type 0
+IsReplayRefusal (Replayed.Refused n) = Unit {0}
+IsReplayRefusal Replayed.Accepted = ⊥
+IsReplayRefusal (Replayed.FailsAt n) = ⊥
+
+-- nor has an answer of replay
+pub replay-refusal-number : (r : Replayed) → 1 ≤ replayNumber r → replayNumber r ≤ 255 → IsReplayRefusal r
+unfolding IsReplayRefusal
+replay-refusal-number (Replayed.Refused n) l m = tt
+replay-refusal-number Replayed.Accepted l m = omega arith
+replay-refusal-number (Replayed.FailsAt n) l m = omega arith

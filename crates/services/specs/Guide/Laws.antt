@@ -63,15 +63,15 @@ module _ (x : GuideInput) where
 
   -- the tests after those of the files
   after-files : List (Test GuideInput)
-  after-files = numberTests ++ testsOn guideLent sizeTests
+  after-files = numberTests (λ y. y .start) (λ y. y .number) ++ testsOn guideLent sizeTests
 
   case-tests : (caseRefusal (x .case) ≡ 0 → ⊥) → guideRefusal x ≡ caseRefusal (x .case)
   unfolding guideRefusal
-  case-tests = case-first (λ (y : GuideInput). y .case) (testsOn guideFiles startTests ++ (numberTests ++ testsOn guideLent sizeTests)) x
+  case-tests = case-first (λ (y : GuideInput). y .case) (testsOn guideFiles startTests ++ (numberTests (λ y. y .start) (λ y. y .number) ++ testsOn guideLent sizeTests)) x
 
   file-tests : caseRefusal (x .case) ≡ 0 → guideRefusal x ≡ firstHit (testsOn guideFiles startTests ++ after-files) x
   unfolding guideRefusal after-files
-  file-tests = case-passed (λ (y : GuideInput). y .case) (testsOn guideFiles startTests ++ (numberTests ++ testsOn guideLent sizeTests)) x
+  file-tests = case-passed (λ (y : GuideInput). y .case) (testsOn guideFiles startTests ++ (numberTests (λ y. y .start) (λ y. y .number) ++ testsOn guideLent sizeTests)) x
 
   missing-tests : length (startsOf (x .start)) ≤ x .number → firstHit after-files x ≡ 7
   unfolding after-files numberTests

@@ -13,14 +13,13 @@ use Rattle.rounds.specs.Won.{round2}
 use Rattle.walks.specs.Cell.{Cell}
 use Rattle.walks.specs.Cell.Formed.{Formed}
 use Rattle.files.specs.Bytes.{countOf}
-use Rattle.files.specs.Start.{Start, startOf, startsOf, cellsOf, configurationOf}
+use Rattle.files.specs.Start.{Start, startOf, startsOf, cellsOf, configurationOf, startAt}
 use Rattle.bytes_in.specs.Records.{recordAt, bodyOf}
 use Rattle.acceptance_words.specs.Rows.{roundIn}
 use Rattle.acceptance.specs.Cells.{RoundsStand, RoundsFilled}
 use Rattle.acceptance.specs.Cells.Body.{cellsIn}
 use Rattle.acceptance.specs.Cells.Laws.{StatesBelow}
 use Rattle.acceptance.specs.Laws.Starts.{cells-body, start-round}
-use Rattle.demands.specs.Reach.{startAt}
 use Rattle.sound_files.specs.Starts.{startRound}
 use Rattle.sound_files.specs.Sound.{StartSound}
 use Rattle.sound_files.specs.Sound.Laws.{starts-count, cells-count, start-at}
