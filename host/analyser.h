@@ -173,8 +173,9 @@ uint64_t analyser_guide(
  * first one that fails, or that needs more cells than there are, decides.
  *
  * A trace is accepted exactly if it is a run of the case's rules from the start
- * that ends in the target, and its cells suffice. The trace of a guide that arrived
- * is accepted if at least as many cells are lent as the guide says it used.
+ * that ends in the target, and its cells suffice. What the guide wrote for the same
+ * files and start, if it arrived, is accepted if at least as many cells are lent as
+ * the guide says it used.
  */
 uint64_t analyser_replay(
     const uint8_t *case_file, size_t case_length,

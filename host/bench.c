@@ -32,7 +32,7 @@ struct file {
 
 static struct file case_file, start_file;
 
-/* The memory that every call is lent. */
+/* The memory that calls are lent. */
 static uint64_t moves[MOVES * ANALYSER_MOVE_WORDS];
 static uint64_t entries[ENTRIES * ANALYSER_ENTRY_WORDS];
 static uint16_t answers[STARTS];

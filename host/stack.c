@@ -28,6 +28,7 @@
 #define ENTRIES_LENGTH (64 * ANALYSER_ENTRY_WORDS)
 #define STARTS 64
 #define CELLS_LENGTH (4096 * ANALYSER_CELL_WORDS)
+#define REPLAY_CELLS_LENGTH (4096 * ANALYSER_REPLAY_CELL_BYTES)
 #define STEPS 65536
 
 static uint8_t case_file[MOST_BYTES], start_file[MOST_BYTES];
@@ -44,8 +45,9 @@ static uint8_t text[ANALYSER_LISTING_BYTES];
 static uint16_t answers[STARTS], cells[CELLS_LENGTH], trace[STEPS];
 
 /* The longest trace that the guide wrote, as bytes. */
-static uint8_t recorded[2 * STEPS], replay_cells[4096 * ANALYSER_REPLAY_CELL_BYTES];
+static uint8_t recorded[2 * STEPS];
 static size_t recorded_length;
+static uint8_t replay_cells[REPLAY_CELLS_LENGTH];
 
 static void saturate(void)
 {
@@ -89,7 +91,7 @@ static void replay(void)
     uint64_t step;
     for (uint64_t number = 0; number < STARTS; number++) {
         analyser_replay(case_file, case_length, start_file, start_length, number, recorded,
-                        recorded_length, replay_cells, sizeof replay_cells, &step);
+                        recorded_length, replay_cells, REPLAY_CELLS_LENGTH, &step);
     }
 }
 
@@ -98,6 +100,7 @@ static void listing(void)
     analyser_listing(case_file, case_length, start_file, start_length, text);
 }
 
+/* Guide stands before replay, which takes its trace. */
 static struct measured {
     const char *name;
     void (*call)(void);

@@ -8,6 +8,7 @@
 // Comments write entries as document 01 does, [p,S]; these are no links.
 #![allow(rustdoc::broken_intra_doc_links)]
 
+pub mod attempts;
 pub mod automaton;
 pub mod compare;
 pub mod damage;

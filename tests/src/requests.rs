@@ -10,12 +10,16 @@ const LANDED: u64 = 2;
 /// The requests whose files are here, and how many lines of each hold now.
 const FILES: [(u64, usize); 2] = [(1, 20), (2, 28)];
 
+type Judge = fn(&[u8], &[u8], &mut [u64], &mut [u64], &mut [u16]) -> u64;
+type Listing = fn(&[u8], &[u8]) -> String;
+type Replay = fn(&[u8], &[u8], u64, &[u8], &mut [u8]) -> ReplayReply;
+
 /// The services that the examples call.
 #[derive(Clone, Copy)]
 pub struct Services {
-    pub judge: fn(&[u8], &[u8], &mut [u64], &mut [u64], &mut [u16]) -> u64,
-    pub listing: fn(&[u8], &[u8]) -> String,
-    pub replay: fn(&[u8], &[u8], u64, &[u8], &mut [u8]) -> ReplayReply,
+    pub judge: Judge,
+    pub listing: Listing,
+    pub replay: Replay,
 }
 
 /// A line of a request's file.

@@ -1,16 +1,10 @@
 //! Traces for replay, whoever made them: the guide's, runs by rules chosen at
-//! random, and damaged copies of both; and what the answers to them hang on.
+//! random, and damaged copies of both.
 
-use std::collections::BTreeMap;
-
-use self::Kind::*;
-use crate::file::Case;
+use crate::file::{Case, Rule};
 use crate::generate::Pair;
-use crate::lent::Lent;
-use crate::pairs::pairs;
 use crate::random::Random;
-use crate::replay::ReplayReply::{self, Accepted, Fails, Refused};
-use crate::services::{LISTING_ENTRIES, LISTING_MOVES, MOST_CELLS};
+use crate::services::MOST_CELLS;
 use crate::stack::{Configuration, Note, new_cells, top};
 
 /// Rule numbers as a host records them: two bytes each, low byte first.
@@ -76,22 +70,22 @@ fn next_rule(random: &mut Random, case: &Case, now: &Configuration) -> Option<u1
 
 /// A collapse of this code that would apply but for the annotation's order.
 fn wrong_collapse(case: &Case, now: &Configuration, code: u8) -> Option<u16> {
-    let is_wrong = |number: &u16| {
-        let rule = &case.rules[usize::from(*number)];
-        rule.code == code && has_wrong_order(now, rule.from, rule.symbol, code)
-    };
-    (0..case.rules.len() as u16).find(is_wrong)
+    let is_wrong = |rule: &Rule| rule.code == code && is_wrong_collapse(now, rule);
+    let number = case.rules.iter().position(is_wrong)?;
+    Some(number as u16)
 }
 
-/// Whether control and top symbol are these, and the annotation is not of the
-/// order that the collapse asks for.
-fn has_wrong_order(now: &Configuration, control: u8, symbol: u8, code: u8) -> bool {
+/// Whether the rule is a collapse that would apply but for the annotation's
+/// order.
+pub fn is_wrong_collapse(now: &Configuration, rule: &Rule) -> bool {
+    let order = |note: &Note| match note {
+        Note::One(_) => 1,
+        Note::Two(_) => 2,
+    };
     top(&now.stack).is_some_and(|top| {
-        let order = match top.u {
-            Note::One(_) => 1,
-            Note::Two(_) => 2,
-        };
-        now.control == control && top.a == symbol && order != code - 6
+        let asked = rule.code.checked_sub(6).filter(|&order| order > 0);
+        let wrong = asked.is_some_and(|asked| asked != order(&top.u));
+        now.control == rule.from && top.a == rule.symbol && wrong
     })
 }
 
@@ -126,7 +120,7 @@ pub fn damaged(random: &mut Random, trace: &[u16], rules: usize) -> Vec<Vec<u16>
     copies
 }
 
-// ---- traces and cells for a start
+// ---- traces for a start
 
 /// Traces for a start: what the guide wrote, if it arrived, runs that it did not
 /// make, into the target and past it, damaged copies, and no step at all.
@@ -156,172 +150,4 @@ pub fn traces(
         traces.push(trace);
     }
     traces
-}
-
-/// Asks for the answers to traces of every kind from all starts of generated
-/// pairs, with few and many cells, and counts them.
-pub fn count_answers(
-    random: &mut Random,
-    count: u64,
-    answer: impl Fn(&Attempt) -> ReplayReply,
-) -> Answers {
-    let mut answers = Answers::default();
-    let mut lent = Lent::new(LISTING_MOVES, LISTING_ENTRIES, 1024, 1024);
-    for (_, pair) in pairs(count) {
-        for number in 0..pair.start.starts.len() {
-            let guided = pair.guided(&mut lent, number);
-            for trace in traces(random, &pair, number, guided.as_deref()) {
-                for cells in cells_for(random, &pair, number, &trace) {
-                    let attempt = Attempt {
-                        pair: &pair,
-                        number,
-                        guided: guided.as_deref(),
-                        trace: &trace,
-                        cells,
-                    };
-                    answers.count(&attempt, answer(&attempt));
-                }
-            }
-        }
-    }
-    answers
-}
-
-/// Numbers of cells for a trace: those that its longest run takes, one fewer,
-/// those of the start file, one fewer, any up to the run's, and all that count.
-pub fn cells_for(random: &mut Random, pair: &Pair, number: usize, trace: &[u16]) -> [usize; 6] {
-    let used = pair.cells_after(&trace[..pair.longest_run(number, trace)]);
-    let own = pair.start.cells.len();
-    let any = random.between(0, used);
-    [used, used - 1, own, own - 1, any, MOST_CELLS]
-}
-
-// ---- what answers hang on
-
-/// What an answer hangs on; one answer may be of several kinds.
-#[derive(Clone, Copy, Debug, PartialEq, Eq, PartialOrd, Ord)]
-pub enum Kind {
-    /// Accepted: the guide's own trace.
-    Guided,
-    /// Accepted: a trace with steps that the guide did not write.
-    Foreign,
-    /// The same with many steps, through a collapse 1, and through a collapse 2.
-    LongForeign,
-    ForeignByCollapseOne,
-    ForeignByCollapseTwo,
-    /// Fails at step 0, at a later one, or at the end of a run with steps.
-    FailsFirst,
-    FailsBetween,
-    FailsAtLength,
-    /// Fails at its end and was in the target before.
-    PastTarget,
-    /// Fails at a number that no rule has.
-    NoRule,
-    /// Fails at a collapse 1, or 2, by the order of the annotation alone.
-    WrongCollapseOne,
-    WrongCollapseTwo,
-    /// Fails at a rule whose new cells are more than are left.
-    FailsWithoutRoom,
-    /// 11 for the start file, and at a step.
-    ShortForStart,
-    ShortAtStep,
-    /// 11 at a step before one that would fail.
-    ShortBeforeFailure,
-}
-
-/// How many kinds there are.
-const KINDS: usize = 16;
-
-/// A long run has at least so many steps.
-const LONG: usize = 15;
-
-/// How many answers of each kind there were.
-#[derive(Debug, Default)]
-pub struct Answers(BTreeMap<Kind, usize>);
-
-/// A replay of rule numbers from a start, with so many cells.
-pub struct Attempt<'a> {
-    pub pair: &'a Pair,
-    pub number: usize,
-    pub guided: Option<&'a [u16]>,
-    pub trace: &'a [u16],
-    pub cells: usize,
-}
-
-impl Answers {
-    /// Counts the kinds of an answer.
-    pub fn count(&mut self, attempt: &Attempt, reply: ReplayReply) {
-        for kind in attempt.kinds(reply) {
-            *self.0.entry(kind).or_default() += 1;
-        }
-    }
-
-    /// How many answers the rarest kind has: none, if a kind did not occur.
-    pub fn rarest(&self) -> usize {
-        let least = self.0.values().copied().min();
-        least.filter(|_| self.0.len() == KINDS).unwrap_or(0)
-    }
-}
-
-impl Attempt<'_> {
-    fn kinds(&self, reply: ReplayReply) -> Vec<Kind> {
-        match reply {
-            Accepted => self.accepted(),
-            Fails { step } => self.fails(step as usize),
-            Refused(_) => self.short(),
-        }
-    }
-
-    fn accepted(&self) -> Vec<Kind> {
-        if self.guided == Some(self.trace) {
-            return vec![Guided];
-        }
-        let code = |&rule: &u16| self.pair.case.rules[usize::from(rule)].code;
-        let by_code = |wanted: u8| self.trace.iter().any(|rule| code(rule) == wanted);
-        let kinds = [
-            (Foreign, !self.trace.is_empty()),
-            (LongForeign, self.trace.len() >= LONG),
-            (ForeignByCollapseOne, by_code(7)),
-            (ForeignByCollapseTwo, by_code(8)),
-        ];
-        let of_these = kinds.into_iter().filter(|kind| kind.1);
-        of_these.map(|kind| kind.0).collect()
-    }
-
-    fn fails(&self, step: usize) -> Vec<Kind> {
-        let mut run = self.pair.run(self.number);
-        let rules = &self.pair.case.rules;
-        for &rule in &self.trace[..step] {
-            assert!(run.step(&rules[usize::from(rule)]));
-        }
-        let Some(&number) = self.trace.get(step) else {
-            let mut before = run.in_target(&self.pair.case);
-            before.pop();
-            let past = before.contains(&true).then_some(PastTarget);
-            let at_length = (step > 0).then_some(FailsAtLength);
-            return at_length.into_iter().chain(past).collect();
-        };
-        let mut kinds = vec![if step == 0 { FailsFirst } else { FailsBetween }];
-        let Some(rule) = rules.get(usize::from(number)) else {
-            kinds.push(NoRule);
-            return kinds;
-        };
-        if rule.code >= 7 && has_wrong_order(run.last(), rule.from, rule.symbol, rule.code) {
-            let collapses = [WrongCollapseOne, WrongCollapseTwo];
-            kinds.push(collapses[usize::from(rule.code - 7)]);
-        }
-        if self.pair.cells_after(&self.trace[..=step]) > self.cells {
-            kinds.push(FailsWithoutRoom);
-        }
-        kinds
-    }
-
-    fn short(&self) -> Vec<Kind> {
-        if self.cells < self.pair.start.cells.len() {
-            return vec![ShortForStart];
-        }
-        let longest = self.pair.longest_run(self.number, self.trace);
-        let fails = (longest < self.trace.len()).then_some(ShortBeforeFailure);
-        [ShortAtStep].into_iter().chain(fails).collect()
-    }
 }

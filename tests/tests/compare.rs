@@ -25,8 +25,8 @@ fn rounds(both: &mut Both, pair: &Pair) -> Option<Vec<Option<usize>>> {
     (code == 0).then(|| both.lent.rounds(pair.start.starts.len()))
 }
 
-/// Every service on every pair. What the guide answers is checked on nested
-/// stacks. Each operation and each kind of answer occurs.
+/// Saturate, judge and guide on every pair. What the guide answers is checked on
+/// nested stacks. Each operation and each kind of answer occurs.
 #[test]
 fn generated_files() {
     let mut both = ample();
@@ -107,6 +107,7 @@ fn any_lengths() {
             lent.answers.resize(random.between(0, 6), 0);
             lent.cells.resize(random.between(0, 80 * CELL_WORDS), 0);
             lent.trace.resize(random.between(0, 8), 0);
+            lent.replay_cells.resize(random.between(0, 480), 0);
             every_service(&lent, &pair);
         }
     }
@@ -161,12 +162,14 @@ fn every_length_of_lent_tables() {
     assert!(checked >= 20);
 }
 
-/// All services with memory of the given lengths, guide from the first start.
+/// All services with memory of the given lengths, guide and replay from the first
+/// start.
 fn every_service(lent: &Lent, pair: &Pair) {
     let mut both = Both::new(lent.clone());
     both.saturate(&pair.case_file);
     both.judge(&pair.case_file, &pair.start_file);
     both.guide(&pair.case_file, &pair.start_file, 0);
+    both.replay(&pair.case_file, &pair.start_file, 0, &[0, 0]);
 }
 
 /// Answer words of every number: 8 with fewer than starts.

@@ -3,6 +3,7 @@
 //! stacks as deep as the cells allow. `compare_files.rs` and `compare_damage.rs`
 //! have the files of the documents, files at their limits and damaged files.
 
+use second::attempts::count_answers;
 use second::compare::Both;
 use second::deep::{MOST_PUSHES, MOST_ROUNDS, deep_case, deep_start, pushes, up, up_and_down};
 use second::generate::{Pair, WIDE, pair};
@@ -14,7 +15,7 @@ use second::replay::REPLAY_CELL_BYTES;
 use second::replay::ReplayReply::{self, Accepted, Fails, Refused};
 use second::services::GuideReply::Arrived;
 use second::services::{LISTING_ENTRIES, LISTING_MOVES, MOST_CELLS};
-use second::traces::{Wandering, count_answers, recorded, traces, wander};
+use second::traces::{Wandering, recorded, traces, wander};
 
 /// The answer of both with so many bytes of cells.
 fn answer(files: (&[u8], &[u8]), number: u64, trace: &[u8], bytes: usize) -> ReplayReply {

@@ -1,6 +1,7 @@
 //! Replay (document 02, §2) on generated files: traces of every kind, those of
 //! the guide, and every small length.
 
+use second::attempts::{Attempt, count_answers};
 use second::generate::Pair;
 use second::lent::{Lent, replayed, replayed_bytes};
 use second::pairs::pairs;
@@ -9,7 +10,7 @@ use second::replay::REPLAY_CELL_BYTES;
 use second::replay::ReplayReply::{Accepted, Refused};
 use second::services::GuideReply::Arrived;
 use second::services::{LISTING_ENTRIES, LISTING_MOVES, MOST_CELLS};
-use second::traces::{Attempt, count_answers, recorded, traces};
+use second::traces::{recorded, traces};
 
 /// Memory with all cells that count and a long trace.
 fn ample() -> Lent {
@@ -49,7 +50,7 @@ fn only_marked_starts_are_accepted() {
     let mut random = Random::new(3);
     let mut lent = ample();
     let (mut accepted, mut not) = (0, 0);
-    for (name, pair) in pairs(60) {
+    for (name, pair) in pairs(30) {
         if lent.judge(&pair.case_file, &pair.start_file) != 0 {
             continue;
         }
@@ -78,7 +79,7 @@ fn only_marked_starts_are_accepted() {
 fn traces_of_the_guide() {
     let mut lent = ample();
     let mut accepted = 0;
-    for (name, pair) in pairs(120) {
+    for (name, pair) in pairs(60) {
         let files = files(&pair);
         for number in 0..pair.start.starts.len() as u64 {
             let reply = lent.guide(&pair.case_file, &pair.start_file, number);

@@ -169,7 +169,7 @@ fn cell_order(cell: Cell) -> u64
 }
 
 // The order of cell i, of the first n in the body, and 1 where there is none.
-fn order_at(body: &[u8], n: usize, i: usize) -> u64
+pub fn order_at(body: &[u8], n: usize, i: usize) -> u64
     requires { ⌜ n * 6 ≤ length (now body) ⌝ }
     ensures { λ r. ⌜ r ≡ orderAt (cellsIn n (now (body .entry))) i ⌝ }
 {

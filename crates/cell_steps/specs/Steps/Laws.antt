@@ -1,18 +1,20 @@
 -- What holds of cells and choices that are written one after another: the cells before them are kept, and these follow.
 -- Assumes nothing.
-use Prim.Native.Nat.{ℕ, zero, suc, _+_, _*_, _-_, _<_, _≤_}
+use Prim.Native.Nat.{ℕ, zero, suc, _+_, _*_, _-_, _^_, _<_, _≤_}
 use mathlib.Core.Path.{_≡_, refl, ap, ap₂, sym, _∙_}
 use mathlib.Core.List.{List, [], _∷_, _++_, map, zipWith, append-nil, append-assoc}
 use native.Mathlib.Nat.{add-zero}
 use native.Mathlib.Numerals.{add-one}
 use native.Mathlib.Omega.{arith}
-use lib.ListN.{length, getD, take, List·getD-append}
-use lib.Seq.{length-take-le, take-suc, take-length}
+use lib.ListN.{length, getD, take, drop, List·getD-append}
+use lib.Seq.{length-take-le, take-suc, take-length, getD-take, getD-drop}
 use Rattle.stacks.specs.Stack as Stack
 use Rattle.stacks.specs.Stack.{rewrite, push1, push2, copy, pop1, pop2, collapse1, collapse2, newCells}
-use Rattle.files.specs.Case.{operationOf}
+use Rattle.stacks.specs.System.{Rule}
+use Rattle.files.specs.Case.{operationOf, ruleBytes, ruleOf}
+use Rattle.bytes_in.specs.Records.{recordAt}
 use Rattle.walks.specs.Cell as walks
-use Rattle.walks.specs.Cell.{cellsAfter}
+use Rattle.walks.specs.Cell.{cellsAfter, rootAfter}
 use Rattle.walks.specs.Cell.Laws.{length-cellsAfter}
 use Rattle.walks.specs.Guide.{Guided, chooses}
 use Rattle.case_records.specs.declared.Operation.{Operation}
@@ -280,8 +282,31 @@ pub chosen-by : {out : List ℕ} {op o : Operation} (ws : List ℕ) (n r number 
     → out ≡ withAllChosen ws n (stepChosen r number p′ edge es ms (theOperation o)) → out ≡ withAllChosen ws n (stepChosen r number p′ edge es ms (theOperation op))
 chosen-by ws n r number p′ edge es ms e h = h ∙ ap (λ (x : Operation). withAllChosen ws n (stepChosen r number p′ edge es ms (theOperation x))) (sym e)
 
+-- the root cell fits 16 bits
+pub root-small : (op : Stack.Operation) (n u t : ℕ) → n ≤ 4096 → u < 2 ^ 16 → t < 2 ^ 16 → rootAfter op n u t < 2 ^ 16
+unfolding rootAfter
+root-small (rewrite b) n u t h i j = omega arith
+root-small (push1 b) n u t h i j = omega arith
+root-small (push2 b) n u t h i j = omega arith
+root-small copy n u t h i j = omega arith
+root-small pop1 n u t h i j = omega arith
+root-small pop2 n u t h i j = j
+root-small collapse1 n u t h i j = omega arith
+root-small collapse2 n u t h i j = i
+
+pub new-few : (op : Stack.Operation) → newCells op ≤ 4
+unfolding newCells
+new-few (rewrite b) = omega arith
+new-few (push1 b) = omega arith
+new-few (push2 b) = omega arith
+new-few copy = omega arith
+new-few pop1 = omega arith
+new-few pop2 = omega arith
+new-few collapse1 = omega arith
+new-few collapse2 = omega arith
+
 -- an operation of a file names no symbol above its byte b
-pub symbol-below : (code b : ℕ) → symbolOf (operationOf code b) ≤ b
+symbol-below : (code b : ℕ) → symbolOf (operationOf code b) ≤ b
 unfolding symbolOf operationOf
 symbol-below zero b = omega arith
 symbol-below (suc zero) b = omega arith
@@ -292,3 +317,17 @@ symbol-below (suc (suc (suc (suc (suc zero))))) b = omega arith
 symbol-below (suc (suc (suc (suc (suc (suc zero)))))) b = omega arith
 symbol-below (suc (suc (suc (suc (suc (suc (suc zero))))))) b = omega arith
 symbol-below (suc (suc (suc (suc (suc (suc (suc (suc k)))))))) b = omega arith
+
+-- the symbols of a rule of a file are bytes
+pub rule-symbols : (n : ℕ) (body : List ℕ) {σ : Rule} → ((i : ℕ) → getD body i 0 < 256) → σ ≡ ruleOf (ruleBytes (recordAt 5 n body))
+    → (σ .symbol < 256) × (symbolOf (σ .operation) < 256)
+unfolding ruleOf ruleBytes recordAt
+rule-symbols n body h e =
+    let one : 1 < 5 = omega arith in
+    let three : 3 < 5 = omega arith in
+    let a : getD (take 5 (drop (n * 5) body)) 1 0 ≡ getD body (n * 5 + 1) 0 = rw (getD-take, getD-drop) in
+    let b : getD (take 5 (drop (n * 5) body)) 3 0 ≡ getD body (n * 5 + 3) 0 = rw (getD-take, getD-drop) in
+    let k = h (n * 5 + 1) in
+    let l = h (n * 5 + 3) in
+    let m = symbol-below (getD (take 5 (drop (n * 5) body)) 2 0) (getD (take 5 (drop (n * 5) body)) 3 0) in
+    rw e (omega arith, omega arith)

@@ -4,7 +4,7 @@ use mathlib.Core.Path.{refl}
 use native.Mathlib.Omega.{arith}
 use Rattle.case_records.specs.Values.{theOperation}
 use Rattle.guided_walk.specs.Turns.{full, short}
-use Rattle.guided_walk.specs.Stepped.Laws.{new-few}
+use Rattle.cell_steps.specs.Steps.Laws.{new-few}
 use borrow.Author.Needs.{needs}
 use Rattle.guided_walk.proofs.go_on.Statement.{statement}
 use Rattle.guided_walk.proofs.go_on.Tie as tie

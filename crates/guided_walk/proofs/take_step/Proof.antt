@@ -4,7 +4,8 @@ use mathlib.Core.Path.{ap}
 use native.Mathlib.Omega.{arith}
 use Rattle.cell_steps.specs.declared.Choice.{Choice}
 use Rattle.case_records.specs.Values.{theOperation}
-use Rattle.guided_walk.specs.Stepped.Laws.{root-small, new-few, steps-are}
+use Rattle.cell_steps.specs.Steps.Laws.{root-small, new-few}
+use Rattle.guided_walk.specs.Stepped.Laws.{steps-are}
 use borrow.Author.Needs.{needs}
 use Rattle.guided_walk.proofs.take_step.Statement.{statement}
 use Rattle.guided_walk.proofs.take_step.Tie as tie

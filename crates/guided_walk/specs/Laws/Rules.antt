@@ -1,15 +1,14 @@
 -- The rule of the next step, as it is read from a body of bytes: it is the rule of that number, and its numbers are small.
 -- Assumes nothing.
-use Prim.Native.Nat.{ℕ, zero, suc, _+_, _*_, _<_, _^_}
+use Prim.Native.Nat.{ℕ, _<_, _^_}
 use mathlib.Core.Path.{_≡_, ap, sym, _∙_, subst}
 use mathlib.Core.Option.{some}
 use mathlib.Core.List.{List}
 use native.Mathlib.Omega.{arith}
-use lib.ListN.{getD, getElem?, take, drop}
-use lib.Seq.{getD-take, getD-drop}
+use lib.ListN.{getD, getElem?}
 use Rattle.stacks.specs.System.{Rule}
 use Rattle.walks.specs.Guide as walks
-use Rattle.files.specs.Case.{operationOf, ruleBytes, ruleOf}
+use Rattle.files.specs.Case.{ruleBytes, ruleOf}
 use Rattle.bytes_in.specs.Records.{recordAt}
 use Rattle.tables.specs.declared.Table.{Table}
 use Rattle.results.specs.Collecting.{ruleIn, rulesIn, RulesStand}
@@ -17,6 +16,7 @@ use Rattle.results.specs.Collecting.Laws.{next-small}
 use Rattle.first_reading.specs.Words.{TablesWithin}
 use Rattle.cell_steps.specs.declared.Top.{Top}
 use Rattle.cell_steps.specs.Steps.{symbolOf}
+use Rattle.cell_steps.specs.Steps.Laws.{rule-symbols}
 use Rattle.cell_steps.specs.Steps.Choices.{topState}
 use Rattle.saturation.specs.Held.{saturatedIn}
 use Rattle.guided_step.specs.Step.{Taken}
@@ -29,29 +29,6 @@ use Rattle.guided_walk.specs.Stepped.Laws.{state-same}
 pub rule-read : (count n : ℕ) (body : List ℕ) {ρ σ : Rule} → getElem? (rulesIn count body) n ≡ some ρ → σ ≡ ruleOf (ruleBytes (recordAt 5 n body)) → σ ≡ ρ
 unfolding ruleIn
 rule-read count n body e f = f ∙ sym (rule-numbered count body n e .1)
-
--- ---- its symbol
-
-symbol-below : (code b : ℕ) {k : ℕ} → b < k → symbolOf (operationOf code b) < k
-unfolding symbolOf operationOf
-symbol-below zero b h = h
-symbol-below (suc zero) b h = h
-symbol-below (suc (suc zero)) b h = h
-symbol-below (suc (suc (suc zero))) b h = h
-symbol-below (suc (suc (suc (suc zero)))) b h = omega arith
-symbol-below (suc (suc (suc (suc (suc zero))))) b h = omega arith
-symbol-below (suc (suc (suc (suc (suc (suc zero)))))) b h = omega arith
-symbol-below (suc (suc (suc (suc (suc (suc (suc zero))))))) b h = omega arith
-symbol-below (suc (suc (suc (suc (suc (suc (suc (suc k)))))))) b h = omega arith
-
-symbol-read : (n : ℕ) (body : List ℕ) {σ : Rule} → ((i : ℕ) → getD body i 0 < 256) → σ ≡ ruleOf (ruleBytes (recordAt 5 n body))
-    → symbolOf (σ .operation) < 2 ^ 16
-unfolding ruleOf ruleBytes recordAt
-symbol-read n body h e =
-    let s : 3 < 5 = omega arith in
-    let b : getD (take 5 (drop (n * 5) body)) 3 0 ≡ getD body (n * 5 + 3) 0 = rw (getD-take, getD-drop) in
-    let l = h (n * 5 + 3) in
-    rw e (symbol-below (getD (take 5 (drop (n * 5) body)) 2 0) (getD (take 5 (drop (n * 5) body)) 3 0) (omega arith))
 
 -- ---- a step by it
 
@@ -71,7 +48,7 @@ step-stands z inner entries moves k sizes count body {n = n} {p} {σ = σ} s rs 
       premise-small = t .small .premise-small;
       state-small = subst (λ (m : ℕ). m < 64) same (t .small .state-small);
       control-small = next-small count n body σ rs (rule-numbered count body n (t .numbered) .0) e;
-      symbol-small = symbol-read n body bytes e;
+      symbol-small = let small : symbolOf (σ .operation) < 256 = rule-symbols n body bytes e .1 in omega arith;
       annotation-small = a;
       below-small = b;
     }

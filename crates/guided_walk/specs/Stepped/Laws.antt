@@ -56,29 +56,6 @@ premise-small z moves p h e f = subst (λ (k : ℕ). k < 64) (ap (λ (o : Operat
 pub choice-same : (A : Automaton) {op σ : Operation} {p′ p : ℕ} {r : Choice} → op ≡ σ → r ≡ choiceBy A p′ p σ → r ≡ choiceBy A p′ p op
 choice-same A {p′ = p′} {p} e f = f ∙ ap (choiceBy A p′ p) (sym e)
 
--- the root cell fits 16 bits
-pub root-small : (op : Operation) (n u t : ℕ) → n ≤ 4096 → u < 2 ^ 16 → t < 2 ^ 16 → rootAfter op n u t < 2 ^ 16
-unfolding rootAfter
-root-small (rewrite b) n u t h i j = omega arith
-root-small (push1 b) n u t h i j = omega arith
-root-small (push2 b) n u t h i j = omega arith
-root-small copy n u t h i j = omega arith
-root-small pop1 n u t h i j = omega arith
-root-small pop2 n u t h i j = j
-root-small collapse1 n u t h i j = omega arith
-root-small collapse2 n u t h i j = i
-
-pub new-few : (op : Operation) → newCells op ≤ 4
-unfolding newCells
-new-few (rewrite b) = omega arith
-new-few (push1 b) = omega arith
-new-few (push2 b) = omega arith
-new-few copy = omega arith
-new-few pop1 = omega arith
-new-few pop2 = omega arith
-new-few collapse1 = omega arith
-new-few collapse2 = omega arith
-
 -- ---- the same choices by all tables
 
 module _ (z : Table) (inner entries moves : List ℕ) where

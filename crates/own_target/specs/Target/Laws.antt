@@ -1,0 +1,144 @@
+-- The tables of a sound case's own automaton are as acceptance asks, and the words of the root cell tell whether its configuration lies in the
+-- target.
+-- Assumes nothing.
+use Prim.Native.Nat.{ℕ, suc, _+_, _≤_, _<_}
+use mathlib.Core.Bool.{true}
+use mathlib.Core.Path.{_≡_, refl, ap, ap₂, sym, _∙_}
+use mathlib.Core.List.{List, [], _∷_, List·Memᴰ, List·Memᴰ·head}
+use native.Mathlib.Omega.{arith}
+use lib.ListN.{length, replicate, length-replicate}
+use lib.Dec.{ltb}
+use borrow.Author.Tests.{not-false, ltb-true, ltb-false}
+use Rattle.words.specs.Lists.{every, zeros}
+use Rattle.words.specs.Laws.Tests.{by-test}
+use Rattle.words.specs.Order.{insert}
+use Rattle.words.specs.Order.Laws.{by-place, insert-before, insert-after, insert-held}
+use Rattle.stacks.specs.Stack.{Annotation}
+use Rattle.automata.specs.Automaton.{Automaton, Edge, choiceKey}
+use Rattle.automata.specs.Acceptance.{inTarget}
+use Rattle.automata.specs.Saturation.{Saturated}
+use Rattle.rounds.specs.Won.{isWon, acceptsStack}
+use Rattle.walks.specs.Cell.{stackAt, stacks}
+use Rattle.walks.specs.Cell.Formed.{orderAt}
+use Rattle.walks.specs.Cell.Laws.{stack-order, annotation-of2}
+use Rattle.files.specs.Bytes.{placed, countOf}
+use Rattle.files.specs.Bytes.Laws.{numbered, unrefused}
+use Rattle.files.specs.Case.{Head, head, EdgeBytes, innerEdges, edgeRecords, ownOf, caseBodies, caseTests, caseRefusal}
+use Rattle.files.specs.Case.Laws.{case-placed, case-head, case-bounds, case-table, case-edges-few, case-moves-few, case-states-few}
+use Rattle.files.specs.Case.Records.{inner-out}
+use Rattle.tables.specs.declared.Table.{Table}
+use Rattle.tables.specs.Rows.Laws.{length-rowsIn}
+use Rattle.tables.specs.Layouts.{edgeRow, entryRow, moveRow}
+use Rattle.tables.specs.Held.{automatonOf}
+use Rattle.case_tables.specs.Decoded.{innerEdge}
+use Rattle.case_tables.specs.Decoded.Laws.{inner-none, inner-cons, with-entry, with-inner}
+use Rattle.case_tables.specs.Own.{RoomForOwn}
+use Rattle.acceptance_words.specs.Rows.{roundIn}
+use Rattle.acceptance.specs.Named.{TablesNamed}
+use Rattle.acceptance.specs.Table.{AutomatonSmall}
+use Rattle.acceptance.specs.Table.Laws.{stands}
+use Rattle.acceptance.specs.Cells.{RoundsStand}
+use Rattle.acceptance.specs.Cells.Body.{cellsIn, length-cellsIn}
+use Rattle.acceptance.specs.Cells.Laws.{StatesBelow, cell-won}
+use Rattle.own_target.specs.Target.{configurationIn}
+
+-- ---- there are no more inner edges than edges
+
+insert-one : {A : Type 0} (key : A → List ℕ) (x : A) (l : List A) → length (insert key x l) ≤ suc (length l)
+unfolding insert
+insert-one key x [] = omega arith
+insert-one key x (y ∷ l) = by-place key x y
+    (λ h. rw (insert-before key x y l h) (omega arith))
+    (λ h. rw (insert-held key x y l h) (omega arith))
+    (λ h. let k : length (insert key x l) ≤ suc (length l) = insert-one key x l in rw (insert-after key x y l h) (omega arith))
+
+inner-fewer : (h : Head) (xs : List EdgeBytes) → length (innerEdges h xs) ≤ length xs
+inner-fewer h [] = rw (inner-none h) (omega arith)
+inner-fewer h (x ∷ xs) =
+    let fewer : length (innerEdges h xs) ≤ length xs = inner-fewer h xs in
+    by-test (ltb (x .state) (h .P))
+    (λ e. rw (inner-cons h x xs, with-entry h x (innerEdges h xs) (ltb-true (x .state) (h .P) e)) (omega arith))
+    (λ e.
+    let one : length (insert choiceKey (innerEdge x) (innerEdges h xs)) ≤ suc (length (innerEdges h xs)) = insert-one choiceKey (innerEdge x) (innerEdges h xs) in
+    rw (inner-cons h x xs, with-inner h x (innerEdges h xs) (ltb-false (x .state) (h .P) e)) (omega arith))
+
+-- ---- the own automaton of a sound case
+
+module _ (file : List ℕ) (sound : caseRefusal file ≡ 0) where
+  pub is-placed : placed caseBodies file ≡ true
+  unfolding caseRefusal caseTests numbered every
+  is-placed = not-false (placed caseBodies file) (unrefused file refl sound (List·Memᴰ·head refl))
+
+  -- tables of these lengths have room for it
+  pub own-room : (inner entries moves : List ℕ) → 192 ≤ length inner → 128 ≤ length entries → 5120 ≤ length moves → RoomForOwn file inner entries moves
+  own-room inner entries moves hi he hm =
+      let edges : countOf file 2 ≤ 64 = case-placed file sound .edges-count in
+      let states : ownOf file .J + length (ownOf file .entries) ≤ 64 = case-states-few file sound in
+      let few : countOf file 3 ≤ 1024 = case-placed file sound .moves-count in
+      record { inner-room = omega arith; entry-room = omega arith; move-room = omega arith }
+
+  own-inner-few : length (ownOf file .inner) ≤ 64
+  unfolding ownOf
+  own-inner-few =
+      let fewer : length (innerEdges (head file) (edgeRecords file)) ≤ length (edgeRecords file) = inner-fewer (head file) (edgeRecords file) in
+      let few : length (edgeRecords file) ≤ 64 = case-edges-few file sound in
+      omega arith
+
+  -- its inner edges lead from states that exist
+  inner-exists : (e : Edge) → List·Memᴰ e (ownOf file .inner) → e .state < 64
+  unfolding ownOf
+  inner-exists e j =
+      let r = inner-out (head file) (edgeRecords file) j in
+      let b = case-bounds file sound .edge (r .1) .state-exists in
+      let p : head file .P ≤ 8 = case-head file sound .controls-few in
+      let i : head file .I ≤ 8 = case-head file sound .inner2-few in
+      rw (r .3) (omega arith)
+
+  own-small : AutomatonSmall (ownOf file)
+  unfolding ownOf
+  own-small =
+      let facts = case-table file sound in
+      let states : ownOf file .J + length (ownOf file .entries) ≤ 64 = case-states-few file sound in
+      let p : head file .P ≤ 8 = case-head file sound .controls-few in
+      record {
+        states-few = states;
+        inner-small = λ e j. let l : e .first < ownOf file .J = facts .inner-facts e j .to-inner in (inner-exists e j, omega arith);
+        controls-small = λ e j. let l : e .control < head file .P = facts .entry-control e j in omega arith;
+        states-small = λ m j. let l : m .state < ownOf file .J + length (ownOf file .entries) = facts .move-facts m j .state-exists in omega arith;
+        final1-small = λ r i. let l : r < ownOf file .J = facts .final1-inner r i in omega arith;
+        final2-small = λ q i.
+            let l : q < head file .P + head file .I = case-head file sound .final2-inner q i .1 in
+            let n : head file .I ≤ 8 = case-head file sound .inner2-few in
+            omega arith;
+      }
+
+  -- tables of these lengths that hold it are as acceptance asks
+  pub own-named : (z : Table) (inner entries moves : List ℕ) → automatonOf z inner entries moves ≡ ownOf file
+      → 192 ≤ length inner → 128 ≤ length entries → 5120 ≤ length moves → TablesNamed z inner entries moves
+  own-named z inner entries moves own hi he hm =
+      let ni : z .edges ≡ length (ownOf file .inner) = sym (length-rowsIn edgeRow (z .edges) inner) ∙ ap (λ (A : Automaton). length (A .inner)) own in
+      let ne : z .entries ≡ length (ownOf file .entries) = sym (length-rowsIn entryRow (z .entries) entries) ∙ ap (λ (A : Automaton). length (A .entries)) own in
+      let nm : z .moves ≡ length (ownOf file .moves) = sym (length-rowsIn moveRow (z .moves) moves) ∙ ap (λ (A : Automaton). length (A .moves)) own in
+      let edges : length (ownOf file .inner) ≤ 64 = own-inner-few in
+      let states : ownOf file .J + length (ownOf file .entries) ≤ 64 = case-states-few file sound in
+      let few : length (ownOf file .moves) ≤ 1024 = case-moves-few file sound in
+      stands own-small (record { is = own; edges-lent = omega arith; entries-lent = omega arith; moves-lent = omega arith })
+
+-- ---- the answer
+
+-- words that are zero as they are made
+pub made-zero : (n : ℕ) → replicate n 0 ≡ zeros (length {A = ℕ} (replicate n 0))
+unfolding zeros
+made-zero n = ap zeros (sym (length-replicate n 0))
+
+-- Whether the words of the root, for a table that is A, have a round for the control is whether the configuration is in A's target. The sizes of
+-- the rounds do not enter.
+pub won-in-target : {A : Automaton} (T : Saturated) → StatesBelow (T .table) → T .table ≡ A → (n : ℕ) (cells : List ℕ) {rounds : List ℕ}
+    → RoundsStand T (cellsIn n cells) rounds n → (control root : ℕ) → root < n → orderAt (cellsIn n cells) root ≡ 2
+    → isWon (roundIn rounds root control) ≡ inTarget A (configurationIn n cells control root)
+unfolding inTarget acceptsStack
+won-in-target T below is n cells stand control root l e =
+    let long : length (cellsIn n cells) ≡ n = length-cellsIn n cells in
+    cell-won T below (cellsIn n cells) stand root l control
+    ∙ ap₂ (λ (B : Automaton) (u : Annotation). acceptsStack B u control) is
+    (annotation-of2 (stackAt (stacks (cellsIn n cells)) root) (stack-order (cellsIn n cells) root (omega arith) ∙ e))

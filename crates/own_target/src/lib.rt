@@ -1,0 +1,35 @@
+// Whether a configuration lies in a case's target, by the case's own automaton, for a stack in cells of six bytes. Nothing is lent for it.
+ghost use mathlib.Core.Path.{_≡_};
+ghost use Prim.Native.Nat.{_<_, _≤_, _*_};
+ghost use lib.ListN.{length};
+ghost use Rattle.automata.specs.Acceptance.{inTarget};
+ghost use Rattle.walks.specs.Cell.Formed.{Formed, orderAt};
+ghost use Rattle.files.specs.Case.{caseRefusal, ownOf};
+ghost use Rattle.acceptance.specs.Cells.Body.{cellsIn};
+ghost use Rattle.own_target.specs.Target.{configurationIn};
+use limits::Limits;
+
+// Control `control` with the stack of cell `root`, of the first n, lies in the target of a sound case.
+pub fn in_target(case: &[u8], cells: &[u8], n: usize, control: u64, root: usize) -> bool
+    requires { ⌜ (caseRefusal (now case) ≡ 0) × (n * 6 ≤ length (now cells)) × (n ≤ 4096) × Formed (cellsIn n (now cells)) × (root < n) × (orderAt (cellsIn n (now cells)) root ≡ 2) × (control < 64) ⌝ }
+    ensures { λ r. ⌜ r ≡ inTarget (ownOf (now (case .entry))) (configurationIn n (now (cells .entry)) control root) ⌝ }
+{
+    let mut inner = [0u64; Limits::INNER_TABLE];
+    let mut entries = [0u64; Limits::STATES1 * Limits::ENTRY_WORDS];
+    let mut moves = [0u64; Limits::MOVES * Limits::MOVE_WORDS];
+    let mut rounds = [0u16; Limits::CELLS * Limits::STATES1];
+    let sizes = [0u64; 1];
+    let z = case_tables::load_case(case, &mut inner, &mut entries, &mut moves);
+    acceptance::fill_rounds(
+        z,
+        &inner,
+        &entries,
+        &moves,
+        &sizes,
+        0,
+        cells,
+        n,
+        &mut rounds,
+    );
+    acceptance_words::is_won(acceptance_words::accepted(&rounds, root, control))
+}
