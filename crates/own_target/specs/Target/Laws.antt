@@ -3,7 +3,7 @@
 -- Assumes nothing.
 use Prim.Native.Nat.{ℕ, suc, _+_, _≤_, _<_}
 use mathlib.Core.Bool.{true}
-use mathlib.Core.Path.{_≡_, refl, ap, ap₂, sym, _∙_}
+use mathlib.Core.Path.{_≡_, refl, ap, sym, _∙_}
 use mathlib.Core.List.{List, [], _∷_, List·Memᴰ, List·Memᴰ·head}
 use native.Mathlib.Omega.{arith}
 use lib.ListN.{length, replicate, length-replicate}
@@ -131,14 +131,13 @@ pub made-zero : (n : ℕ) → replicate n 0 ≡ zeros (length {A = ℕ} (replica
 unfolding zeros
 made-zero n = ap zeros (sym (length-replicate n 0))
 
--- Whether the words of the root, for a table that is A, have a round for the control is whether the configuration is in A's target. The sizes of
--- the rounds do not enter.
-pub won-in-target : {A : Automaton} (T : Saturated) → StatesBelow (T .table) → T .table ≡ A → (n : ℕ) (cells : List ℕ) {rounds : List ℕ}
+-- The words of the root have a round for the control exactly if the table accepts the configuration. The sizes of the rounds do not enter.
+pub won-in-target : (T : Saturated) → StatesBelow (T .table) → (n : ℕ) (cells : List ℕ) {rounds : List ℕ}
     → RoundsStand T (cellsIn n cells) rounds n → (control root : ℕ) → root < n → orderAt (cellsIn n cells) root ≡ 2
-    → isWon (roundIn rounds root control) ≡ inTarget A (configurationIn n cells control root)
+    → isWon (roundIn rounds root control) ≡ inTarget (T .table) (configurationIn n cells control root)
 unfolding inTarget acceptsStack
-won-in-target T below is n cells stand control root l e =
+won-in-target T below n cells stand control root l e =
     let long : length (cellsIn n cells) ≡ n = length-cellsIn n cells in
     cell-won T below (cellsIn n cells) stand root l control
-    ∙ ap₂ (λ (B : Automaton) (u : Annotation). acceptsStack B u control) is
+    ∙ ap (λ (u : Annotation). acceptsStack (T .table) u control)
     (annotation-of2 (stackAt (stacks (cellsIn n cells)) root) (stack-order (cellsIn n cells) root (omega arith) ∙ e))

@@ -17,7 +17,7 @@ root-after-requires c κs = search needs
 cast-t11 : tie.Need-cast-t11
 cast-t11 c =
     let a = c .before .before .before .before .before .before .args in
-    omega (arith, root-small (theOperation (a .op)) (a .w .cells) _ _ (search needs) (search needs) (search needs), c .root-after .ensures)
+    omega (arith, root-small (theOperation (a .op)) (a .w .cells) (a .x .annotation) (a .x .below) (search needs) (search needs) (search needs), c .root-after .ensures)
 
 new-cells-requires : tie.Need-new-cells-requires
 new-cells-requires c κs = search needs

@@ -134,7 +134,7 @@ module _ (count k : ℕ) (body : List ℕ) (h : k < count) {ρ : Rule} (e : ρ �
   unfolding ruleIn
   numbered = rules-at count k body h ∙ ap some (sym e)
 
-  taken-not : (d : Configuration) → step ρ d ≡ none → taken (rulesIn count body) k d ≡ none
+  pub taken-not : (d : Configuration) → step ρ d ≡ none → taken (rulesIn count body) k d ≡ none
   unfolding taken
   taken-not d f = rw (taken, numbered, f)
 

@@ -227,3 +227,10 @@ pub root-by : (cells : List Cell) (root : ℕ) {c d : Value.Cell} {r : Option To
     → r ≡ topOf cells (Memory.cellOf d) → r ≡ topIn cells root
 unfolding topIn
 root-by cells root e f g = g ∙ ap (λ (v : Value.Cell). topOf cells (Memory.cellOf v)) (sym e) ∙ ap (topOf cells) f
+
+-- a rule that applies names the top symbol
+pub fits-symbol : (ρ : Rule) (p a k : ℕ) → ruleFits ρ p a k ≡ true → a ≡ ρ .symbol
+unfolding ruleFits
+fits-symbol ρ p a k f =
+    let named : Bool = eqb p (ρ .control) && eqb a (ρ .symbol) in
+    eqb-true a (ρ .symbol) (and-right (eqb p (ρ .control)) _ (and-left named _ f))

@@ -1,0 +1,57 @@
+-- `own_target::root_accepted` meets its contract.
+-- Assumes nothing.
+use Prim.Native.Nat.{ℕ}
+use mathlib.Core.Path.{ap, sym, _∙_}
+use native.Mathlib.Omega.{arith}
+use lib.ListN.{length-replicate}
+use Rattle.rounds.specs.Won.{isWon}
+use Rattle.saturation.specs.Held.{saturatedIn}
+use Rattle.acceptance.specs.Cells.Laws.{states-below}
+use Rattle.own_target.specs.Target.Laws.{made-zero, won-in-target}
+use borrow.Author.Needs.{needs}
+use Rattle.own_target.proofs.root_accepted.Statement.{statement}
+use Rattle.own_target.proofs.root_accepted.Tie as tie
+
+slice-aggregate-fill-rounds : tie.Need-slice-aggregate-fill-rounds
+slice-aggregate-fill-rounds c = search needs
+
+slice-aggregate-fill-rounds-2 : tie.Need-slice-aggregate-fill-rounds-2
+slice-aggregate-fill-rounds-2 c = sym (length-replicate {A = ℕ} 262144 0)
+
+fill-rounds-requires : tie.Need-fill-rounds-requires
+fill-rounds-requires c κs =
+    let p = c .before .before .before .before .before .before .pre in
+    (p .0, omega arith, omega arith, p .1, p .3, ?a, ?b)
+
+slice-aggregate-accepted : tie.Need-slice-aggregate-accepted
+slice-aggregate-accepted c = sym (c .before .before .fill-rounds .ensures .long ∙ length-replicate {A = ℕ} 262144 0)
+
+accepted-requires : tie.Need-accepted-requires
+accepted-requires c κs =
+    let p = c .before .before .before .before .before .before .before .before .before .pre in
+    let few = p .2 in
+    let there = p .4 in
+    let long = c .before .before .fill-rounds .ensures .long in
+    (?c, p .6)
+
+is-won-requires : tie.Need-is-won-requires
+is-won-requires c κs = search needs
+
+returns : tie.Need-returns
+returns c =
+    let s = c .before .before .before .before .before .before .before .before .before .before .before in
+    let r = c .before .before .before .before .fill-rounds in
+    c .is-won .ensures ∙ ap isWon (c .before .accepted .ensures .0)
+    ∙ won-in-target (saturatedIn (s .args .z) _ _ _ _ _) (states-below (s .pre .0)) _ _ (r .ensures .filled) _ _ (s .pre .4) (s .pre .5)
+
+pub root-accepted-spec : {M : Type 1} → statement M
+root-accepted-spec =
+    tie.close
+    (tie.spec
+    slice-aggregate-fill-rounds
+    slice-aggregate-fill-rounds-2
+    fill-rounds-requires
+    slice-aggregate-accepted
+    accepted-requires
+    is-won-requires
+    returns)
