@@ -188,7 +188,7 @@ copy() { # WHAT FILE
     attend head -c "$MOST_BYTES" -- "$from" >"$room/files/$1.bin" || leave 1 "the $1 file $2 can not be copied"
 }
 
-# Document 01's sentence for a refusal.
+# The documents' sentence for a refusal.
 sentence() { # NUMBER
     sed -n "s/^ *REFUSAL($1, \"\(.*\)\").*/\1/p" "$repository/host/analyser.h"
 }

@@ -5,8 +5,9 @@ use Prim.Native.Nat.{ℕ}
 use mathlib.Core.List.{List}
 use Rattle.replies.specs.declared.Saturation.{Saturation}
 use Rattle.replies.specs.declared.Counts.{Counts}
-use Rattle.replies.specs.Numbers.{numberOf, replyCounts}
+use Rattle.replies.specs.Numbers.{numberOf, replyCounts, replayNumber, replayStep}
 use Rattle.services.specs.Guide.{GuideDone}
+use Rattle.services.specs.Replay.{ReplayDone}
 
 -- saturate's reply: the number returned and the two words written
 abbrev pub theReply : ℕ → ℕ → ℕ → Saturation
@@ -30,3 +31,15 @@ theAnswer number counts moves entries cells trace =
 
 unfoldable pub answerOf : GuideDone → GuideAnswer
 answerOf d = theAnswer (numberOf (d .reply)) (replyCounts (d .reply)) (d .moves) (d .entries) (d .cells) (d .trace)
+
+-- replay's answer as a number and a step, and the lent cells afterwards
+pub record ReplayAnswer : Type 0 where
+  pub number : ℕ
+  pub step : ℕ
+  pub cells : List ℕ
+
+abbrev pub theReplay : ℕ → ℕ → List ℕ → ReplayAnswer
+theReplay number step cells = record { number = number; step = step; cells = cells }
+
+unfoldable pub replayOf : ReplayDone → ReplayAnswer
+replayOf d = theReplay (replayNumber (d .reply)) (replayStep (d .reply)) (d .cells)

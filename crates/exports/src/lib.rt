@@ -5,17 +5,20 @@ ghost use lib.ListN.{length};
 ghost use Rattle.services.specs.Saturate.{saturateService};
 ghost use Rattle.services.specs.Judge.{judgeService};
 ghost use Rattle.services.specs.Guide.{guideService};
+ghost use Rattle.services.specs.Replay.{replayService};
 ghost use Rattle.saturate.specs.Service.{theLent, theDone};
 ghost use Rattle.judge.specs.Service.{judgeInput, judgeDone};
 ghost use Rattle.guided_start.specs.Run.{guideInput};
-ghost use Rattle.replies.specs.Numbers.{numberOf, replyCounts};
+ghost use Rattle.replay.specs.Service.{replayInput};
+ghost use Rattle.replies.specs.Numbers.{numberOf, replyCounts, replayNumber, replayStep};
 ghost use Rattle.services.specs.Memory.{padded};
 ghost use Rattle.services.specs.Listing.{listingText};
 ghost use Rattle.start_file.specs.Checks.{filesOf};
-ghost use Rattle.exports.specs.Answers.{theReply, theCounts, theAnswer, answerOf};
+ghost use Rattle.exports.specs.Answers.{theReply, theCounts, theAnswer, answerOf, theReplay, replayOf};
 use limits::Limits;
 use replies::Counts;
 use replies::Halt;
+use replies::Replayed;
 use replies::Reply;
 
 // The service saturate: 0 with the numbers of moves and entries, or the number of a refusal with 0 and 0.
@@ -99,6 +102,45 @@ pub extern "C" fn analyser_guide(
     *steps = counts.steps;
     *cells_used = counts.cells;
     number_of(reply)
+}
+
+// The number of an answer of replay.
+fn replay_number(reply: Replayed) -> u64
+    ensures { λ r. ⌜ r ≡ replayNumber reply ⌝ }
+{
+    match reply {
+        Replayed::Refused(n) => n,
+        Replayed::Accepted => 0,
+        Replayed::FailsAt(_) => 260,
+    }
+}
+
+// The step that fails, and 0 where none does.
+fn replay_step(reply: Replayed) -> u64
+    ensures { λ r. ⌜ r ≡ replayStep reply ⌝ }
+{
+    match reply {
+        Replayed::Refused(_) => 0,
+        Replayed::Accepted => 0,
+        Replayed::FailsAt(n) => n,
+    }
+}
+
+// The service replay of a trace from start `number`: the number of its answer, with the step that fails, 0 where none does.
+#[no_mangle]
+pub extern "C" fn analyser_replay(
+    case: &[u8],
+    start: &[u8],
+    number: u64,
+    trace: &[u8],
+    cells: &mut [u8],
+    step: &mut u64,
+) -> u64
+    ensures { λ r. ⌜ theReplay r (now (step .exit)) (now (cells .exit)) ≡ replayOf (replayService (replayInput (now (case .entry)) (now (start .entry)) number (now (trace .entry)) (length (now (cells .entry))))) ⌝ }
+{
+    let reply = replay::replay(case, start, number as usize, trace, cells);
+    *step = replay_step(reply);
+    replay_number(reply)
 }
 
 // The text that the printing program prints for two files, zeros behind it. Answers its length.

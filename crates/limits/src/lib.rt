@@ -46,6 +46,10 @@ impl Limits {
 
     pub const CELL_BYTES: usize = 6;
 
+    // ---- bytes of a rule number in a trace that is replayed
+
+    pub const NUMBER_BYTES: usize = 2;
+
     // ---- the numbers of the bodies, from 0: four of a case, two of a start file
 
     pub const HEAD_BODY: usize = 0;

@@ -1,13 +1,13 @@
 -- `own_target::root_accepted` meets its contract.
 -- Assumes nothing.
 use Prim.Native.Nat.{ℕ}
-use mathlib.Core.Path.{ap, sym, _∙_}
+use mathlib.Core.Path.{refl, ap, sym, _∙_}
 use native.Mathlib.Omega.{arith}
 use lib.ListN.{length-replicate}
 use Rattle.rounds.specs.Won.{isWon}
 use Rattle.saturation.specs.Held.{saturatedIn}
 use Rattle.acceptance.specs.Cells.Laws.{states-below}
-use Rattle.own_target.specs.Target.Laws.{made-zero, won-in-target}
+use Rattle.own_target.specs.Target.Laws.{made-zero, made-room, won-in-target}
 use borrow.Author.Needs.{needs}
 use Rattle.own_target.proofs.root_accepted.Statement.{statement}
 use Rattle.own_target.proofs.root_accepted.Tie as tie
@@ -21,7 +21,8 @@ slice-aggregate-fill-rounds-2 c = sym (length-replicate {A = ℕ} 262144 0)
 fill-rounds-requires : tie.Need-fill-rounds-requires
 fill-rounds-requires c κs =
     let p = c .before .before .before .before .before .before .pre in
-    (p .0, omega arith, omega arith, p .1, p .3, ?a, ?b)
+    let few = p .2 in
+    (p .0, omega arith, omega arith, p .1, p .3, made-room 262144 _ _ refl (omega arith), made-zero 262144)
 
 slice-aggregate-accepted : tie.Need-slice-aggregate-accepted
 slice-aggregate-accepted c = sym (c .before .before .fill-rounds .ensures .long ∙ length-replicate {A = ℕ} 262144 0)
@@ -31,8 +32,7 @@ accepted-requires c κs =
     let p = c .before .before .before .before .before .before .before .before .before .pre in
     let few = p .2 in
     let there = p .4 in
-    let long = c .before .before .fill-rounds .ensures .long in
-    (?c, p .6)
+    (made-room 262144 _ _ (c .before .before .fill-rounds .ensures .long) (omega arith), p .6)
 
 is-won-requires : tie.Need-is-won-requires
 is-won-requires c κs = search needs

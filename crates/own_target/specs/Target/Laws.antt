@@ -65,6 +65,7 @@ inner-fewer h (x ∷ xs) =
 -- ---- the own automaton of a sound case
 
 module _ (file : List ℕ) (sound : caseRefusal file ≡ 0) where
+  -- the bodies of its file are in place
   pub is-placed : placed caseBodies file ≡ true
   unfolding caseRefusal caseTests numbered every
   is-placed = not-false (placed caseBodies file) (unrefused file refl sound (List·Memᴰ·head refl))
@@ -94,6 +95,7 @@ module _ (file : List ℕ) (sound : caseRefusal file ≡ 0) where
       let i : head file .I ≤ 8 = case-head file sound .inner2-few in
       rw (r .3) (omega arith)
 
+  -- the states that it names are below 64
   own-small : AutomatonSmall (ownOf file)
   unfolding ownOf
   own-small =
@@ -130,6 +132,10 @@ module _ (file : List ℕ) (sound : caseRefusal file ≡ 0) where
 pub made-zero : (n : ℕ) → replicate n 0 ≡ zeros (length {A = ℕ} (replicate n 0))
 unfolding zeros
 made-zero n = ap zeros (sym (length-replicate n 0))
+
+-- they, and words that stand in their place, have room for as many
+pub made-room : (m n k : ℕ) → k ≡ length {A = ℕ} (replicate m 0) → n ≤ m → n ≤ k
+made-room m n k e l = let s : length {A = ℕ} (replicate m 0) ≡ m = length-replicate m 0 in omega arith
 
 -- The words of the root have a round for the control exactly if the table accepts the configuration. The sizes of the rounds do not enter.
 pub won-in-target : (T : Saturated) → StatesBelow (T .table) → (n : ℕ) (cells : List ℕ) {rounds : List ℕ}

@@ -127,9 +127,9 @@ module _ (x : ReplayInput) where
   after-files : List (Test ReplayInput)
   after-files = numberTests (λ y. y .start) (λ y. y .number) ++ (traceTests ++ cellTests)
 
-  case-tests : (caseRefusal (x .case) ≡ 0 → ⊥) → replayRefusal x ≡ caseRefusal (x .case)
+  pub refusal-case : (caseRefusal (x .case) ≡ 0 → ⊥) → replayRefusal x ≡ caseRefusal (x .case)
   unfolding replayRefusal
-  case-tests = case-first (λ (y : ReplayInput). y .case) (testsOn replayFiles startTests ++ (numberTests (λ y. y .start) (λ y. y .number) ++ (traceTests ++ cellTests))) x
+  refusal-case = case-first (λ (y : ReplayInput). y .case) (testsOn replayFiles startTests ++ (numberTests (λ y. y .start) (λ y. y .number) ++ (traceTests ++ cellTests))) x
 
   file-tests : caseRefusal (x .case) ≡ 0 → replayRefusal x ≡ firstHit (testsOn replayFiles startTests ++ after-files) x
   unfolding replayRefusal after-files
@@ -159,33 +159,49 @@ module _ (x : ReplayInput) where
   unfolding cellTests firstHit
   fit-tests h = firstHit-passes (record { fails = λ (y : ReplayInput). ltb (replayCells y) (length (cellsOf (y .start))); refusal = 11 }) [] x (le-ltb _ _ h)
 
+  -- ---- what the tests give
+
+  pub refusal-start : caseRefusal (x .case) ≡ 0 → (startRefusal (replayFiles x) ≡ 0 → ⊥) → replayRefusal x ≡ startRefusal (replayFiles x)
+  refusal-start sound bad = file-tests sound ∙ start-first replayFiles after-files x bad
+
+  module _ (sound : caseRefusal (x .case) ≡ 0) (s : startRefusal (replayFiles x) ≡ 0) where
+    pub refusal-missing : length (startsOf (x .start)) ≤ x .number → replayRefusal x ≡ 7
+    refusal-missing h = file-tests sound ∙ start-passed replayFiles after-files x s ∙ missing-tests h
+
+    module _ (there : x .number < length (startsOf (x .start))) where
+      after-number : replayRefusal x ≡ firstHit (traceTests ++ cellTests) x
+      after-number = file-tests sound ∙ start-passed replayFiles after-files x s ∙ there-tests there
+
+      pub refusal-odd : length (x .trace) % 2 ≡ 1 → replayRefusal x ≡ 10
+      refusal-odd h = after-number ∙ odd-tests h
+
+      pub refusal-short : (length (x .trace) % 2 ≡ 1 → ⊥) → replayCells x < length (cellsOf (x .start)) → replayRefusal x ≡ 11
+      refusal-short even h = after-number ∙ even-tests even ∙ short-tests h
+
+  pub refusal-none : Replays x → replayRefusal x ≡ 0
+  refusal-none r = after-number (r .sound-case) (r .sound-start) (r .start-there) ∙ even-tests (r .even) ∙ fit-tests (r .start-fits)
+
+  -- ---- the cases, one test after the other
+
   sized : caseRefusal (x .case) ≡ 0 → startRefusal (replayFiles x) ≡ 0 → x .number < length (startsOf (x .start)) → (length (x .trace) % 2 ≡ 1 → ⊥)
       → ReplayCase x (replayService x)
   sized sound s t even =
-      let e : replayRefusal x ≡ firstHit cellTests x = file-tests sound ∙ start-passed replayFiles after-files x s ∙ there-tests t ∙ even-tests even in
       by-test (ltb (replayCells x) (length (cellsOf (x .start))))
-      (λ h. let l = ltb-true _ _ h in answered (e ∙ short-tests l) (replay-refused x 11 (eqb-false 11 0 refl)) (start-short sound s t even l))
+      (λ h. let l = ltb-true _ _ h in answered (refusal-short sound s t even l) (replay-refused x 11 (eqb-false 11 0 refl)) (start-short sound s t even l))
       (λ h.
-      let l = ltb-false _ _ h in
-      answered (e ∙ fit-tests l) (replay-run x)
-      (replays (record { sound-case = sound; sound-start = s; start-there = t; even = even; start-fits = l })))
+      let r : Replays x = record { sound-case = sound; sound-start = s; start-there = t; even = even; start-fits = ltb-false _ _ h } in
+      answered (refusal-none r) (replay-run x) (replays r))
 
   paired : caseRefusal (x .case) ≡ 0 → startRefusal (replayFiles x) ≡ 0 → x .number < length (startsOf (x .start)) → ReplayCase x (replayService x)
   paired sound s t =
       by-test (eqb (length (x .trace) % 2) 1)
-      (λ h.
-      let o = eqb-true _ 1 h in
-      answered (file-tests sound ∙ start-passed replayFiles after-files x s ∙ there-tests t ∙ odd-tests o) (replay-refused x 10 (eqb-false 10 0 refl))
-      (trace-odd sound s t o))
+      (λ h. let o = eqb-true _ 1 h in answered (refusal-odd sound s t o) (replay-refused x 10 (eqb-false 10 0 refl)) (trace-odd sound s t o))
       (λ h. sized sound s t (eqb-false _ 1 h))
 
   named : caseRefusal (x .case) ≡ 0 → startRefusal (replayFiles x) ≡ 0 → ReplayCase x (replayService x)
   named sound s =
       by-test (leb (length (startsOf (x .start))) (x .number))
-      (λ h.
-      let l = leb-true _ _ h in
-      answered (file-tests sound ∙ start-passed replayFiles after-files x s ∙ missing-tests l) (replay-refused x 7 (eqb-false 7 0 refl))
-      (start-missing sound s l))
+      (λ h. let l = leb-true _ _ h in answered (refusal-missing sound s l) (replay-refused x 7 (eqb-false 7 0 refl)) (start-missing sound s l))
       (λ h. paired sound s (leb-false _ _ h))
 
   pub replay-cases : ReplayCase x (replayService x)
@@ -195,7 +211,5 @@ module _ (x : ReplayInput) where
       let sound = eqb-true _ 0 c in
       by-test (eqb (startRefusal (replayFiles x)) 0)
       (λ s. named sound (eqb-true _ 0 s))
-      (λ s.
-      let bad = eqb-false _ 0 s in
-      answered (file-tests sound ∙ start-first replayFiles after-files x bad) (replay-refused x _ bad) (start-refused sound bad)))
-      (λ c. let bad = eqb-false _ 0 c in answered (case-tests bad) (replay-refused x _ bad) (case-refused bad))
+      (λ s. let bad = eqb-false _ 0 s in answered (refusal-start sound bad) (replay-refused x _ bad) (start-refused sound bad)))
+      (λ c. let bad = eqb-false _ 0 c in answered (refusal-case bad) (replay-refused x _ bad) (case-refused bad))
