@@ -3,7 +3,8 @@
 use mathlib.Core.Path.{refl, ap₂, _∙_}
 use native.Mathlib.Omega.{arith}
 use Rattle.automata.specs.Acceptance.{inTarget}
-use Rattle.own_target.specs.Target.Laws.{is-placed, own-room, own-named}
+use Rattle.saturate.specs.Case.Laws.{is-placed}
+use Rattle.own_target.specs.Target.Laws.{own-room, own-named}
 use borrow.Author.Needs.{needs}
 use Rattle.own_target.proofs.in_target.Statement.{statement}
 use Rattle.own_target.proofs.in_target.Tie as tie

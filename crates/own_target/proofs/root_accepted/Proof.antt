@@ -7,7 +7,8 @@ use lib.ListN.{length-replicate}
 use Rattle.rounds.specs.Won.{isWon}
 use Rattle.saturation.specs.Held.{saturatedIn}
 use Rattle.acceptance.specs.Cells.Laws.{states-below}
-use Rattle.own_target.specs.Target.Laws.{made-zero, made-room, won-in-target}
+use Rattle.sound_files.specs.Sound.Rounds.{made-zero}
+use Rattle.own_target.specs.Target.Laws.{made-room, won-in-target}
 use borrow.Author.Needs.{needs}
 use Rattle.own_target.proofs.root_accepted.Statement.{statement}
 use Rattle.own_target.proofs.root_accepted.Tie as tie

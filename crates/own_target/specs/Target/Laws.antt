@@ -1,38 +1,29 @@
 -- The tables of a sound case's own automaton are as acceptance asks, and the words of the root cell tell whether its configuration lies in the
 -- target.
 -- Assumes nothing.
-use Prim.Native.Nat.{ℕ, suc, _+_, _≤_, _<_}
-use mathlib.Core.Bool.{true}
-use mathlib.Core.Path.{_≡_, refl, ap, sym, _∙_}
-use mathlib.Core.List.{List, [], _∷_, List·Memᴰ, List·Memᴰ·head}
+use Prim.Native.Nat.{ℕ, _+_, _≤_, _<_}
+use mathlib.Core.Path.{_≡_, ap, sym, _∙_}
+use mathlib.Core.List.{List, List·Memᴰ}
 use native.Mathlib.Omega.{arith}
 use lib.ListN.{length, replicate, length-replicate}
-use lib.Dec.{ltb}
-use borrow.Author.Tests.{not-false, ltb-true, ltb-false}
-use Rattle.words.specs.Lists.{every, zeros}
-use Rattle.words.specs.Laws.Tests.{by-test}
-use Rattle.words.specs.Order.{insert}
-use Rattle.words.specs.Order.Laws.{by-place, insert-before, insert-after, insert-held}
 use Rattle.stacks.specs.Stack.{Annotation}
-use Rattle.automata.specs.Automaton.{Automaton, Edge, choiceKey}
+use Rattle.automata.specs.Automaton.{Automaton, Edge}
 use Rattle.automata.specs.Acceptance.{inTarget}
 use Rattle.automata.specs.Saturation.{Saturated}
 use Rattle.rounds.specs.Won.{isWon, acceptsStack}
 use Rattle.walks.specs.Cell.{stackAt, stacks}
 use Rattle.walks.specs.Cell.Formed.{orderAt}
 use Rattle.walks.specs.Cell.Laws.{stack-order, annotation-of2}
-use Rattle.files.specs.Bytes.{placed, countOf}
-use Rattle.files.specs.Bytes.Laws.{numbered, unrefused}
-use Rattle.files.specs.Case.{Head, head, EdgeBytes, innerEdges, edgeRecords, ownOf, caseBodies, caseTests, caseRefusal}
-use Rattle.files.specs.Case.Laws.{case-placed, case-head, case-bounds, case-table, case-edges-few, case-moves-few, case-states-few}
+use Rattle.files.specs.Bytes.{countOf}
+use Rattle.files.specs.Case.{head, edgeRecords, ownOf, caseRefusal}
+use Rattle.files.specs.Case.Laws.{case-placed, case-head, case-bounds, case-table, case-moves-few, case-states-few}
 use Rattle.files.specs.Case.Records.{inner-out}
 use Rattle.tables.specs.declared.Table.{Table}
 use Rattle.tables.specs.Rows.Laws.{length-rowsIn}
 use Rattle.tables.specs.Layouts.{edgeRow, entryRow, moveRow}
 use Rattle.tables.specs.Held.{automatonOf}
-use Rattle.case_tables.specs.Decoded.{innerEdge}
-use Rattle.case_tables.specs.Decoded.Laws.{inner-none, inner-cons, with-entry, with-inner}
 use Rattle.case_tables.specs.Own.{RoomForOwn}
+use Rattle.saturate.specs.Case.Laws.{inner-few}
 use Rattle.acceptance_words.specs.Rows.{roundIn}
 use Rattle.acceptance.specs.Named.{TablesNamed}
 use Rattle.acceptance.specs.Table.{AutomatonSmall}
@@ -42,34 +33,9 @@ use Rattle.acceptance.specs.Cells.Body.{cellsIn, length-cellsIn}
 use Rattle.acceptance.specs.Cells.Laws.{StatesBelow, cell-won}
 use Rattle.own_target.specs.Target.{configurationIn}
 
--- ---- there are no more inner edges than edges
-
-insert-one : {A : Type 0} (key : A → List ℕ) (x : A) (l : List A) → length (insert key x l) ≤ suc (length l)
-unfolding insert
-insert-one key x [] = omega arith
-insert-one key x (y ∷ l) = by-place key x y
-    (λ h. rw (insert-before key x y l h) (omega arith))
-    (λ h. rw (insert-held key x y l h) (omega arith))
-    (λ h. let k : length (insert key x l) ≤ suc (length l) = insert-one key x l in rw (insert-after key x y l h) (omega arith))
-
-inner-fewer : (h : Head) (xs : List EdgeBytes) → length (innerEdges h xs) ≤ length xs
-inner-fewer h [] = rw (inner-none h) (omega arith)
-inner-fewer h (x ∷ xs) =
-    let fewer : length (innerEdges h xs) ≤ length xs = inner-fewer h xs in
-    by-test (ltb (x .state) (h .P))
-    (λ e. rw (inner-cons h x xs, with-entry h x (innerEdges h xs) (ltb-true (x .state) (h .P) e)) (omega arith))
-    (λ e.
-    let one : length (insert choiceKey (innerEdge x) (innerEdges h xs)) ≤ suc (length (innerEdges h xs)) = insert-one choiceKey (innerEdge x) (innerEdges h xs) in
-    rw (inner-cons h x xs, with-inner h x (innerEdges h xs) (ltb-false (x .state) (h .P) e)) (omega arith))
-
 -- ---- the own automaton of a sound case
 
 module _ (file : List ℕ) (sound : caseRefusal file ≡ 0) where
-  -- the bodies of its file are in place
-  pub is-placed : placed caseBodies file ≡ true
-  unfolding caseRefusal caseTests numbered every
-  is-placed = not-false (placed caseBodies file) (unrefused file refl sound (List·Memᴰ·head refl))
-
   -- tables of these lengths have room for it
   pub own-room : (inner entries moves : List ℕ) → 192 ≤ length inner → 128 ≤ length entries → 5120 ≤ length moves → RoomForOwn file inner entries moves
   own-room inner entries moves hi he hm =
@@ -77,13 +43,6 @@ module _ (file : List ℕ) (sound : caseRefusal file ≡ 0) where
       let states : ownOf file .J + length (ownOf file .entries) ≤ 64 = case-states-few file sound in
       let few : countOf file 3 ≤ 1024 = case-placed file sound .moves-count in
       record { inner-room = omega arith; entry-room = omega arith; move-room = omega arith }
-
-  own-inner-few : length (ownOf file .inner) ≤ 64
-  unfolding ownOf
-  own-inner-few =
-      let fewer : length (innerEdges (head file) (edgeRecords file)) ≤ length (edgeRecords file) = inner-fewer (head file) (edgeRecords file) in
-      let few : length (edgeRecords file) ≤ 64 = case-edges-few file sound in
-      omega arith
 
   -- its inner edges lead from states that exist
   inner-exists : (e : Edge) → List·Memᴰ e (ownOf file .inner) → e .state < 64
@@ -121,19 +80,14 @@ module _ (file : List ℕ) (sound : caseRefusal file ≡ 0) where
       let ni : z .edges ≡ length (ownOf file .inner) = sym (length-rowsIn edgeRow (z .edges) inner) ∙ ap (λ (A : Automaton). length (A .inner)) own in
       let ne : z .entries ≡ length (ownOf file .entries) = sym (length-rowsIn entryRow (z .entries) entries) ∙ ap (λ (A : Automaton). length (A .entries)) own in
       let nm : z .moves ≡ length (ownOf file .moves) = sym (length-rowsIn moveRow (z .moves) moves) ∙ ap (λ (A : Automaton). length (A .moves)) own in
-      let edges : length (ownOf file .inner) ≤ 64 = own-inner-few in
+      let edges : length (ownOf file .inner) ≤ 64 = inner-few file sound in
       let states : ownOf file .J + length (ownOf file .entries) ≤ 64 = case-states-few file sound in
       let few : length (ownOf file .moves) ≤ 1024 = case-moves-few file sound in
       stands own-small (record { is = own; edges-lent = omega arith; entries-lent = omega arith; moves-lent = omega arith })
 
 -- ---- the answer
 
--- words that are zero as they are made
-pub made-zero : (n : ℕ) → replicate n 0 ≡ zeros (length {A = ℕ} (replicate n 0))
-unfolding zeros
-made-zero n = ap zeros (sym (length-replicate n 0))
-
--- they, and words that stand in their place, have room for as many
+-- words as they are made, and others in their place, have room for as many
 pub made-room : (m n k : ℕ) → k ≡ length {A = ℕ} (replicate m 0) → n ≤ m → n ≤ k
 made-room m n k e l = let s : length {A = ℕ} (replicate m 0) ≡ m = length-replicate m 0 in omega arith
 

@@ -91,6 +91,19 @@ module _ (file : List ℕ) (sound : caseRefusal file ≡ 0) where
   pub long-enough : 33 ≤ length file
   long-enough = let p : CasePlaces file = case-placed file sound in let w = p .whole in omega arith
 
+  -- there are no more inner edges than edges
+  pub inner-few : length (ownOf file .inner) ≤ 64
+  unfolding ownOf innerEdges
+  inner-few =
+      let xs : List EdgeBytes = edgeRecords file in
+      let inside : EdgeBytes → Bool = λ x. not (ltb (x .state) (head file .P)) in
+      let edge : EdgeBytes → Edge = λ x. record { state = x .state; first = x .first; S = x .S } in
+      let a : length (innerEdges (head file) xs) ≤ length (map edge (only inside xs)) = length-sorted choiceKey (map edge (only inside xs)) in
+      let b : length (map edge (only inside xs)) ≡ length (only inside xs) = length-map (only inside xs) edge in
+      let c : length (only inside xs) ≤ length xs = length-only inside xs in
+      let d : length xs ≤ 64 = case-edges-few file sound in
+      omega arith
+
   -- ---- rules
 
   module _ (body : List ℕ) (count : ℕ) (eb : body ≡ bodyOf file 1 5) (ec : count ≡ countOf file 1) where
@@ -191,18 +204,6 @@ module _ (file : List ℕ) (sound : caseRefusal file ≡ 0) where
 
       states-number : z .inner1 ≡ ownOf file .J
       states-number = ap (λ (A : Automaton). A .J) own
-
-      inner-few : length (ownOf file .inner) ≤ 64
-      unfolding ownOf innerEdges
-      inner-few =
-          let xs : List EdgeBytes = edgeRecords file in
-          let inside : EdgeBytes → Bool = λ x. not (ltb (x .state) (head file .P)) in
-          let edge : EdgeBytes → Edge = λ x. record { state = x .state; first = x .first; S = x .S } in
-          let a : length (innerEdges (head file) xs) ≤ length (map edge (only inside xs)) = length-sorted choiceKey (map edge (only inside xs)) in
-          let b : length (map edge (only inside xs)) ≡ length (only inside xs) = length-map (only inside xs) edge in
-          let c : length (only inside xs) ≤ length xs = length-only inside xs in
-          let d : length xs ≤ 64 = case-edges-few file sound in
-          omega arith
 
       first-below : (i : ℕ) → i < z .edges → rowAt edgeRow inner i .first < 64
       unfolding ownOf
