@@ -1,5 +1,5 @@
-// Acceptance of the cells of a start file: for each cell the words that say since when it is accepted from each of 64 states, by those of the
-// cells before it.
+// Acceptance of cells in the form of a start file: for each cell the words that say since when it is accepted from each of 64 states, by those
+// of the cells before it.
 ghost use mathlib.Core.Path.{_≡_};
 ghost use Prim.Native.Nat.{_<_, _≤_, _+_, _*_};
 ghost use lib.ListN.{length};
@@ -154,7 +154,7 @@ fn put_cell(
     }
 }
 
-// ---- the cells of a start file
+// ---- cells in the form of a start file
 
 // The order of the stack that a cell stands for.
 fn cell_order(cell: Cell) -> u64

@@ -10,16 +10,11 @@ ghost use Rattle.saturate.specs.Service.{theLent, theDone};
 ghost use Rattle.judge.specs.Service.{judgeInput, judgeDone};
 ghost use Rattle.guided_start.specs.Run.{guideInput};
 ghost use Rattle.replay.specs.Service.{replayInput};
-ghost use Rattle.replies.specs.Numbers.{numberOf, replyCounts, replayNumber, replayStep};
 ghost use Rattle.services.specs.Memory.{padded};
 ghost use Rattle.services.specs.Listing.{listingText};
 ghost use Rattle.start_file.specs.Checks.{filesOf};
 ghost use Rattle.exports.specs.Answers.{theReply, theCounts, theAnswer, answerOf, theReplay, replayOf};
 use limits::Limits;
-use replies::Counts;
-use replies::Halt;
-use replies::Replayed;
-use replies::Reply;
 
 // The service saturate: 0 with the numbers of moves and entries, or the number of a refusal with 0 and 0.
 #[no_mangle]
@@ -52,36 +47,6 @@ pub extern "C" fn analyser_judge(
     judge::judge(case, start, moves, entries, answers)
 }
 
-// The number of an answer.
-fn number_of(reply: Reply) -> u64
-    ensures { λ r. ⌜ r ≡ numberOf reply ⌝ }
-{
-    match reply {
-        Reply::Refused(n) => n,
-        Reply::NoRun => 258,
-        Reply::Walked(h) => match h {
-            Halt::Arrived(_) => 0,
-            Halt::TraceFull(_) => 256,
-            Halt::CellsShort(_) => 257,
-        },
-    }
-}
-
-// The steps and cells of an answer.
-fn counts_of(reply: Reply) -> Counts
-    ensures { λ r. ⌜ r ≡ replyCounts reply ⌝ }
-{
-    match reply {
-        Reply::Refused(_) => Counts { steps: 0, cells: 0 },
-        Reply::NoRun => Counts { steps: 0, cells: 0 },
-        Reply::Walked(h) => match h {
-            Halt::Arrived(c) => c,
-            Halt::TraceFull(c) => c,
-            Halt::CellsShort(c) => c,
-        },
-    }
-}
-
 // The service guide from start `number`: the number of its answer, with the steps taken and the cells used, 0 and 0 where it counts none.
 #[no_mangle]
 pub extern "C" fn analyser_guide(
@@ -98,32 +63,10 @@ pub extern "C" fn analyser_guide(
     ensures { λ r. ⌜ theAnswer r (theCounts (now (steps .exit)) (now («cells_used» .exit))) (now (moves .exit)) (now (entries .exit)) (now (cells .exit)) (now (trace .exit)) ≡ answerOf (guideService (guideInput (now (case .entry)) (now (start .entry)) number (length (now (moves .entry))) (length (now (entries .entry))) (length (now (cells .entry))) (length (now (trace .entry))))) ⌝ }
 {
     let reply = guide::guide(case, start, number as usize, moves, entries, cells, trace);
-    let counts = counts_of(reply);
+    let counts = reply_numbers::counts_of(reply);
     *steps = counts.steps;
     *cells_used = counts.cells;
-    number_of(reply)
-}
-
-// The number of an answer of replay.
-fn replay_number(reply: Replayed) -> u64
-    ensures { λ r. ⌜ r ≡ replayNumber reply ⌝ }
-{
-    match reply {
-        Replayed::Refused(n) => n,
-        Replayed::Accepted => 0,
-        Replayed::FailsAt(_) => 260,
-    }
-}
-
-// The step that fails, and 0 where none does.
-fn replay_step(reply: Replayed) -> u64
-    ensures { λ r. ⌜ r ≡ replayStep reply ⌝ }
-{
-    match reply {
-        Replayed::Refused(_) => 0,
-        Replayed::Accepted => 0,
-        Replayed::FailsAt(n) => n,
-    }
+    reply_numbers::number_of(reply)
 }
 
 // The service replay of a trace from start `number`: the number of its answer, with the step that fails, 0 where none does.
@@ -139,8 +82,8 @@ pub extern "C" fn analyser_replay(
     ensures { λ r. ⌜ theReplay r (now (step .exit)) (now (cells .exit)) ≡ replayOf (replayService (replayInput (now (case .entry)) (now (start .entry)) number (now (trace .entry)) (length (now (cells .entry))))) ⌝ }
 {
     let reply = replay::replay(case, start, number as usize, trace, cells);
-    *step = replay_step(reply);
-    replay_number(reply)
+    *step = reply_numbers::replay_step(reply);
+    reply_numbers::replay_number(reply)
 }
 
 // The text that the printing program prints for two files, zeros behind it. Answers its length.

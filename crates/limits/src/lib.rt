@@ -1,4 +1,4 @@
-// Document 01's limits, the sizes of its records in files and in lent memory, and what follows from these: the lengths of files and of working
+// The papers' limits, the sizes of their records in files and in lent memory, and what follows from these: the lengths of files and of working
 // memory. Constants only; nothing else in the code names these numbers.
 
 pub struct Limits {}

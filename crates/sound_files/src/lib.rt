@@ -1,5 +1,5 @@
-// What judge and guide begin with: the refusal by the case file, the start file and the number of its starts, and since when the start file's
-// cells and starts are accepted. They end by zeroing the tables.
+// What judge and guide begin with, and replay too as far as it refuses: the refusal by the case file, the start file and the number of its
+// starts, and since when the start file's cells and starts are accepted. They end by zeroing the tables.
 ghost use mathlib.Core.Path.{_≡_};
 ghost use Prim.Native.Nat.{_*_, _≤_, _<_};
 ghost use lib.ListN.{length};

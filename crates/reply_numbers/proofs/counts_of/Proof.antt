@@ -1,8 +1,8 @@
--- `exports::counts_of` meets its contract.
+-- `reply_numbers::counts_of` meets its contract.
 -- Assumes nothing.
 use borrow.Author.Needs.{needs}
-use Rattle.exports.proofs.counts_of.Statement.{statement}
-use Rattle.exports.proofs.counts_of.Tie as tie
+use Rattle.reply_numbers.proofs.counts_of.Statement.{statement}
+use Rattle.reply_numbers.proofs.counts_of.Tie as tie
 
 enum-told : tie.Need-enum-told
 enum-told c = search needs
