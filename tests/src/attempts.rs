@@ -1,9 +1,8 @@
 //! Replays of generated traces, and what the answers to them hang on.
 
-use std::collections::BTreeMap;
-
 use self::Kind::*;
 use crate::generate::Pair;
+use crate::kinds::{Kinds, of_these};
 use crate::lent::Lent;
 use crate::pairs::pairs;
 use crate::random::Random;
@@ -23,12 +22,19 @@ pub enum Kind {
     LongForeign,
     ForeignByCollapseOne,
     ForeignByCollapseTwo,
+    /// The same into an empty stack or an empty top order-1 stack.
+    ForeignToEmpty,
     /// Fails at step 0, at a later one, or at the end of a run with steps.
     FailsFirst,
     FailsBetween,
     FailsAtLength,
     /// Fails at its end and was in the target before.
     PastTarget,
+    /// Fails at its end, which is empty or has an empty top order-1 stack.
+    EmptyOutside,
+    /// Fails at a rule that exists, at a stack of the target that is empty or has
+    /// an empty top order-1 stack.
+    PastEmpty,
     /// Fails at a number that no rule has.
     NoRule,
     /// Fails at a collapse 1, or 2, by the order of the annotation alone.
@@ -44,14 +50,14 @@ pub enum Kind {
 }
 
 /// How many kinds there are.
-const KINDS: usize = 16;
+const KINDS: usize = 19;
 
 /// A long run has at least so many steps.
 const LONG: usize = 15;
 
 /// How many answers of each kind there were.
 #[derive(Debug, Default)]
-pub struct Answers(BTreeMap<Kind, usize>);
+pub struct Answers(Kinds<Kind>);
 
 /// A replay of rule numbers from a start, with so many cells.
 pub struct Attempt<'a> {
@@ -63,24 +69,15 @@ pub struct Attempt<'a> {
     pub cells: usize,
 }
 
-/// The kinds that are marked true.
-fn of_these<const N: usize>(kinds: [(Kind, bool); N]) -> Vec<Kind> {
-    let marked = kinds.into_iter().filter(|kind| kind.1);
-    marked.map(|kind| kind.0).collect()
-}
-
 impl Answers {
     /// Counts the kinds of an answer.
     pub fn count(&mut self, attempt: &Attempt, reply: ReplayReply) {
-        for kind in attempt.kinds(reply) {
-            *self.0.entry(kind).or_default() += 1;
-        }
+        self.0.count(attempt.kinds(reply));
     }
 
     /// How many answers the rarest kind has: none, if a kind did not occur.
     pub fn rarest(&self) -> usize {
-        let least = self.0.values().copied().min();
-        least.filter(|_| self.0.len() == KINDS).unwrap_or(0)
+        self.0.rarest(KINDS)
     }
 }
 
@@ -99,11 +96,16 @@ impl Attempt<'_> {
         }
         let code = |&rule: &u16| self.pair.case.rules[usize::from(rule)].code;
         let by_code = |wanted: u8| self.trace.iter().any(|rule| code(rule) == wanted);
+        let end = self.pair.end_of_run(self.number, self.trace, "accepted");
         of_these([
             (Foreign, !self.trace.is_empty()),
             (LongForeign, self.trace.len() >= LONG),
             (ForeignByCollapseOne, by_code(7)),
             (ForeignByCollapseTwo, by_code(8)),
+            (
+                ForeignToEmpty,
+                !self.trace.is_empty() && end.stack.empty().is_some(),
+            ),
         ])
     }
 
@@ -122,8 +124,10 @@ impl Attempt<'_> {
         };
         let wrong = is_wrong_collapse(run.last(), rule);
         let room = self.pair.cells_after(&self.trace[..=step]) <= self.cells;
+        let is_empty = run.last().stack.empty().is_some();
         of_these([
             (at, true),
+            (PastEmpty, is_empty && run.ends_in_target(&self.pair.case)),
             (WrongCollapseOne, wrong && rule.code == 7),
             (WrongCollapseTwo, wrong && rule.code == 8),
             (FailsWithoutRoom, !room),
@@ -133,6 +137,7 @@ impl Attempt<'_> {
     fn fails_at_length(&self, run: &Run) -> Vec<Kind> {
         let in_target = run.in_target(&self.pair.case);
         of_these([
+            (EmptyOutside, run.last().stack.empty().is_some()),
             (FailsAtLength, run.steps() > 0),
             (PastTarget, in_target.contains(&true)),
         ])

@@ -7,7 +7,7 @@ use std::rc::Rc;
 use crate::file::{Cell, Edge, Move};
 use crate::sets::{Set, has, is_part, only};
 use crate::stack::{Configuration, Level, Note, One, Symbol, Two};
-use crate::table::View;
+use crate::table::{Finals, View};
 
 /// The states that accept a stack, with the stack's order.
 #[derive(Clone, Copy, Debug, PartialEq, Eq)]
@@ -61,15 +61,21 @@ pub fn accept_pair(view: View, top: Set, rest: Set) -> Set {
         .fold(0, |set, state| set | only(state))
 }
 
-/// For each cell the states that accept the stack it stands for. "An empty
-/// stack is accepted by final states only."
+/// For each cell the states that accept the stack it stands for.
 pub fn accepting(view: View, cells: &[Cell]) -> Vec<Accepting> {
+    accepting_with(view, view.table().finals(), cells)
+}
+
+/// The same with the final states given. "An empty stack is accepted by final
+/// states only"; a final entry "accepts the empty top order-1 stack" (document
+/// 02, §3).
+pub fn accepting_with(view: View, finals: Finals, cells: &[Cell]) -> Vec<Accepting> {
     let mut known: Vec<Accepting> = Vec::new();
     for &cell in cells {
         let at = |number: u16| known[usize::from(number)];
         let states = match cell {
-            Cell::EmptyOne => view.table().final_one(),
-            Cell::EmptyTwo => view.table().final_two(),
+            Cell::EmptyOne => finals.one,
+            Cell::EmptyTwo => finals.two,
             Cell::Symbol { name, note, rest } => {
                 let (note, rest) = (at(note), at(rest).states);
                 accept_symbol(view, &ReadSymbol { name, note, rest })
@@ -108,7 +114,7 @@ impl<'a> StackReader<'a> {
     /// The order-1 states that accept the stack.
     pub fn one(&mut self, stack: &One) -> Set {
         let Some(symbol) = &stack.0 else {
-            return self.view.table().final_one();
+            return self.view.table().finals().one;
         };
         if let Some(&states) = self.ones.get(&Rc::as_ptr(symbol)) {
             return states;
@@ -126,7 +132,7 @@ impl<'a> StackReader<'a> {
     /// The order-2 states that accept the stack.
     pub fn two(&mut self, stack: &Two) -> Set {
         let Some(level) = &stack.0 else {
-            return self.view.table().final_two();
+            return self.view.table().finals().two;
         };
         if let Some(&states) = self.twos.get(&Rc::as_ptr(level)) {
             return states;

@@ -2,7 +2,7 @@
 //! down again; written by hand.
 
 use crate::encode::{encode_case, encode_start};
-use crate::file::{Case, Cell, Edge, Entry, Move, Rule, Start, StartFile};
+use crate::file::{Case, Cell, Edge, FileEntry, Move, Rule, Start, StartFile};
 use crate::services::MOST_CELLS;
 
 /// The rules: copy, push of order 2 and push of order 1 on the way up, in
@@ -51,10 +51,7 @@ pub fn deep_case() -> Vec<u8> {
         rule(1, 8, 1),
     ];
     case.entries = [0, 1]
-        .map(|control| Entry {
-            control,
-            set: 0b100,
-        })
+        .map(|control| FileEntry::plain(control, 0b100))
         .into();
     case.edges = vec![Edge {
         state: 2,

@@ -1,7 +1,9 @@
 //! Writing of case and start files (document 01, "Files"): the inverse of the
 //! decoding, for the generators.
 
-use crate::file::{CASE_BODIES, Case, Cell, ENTRY_MARK, START_BODIES, StartFile};
+use crate::file::{
+    CASE_BODIES, Case, Cell, ENTRY_MARK, FINAL_ENTRY_MARK, FileEntry, START_BODIES, StartFile,
+};
 use crate::sets::Set;
 
 /// The low `length` bytes of `value`, low byte first.
@@ -39,6 +41,17 @@ fn edge(state: u8, second: u8, set: Set) -> Vec<u8> {
     record
 }
 
+/// The edge of a control: its second byte says whether the entry is final
+/// (document 02, §3).
+fn entry(written: &FileEntry) -> Vec<u8> {
+    let second = if written.is_final {
+        FINAL_ENTRY_MARK
+    } else {
+        ENTRY_MARK
+    };
+    edge(written.entry.control, second, written.entry.set)
+}
+
 /// The case file. Controls are numbered below the inner states, so the entries
 /// stand before the other edges.
 pub fn encode_case(case: &Case) -> Vec<u8> {
@@ -47,10 +60,7 @@ pub fn encode_case(case: &Case) -> Vec<u8> {
         .iter()
         .flat_map(|rule| [rule.from, rule.symbol, rule.code, rule.put, rule.to])
         .collect();
-    let entries = case
-        .entries
-        .iter()
-        .flat_map(|entry| edge(entry.control, ENTRY_MARK, entry.set));
+    let entries = case.entries.iter().flat_map(entry);
     let inner = case.edges.iter().flat_map(|e| edge(e.state, e.one, e.set));
     let mut moves = Vec::new();
     for m in &case.moves {

@@ -38,6 +38,32 @@ pub struct Entry {
     pub set: Set,
 }
 
+/// An entry that a case's file holds, as it is written there.
+#[derive(Clone, Copy, Debug, PartialEq, Eq)]
+pub struct FileEntry {
+    pub entry: Entry,
+    /// "An entry written with second byte 254 instead of 255 is final: it accepts
+    /// the empty top order-1 stack" (document 02, §3).
+    pub is_final: bool,
+}
+
+impl FileEntry {
+    /// The entry [p, S] written with the second byte 255.
+    pub fn plain(control: u8, set: Set) -> FileEntry {
+        let entry = Entry { control, set };
+        let is_final = false;
+        FileEntry { entry, is_final }
+    }
+
+    /// The entry [p, S] written with the second byte 254.
+    pub fn finished(control: u8, set: Set) -> FileEntry {
+        FileEntry {
+            is_final: true,
+            ..FileEntry::plain(control, set)
+        }
+    }
+}
+
 /// A move (order-1 state, symbol, annotation order, annotation set, rest set).
 /// The derived order compares by that list.
 #[derive(Clone, Copy, Debug, PartialEq, Eq, PartialOrd, Ord, Hash)]
@@ -64,7 +90,7 @@ pub struct Case {
     pub final_one: Set,
     pub rules: Vec<Rule>,
     /// The entries of the file, numbered from J in file order.
-    pub entries: Vec<Entry>,
+    pub entries: Vec<FileEntry>,
     /// The edges of inner states, in file order.
     pub edges: Vec<Edge>,
     pub moves: Vec<Move>,
@@ -129,8 +155,9 @@ pub const CASE_BODIES: [BodyRule; 4] = [
 /// The bodies of a start file, kinds 1 and 2.
 pub const START_BODIES: [BodyRule; 2] = [body(3, 1, 64), body(6, 1, 256)];
 
-/// The second byte of an edge that is an entry.
+/// The second byte of an edge that is an entry, and of one that is a final entry.
 pub const ENTRY_MARK: u8 = 255;
+pub const FINAL_ENTRY_MARK: u8 = 254;
 
 /// "Numbers in files are unsigned, low byte first."
 pub fn number(bytes: &[u8]) -> u64 {
@@ -245,19 +272,32 @@ impl Case {
         range(self.controls, self.order_two_states())
     }
 
+    /// The controls.
+    pub fn control_set(&self) -> Set {
+        range(0, self.controls)
+    }
+
     /// The inner order-1 states.
     pub fn inner_one_set(&self) -> Set {
         range(0, self.inner_one)
     }
 
+    /// The file's entries with their order-1 states, "numbered from J in file
+    /// order".
+    pub fn numbered_entries(&self) -> impl Iterator<Item = (u8, FileEntry)> {
+        (self.inner_one..).zip(self.entries.iter().copied())
+    }
+
     /// Refusal 2: "a field of case body 1 is out of range". A final set that
-    /// names a state that is not inner is such a field.
+    /// names a state that does not exist is such a field. "The final order-2 set
+    /// may name controls" (document 02, §3); the final order-1 set names inner
+    /// states only.
     fn fields_in_range(&self) -> bool {
         (1..=8).contains(&self.controls)
             && self.inner_two <= 8
             && self.inner_one <= 16
             && (1..=32).contains(&self.symbols)
-            && is_part(self.final_two, self.inner_two_set())
+            && is_part(self.final_two, self.control_set() | self.inner_two_set())
             && is_part(self.final_one, self.inner_one_set())
     }
 
@@ -272,10 +312,10 @@ impl Case {
     }
 
     /// "For an inner state the second byte is an inner order-1 state. For a
-    /// control it is 255."
+    /// control it is 255", or 254 for a final entry (document 02, §3).
     fn edge_in_range(&self, edge: &WrittenEdge) -> bool {
         let second = if edge.state < self.controls {
-            edge.second == ENTRY_MARK
+            matches!(edge.second, ENTRY_MARK | FINAL_ENTRY_MARK)
         } else {
             edge.state < self.order_two_states() && edge.second < self.inner_one
         };
@@ -300,9 +340,9 @@ impl Case {
     fn take_edges(&mut self, written: &[WrittenEdge]) {
         for edge in written {
             if edge.state < self.controls {
-                self.entries.push(Entry {
-                    control: edge.state,
-                    set: edge.set,
+                self.entries.push(FileEntry {
+                    is_final: edge.second == FINAL_ENTRY_MARK,
+                    ..FileEntry::plain(edge.state, edge.set)
                 });
             } else {
                 self.edges.push(Edge {
@@ -312,6 +352,15 @@ impl Case {
                 });
             }
         }
+    }
+
+    /// "Strictly increasing by (state, S, second byte)." A control's edges are
+    /// compared by (state, S) alone: "A second entry for the same state and S is
+    /// refusal 4" (document 02, §3).
+    fn edge_key(&self, edge: &WrittenEdge) -> (u8, Set, u8) {
+        let is_entry = edge.state < self.controls;
+        let second = if is_entry { 0 } else { edge.second };
+        (edge.state, edge.set, second)
     }
 }
 
@@ -333,15 +382,10 @@ pub fn decode_case(file: &[u8]) -> Result<Case, Refusal> {
     if !in_range {
         return Err(3);
     }
-    let edges_rise = written.is_sorted_by(|x, y| edge_key(x) < edge_key(y));
+    let edges_rise = written.is_sorted_by(|x, y| case.edge_key(x) < case.edge_key(y));
     let moves_rise = case.moves.is_sorted_by(|x, y| x < y);
     if !(edges_rise && moves_rise) {
         return Err(4);
     }
     Ok(case)
-}
-
-/// "Strictly increasing by (state, S, second byte)."
-fn edge_key(edge: &WrittenEdge) -> (u8, Set, u8) {
-    (edge.state, edge.set, edge.second)
 }

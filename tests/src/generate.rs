@@ -1,163 +1,15 @@
 //! Generators of sound case and start files from fixed seeds.
 
-use std::collections::BTreeSet;
+use std::collections::{BTreeMap, BTreeSet};
 
 use crate::encode::{encode_case, encode_start};
-use crate::file::{Case, Cell, Edge, Entry, Move, ORDER_ONE_STATES, Rule, Start, StartFile};
+use crate::file::{
+    Case, Cell, Edge, Entry, FileEntry, Move, ORDER_ONE_STATES, Rule, Start, StartFile,
+};
 use crate::plant::plant;
 use crate::random::Random;
 use crate::sets::{Set, members};
-
-/// The largest numbers of a generated pair of files.
-#[derive(Clone, Copy, Debug)]
-pub struct Shape {
-    pub name: &'static str,
-    pub controls: u8,
-    pub inner_two: u8,
-    pub inner_one: u8,
-    pub symbols: u8,
-    pub rules: usize,
-    /// Rules take their codes from this list.
-    pub codes: &'static [u8],
-    /// The chance, in percent, of a rule to lead to the next control.
-    pub onward: usize,
-    /// Whether the target is made to hold a configuration that the first start
-    /// reaches.
-    pub planted: bool,
-    /// Edges of each inner order-2 state, and entries of each control.
-    pub edges: usize,
-    /// Moves of each order-1 state.
-    pub moves: usize,
-    /// The chance, in percent, of a state to be a member of a set.
-    pub members: usize,
-    pub starts: usize,
-    pub cells: usize,
-}
-
-const SMALL: Shape = Shape {
-    name: "small",
-    controls: 3,
-    inner_two: 2,
-    inner_one: 2,
-    symbols: 2,
-    rules: 10,
-    codes: &[1, 2, 3, 4, 5, 6, 7, 8],
-    onward: 50,
-    planted: false,
-    edges: 1,
-    moves: 2,
-    members: 30,
-    starts: 4,
-    cells: 12,
-};
-
-/// The shapes of generated files: all operations; mostly pushes with their
-/// collapses; mostly copies; alternation, by larger sets and more edges; longer
-/// runs to a planted target; moves with several derivations; and more of
-/// everything.
-pub const SHAPES: [Shape; 7] = [
-    SMALL,
-    Shape {
-        name: "pushes",
-        controls: 4,
-        rules: 14,
-        codes: &[1, 2, 2, 3, 3, 5, 7, 7, 8, 8],
-        ..SMALL
-    },
-    Shape {
-        name: "copies",
-        controls: 4,
-        rules: 12,
-        codes: &[1, 4, 4, 4, 5, 6, 6, 2, 3],
-        ..SMALL
-    },
-    Shape {
-        name: "alternation",
-        inner_two: 3,
-        inner_one: 4,
-        edges: 2,
-        moves: 3,
-        members: 50,
-        ..SMALL
-    },
-    Shape {
-        name: "planted",
-        controls: 6,
-        inner_two: 3,
-        inner_one: 3,
-        symbols: 6,
-        rules: 12,
-        codes: &[1, 2, 3, 4, 5, 6, 7, 8],
-        onward: 30,
-        planted: true,
-        edges: 2,
-        moves: 5,
-        starts: 3,
-        cells: 40,
-        ..SMALL
-    },
-    Shape {
-        name: "choices",
-        controls: 4,
-        inner_two: 1,
-        inner_one: 1,
-        rules: 10,
-        codes: &[1, 2, 3, 4, 4, 4, 5, 6, 6, 8],
-        onward: 20,
-        planted: true,
-        cells: 20,
-        ..SMALL
-    },
-    Shape {
-        name: "larger",
-        controls: 5,
-        inner_two: 4,
-        inner_one: 6,
-        symbols: 4,
-        rules: 16,
-        edges: 2,
-        moves: 4,
-        members: 20,
-        starts: 8,
-        cells: 40,
-        ..SMALL
-    },
-];
-
-/// Starts whose parts are accepted in different rounds. It is no part of
-/// `SHAPES`: there are many starts for tests that walk from each.
-pub const LATE: Shape = Shape {
-    name: "late",
-    controls: 4,
-    inner_two: 1,
-    inner_one: 1,
-    symbols: 12,
-    rules: 90,
-    codes: &[1, 1, 1, 1, 5, 6, 7, 8],
-    onward: 30,
-    starts: 32,
-    cells: 60,
-    ..SMALL
-};
-
-/// Files near the limits of document 01, with runs to a planted target. It is no
-/// part of `SHAPES`: a pair takes longer.
-pub const WIDE: Shape = Shape {
-    name: "wide",
-    controls: 8,
-    inner_two: 8,
-    inner_one: 16,
-    symbols: 24,
-    rules: 60,
-    codes: &[1, 2, 2, 3, 3, 4, 5, 6, 7, 7, 8, 8],
-    onward: 20,
-    planted: true,
-    edges: 2,
-    moves: 8,
-    members: 10,
-    starts: 64,
-    cells: 256,
-};
+use crate::shapes::Shape;
 
 /// A sound case and a sound start file for it, with their bytes.
 #[derive(Clone, Debug)]
@@ -174,7 +26,7 @@ pub fn pair(seed: u64, shape: &Shape) -> Pair {
     let mut case = case(&mut random, shape);
     let start = start(&mut random, shape, &case);
     if shape.planted {
-        plant(&mut random, &mut case, &start);
+        plant(&mut random, shape, &mut case, &start);
     }
     Pair {
         case_file: encode_case(&case),
@@ -192,7 +44,8 @@ pub fn case(random: &mut Random, shape: &Shape) -> Case {
         random.byte(0, shape.inner_one),
         random.byte(1, shape.symbols),
     );
-    case.final_two = random.part_of(case.inner_two_set(), 50);
+    let final_controls = random.part_of(case.control_set(), shape.finished);
+    case.final_two = final_controls | random.part_of(case.inner_two_set(), 50);
     case.final_one = random.part_of(case.inner_one_set(), 50);
     case.rules = rules(random, shape, &case);
     case.entries = entries(random, shape, &case);
@@ -244,19 +97,21 @@ fn rule(random: &mut Random, shape: &Shape, case: &Case, from: u8, symbol: u8) -
 
 /// Entries for the last control, most often, and for a few of the others,
 /// strictly increasing.
-fn entries(random: &mut Random, shape: &Shape, case: &Case) -> Vec<Entry> {
-    let mut entries = BTreeSet::new();
+fn entries(random: &mut Random, shape: &Shape, case: &Case) -> Vec<FileEntry> {
+    let mut entries = BTreeMap::new();
     for control in 0..case.controls {
         let last = control == case.controls - 1;
-        if random.chance(if last { 95 } else { 20 }) {
+        if random.chance(if last { 95 } else { shape.finished.max(20) }) {
             for _ in 0..random.between(1, shape.edges) {
                 let set = random.part_of(case.inner_two_set(), shape.members);
-                entries.insert(Entry { control, set });
+                let is_final = random.chance(shape.finished);
+                entries.insert(Entry { control, set }, is_final);
             }
         }
     }
     let most = ORDER_ONE_STATES - usize::from(case.inner_one);
-    entries.into_iter().take(most).collect()
+    let written = |(entry, is_final)| FileEntry { entry, is_final };
+    entries.into_iter().take(most).map(written).collect()
 }
 
 /// Edges of the inner states, strictly increasing by (state, S, second byte).
@@ -320,57 +175,64 @@ pub fn start(random: &mut Random, shape: &Shape, case: &Case) -> StartFile {
         cells.reverse();
     }
     for _ in 0..random.between(shape.cells / 4, shape.cells - 2) {
-        let cell = cell(random, case, &cells);
+        let cell = cell(random, shape, case, &cells);
         cells.push(cell);
     }
     let last = case.controls - 1;
     let starts = (0..random.between(1, shape.starts))
         .map(|_| Start {
             control: random.byte(0, last).min(random.byte(0, last)),
-            root: root(random, &cells),
+            root: root(random, shape, &cells),
         })
         .collect();
     StartFile { starts, cells }
 }
 
 /// An order-2 cell, most often one whose top symbol a rule can read.
-fn root(random: &mut Random, cells: &[Cell]) -> u16 {
+fn root(random: &mut Random, shape: &Shape, cells: &[Cell]) -> u16 {
     let readable = |cell: &Cell| match cell {
         Cell::Pair { top, .. } => matches!(cells[usize::from(*top)], Cell::Symbol { .. }),
         _ => false,
     };
+    if random.chance(shape.finished / 2) {
+        let finished = |cell: &Cell| cell.order() == 2 && !readable(cell);
+        return random.pick(&numbers_of(cells, finished));
+    }
     let readable: Vec<u16> = numbers_of(cells, readable);
     if readable.is_empty() || random.chance(10) {
-        lower(random, cells, Some(2))
+        lower(random, shape, cells, Some(2))
     } else {
         random.pick(&readable)
     }
 }
 
 /// One more cell; now and then an empty stack anew.
-fn cell(random: &mut Random, case: &Case, cells: &[Cell]) -> Cell {
+fn cell(random: &mut Random, shape: &Shape, case: &Case, cells: &[Cell]) -> Cell {
     match random.below(20) {
         0 => Cell::EmptyOne,
         1 => Cell::EmptyTwo,
         2..=12 => Cell::Symbol {
             name: random.byte(0, case.symbols - 1),
-            note: lower(random, cells, None),
-            rest: lower(random, cells, Some(1)),
+            note: lower(random, shape, cells, None),
+            rest: lower(random, shape, cells, Some(1)),
         },
         _ => Cell::Pair {
-            top: lower(random, cells, Some(1)),
-            rest: lower(random, cells, Some(2)),
+            top: lower(random, shape, cells, Some(1)),
+            rest: lower(random, shape, cells, Some(2)),
         },
     }
 }
 
 /// The number of one of the cells, of the given order if there is one. Most of
-/// the answers are among the last two, so that deep stacks occur.
-fn lower(random: &mut Random, cells: &[Cell], order: Option<u8>) -> u16 {
-    let fitting = numbers_of(cells, |cell| {
-        order.is_none_or(|order| cell.order() == order)
-    });
-    if random.chance(75) {
+/// the answers are among the last two, so that deep stacks occur; some are empty
+/// stacks.
+fn lower(random: &mut Random, shape: &Shape, cells: &[Cell], order: Option<u8>) -> u16 {
+    let of_order = |cell: &Cell| order.is_none_or(|order| cell.order() == order);
+    let is_empty = |cell: &Cell| matches!(cell, Cell::EmptyOne | Cell::EmptyTwo);
+    let fitting = numbers_of(cells, of_order);
+    if random.chance(shape.finished / 2) {
+        random.pick(&numbers_of(cells, |cell| of_order(cell) && is_empty(cell)))
+    } else if random.chance(75) {
         random.pick(&fitting[fitting.len().saturating_sub(2)..])
     } else {
         random.pick(&fitting)

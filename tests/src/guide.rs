@@ -1,4 +1,4 @@
-//! The guided run (document 01, "The guided run").
+//! The guided run (document 01, "The guided run"; document 02, §3).
 
 use std::collections::{BTreeMap, HashMap};
 
@@ -89,9 +89,12 @@ impl<'a> Walk<'a> {
         self.cells.len()
     }
 
-    /// "The chosen move at the top has arrived if it is from round 0."
+    /// "The chosen move at the top has arrived if it is from round 0." "The walk
+    /// has also arrived where no move is needed" (document 02, §3): at an empty
+    /// stack or an empty top order-1 stack, to which no rule applies.
     pub fn has_arrived(&self) -> bool {
-        self.table.round_of_move(self.top().chosen) == 0
+        let chosen = self.top().map(|top| top.chosen);
+        chosen.is_none_or(|number| self.table.round_of_move(number) == 0)
     }
 
     /// The number of the next step's rule, for a walk that has not arrived.
@@ -110,7 +113,7 @@ impl<'a> Walk<'a> {
     pub fn step(&mut self) {
         let derivation = self.next_derivation();
         let rule = self.case.rules[derivation.rule];
-        let top = self.top();
+        let top = self.next_top();
         self.root = match rule.code {
             1 => self.rewrite(&top, &derivation, rule.put),
             2 => self.push(&top, &derivation, rule.put, top.rest),
@@ -195,7 +198,7 @@ impl<'a> Walk<'a> {
 
     /// The first derivation of the move chosen at the top.
     fn next_derivation(&mut self) -> Derivation {
-        let chosen = self.top().chosen;
+        let chosen = self.next_top().chosen;
         let (case, table) = (self.case, self.table);
         let known = self.known.entry(chosen);
         known
@@ -203,23 +206,29 @@ impl<'a> Walk<'a> {
             .clone()
     }
 
-    /// The top of the stack with the choices that lead to it.
-    fn top(&self) -> Top {
+    /// The top of a walk that has not arrived.
+    fn next_top(&self) -> Top {
+        self.top().expect("no step leaves an empty stack")
+    }
+
+    /// The top of the stack with the choices that lead to it, if there is a
+    /// symbol at the top.
+    fn top(&self) -> Option<Top> {
         let root = &self.cells[usize::from(self.root)];
         let Cell::Pair { top, rest: below } = root.cell else {
-            unreachable!("controls accept no empty order-2 stack");
+            return None;
         };
         let symbol = &self.cells[usize::from(top)];
         let Cell::Symbol { name, note, rest } = symbol.cell else {
-            unreachable!("entries accept no empty order-1 stack");
+            return None;
         };
         let edge = root.edges[&self.control];
-        Top {
+        Some(Top {
             name,
             note,
             rest,
             below,
             chosen: symbol.moves[&edge.one],
-        }
+        })
     }
 }

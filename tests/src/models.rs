@@ -1,5 +1,5 @@
 //! The files of document 01's worked models, written by hand from its
-//! sentences.
+//! sentences, and of model B in document 02, §3.
 
 /// "P 2, I 0, J 0, A 2; rules 0: (0,0,3,1,0), 1: (0,1,8,0,1); edge
 /// (1,255,empty); move (0,1,0,empty,empty). 80 bytes."
@@ -49,6 +49,13 @@ pub const CASE_B: [u8; 75] = [
     0, 1, 0, 0, 0, 0, 0, 0, 0, 0, 0, 0, 0, 0, 0, 0, 0, 0, 0,
 ];
 
+/// Model B "if its entry is written with 254" (document 02, §3).
+pub const CASE_B_FINISHED: [u8; 75] = {
+    let mut file = CASE_B;
+    file[53] = 254;
+    file
+};
+
 /// Starts with control 0: "symbol 0 above 1" and "symbol 0 alone", each on the
 /// empty order-2 stack and annotated by the empty order-1 stack.
 #[rustfmt::skip]
@@ -66,6 +73,10 @@ pub const START_B: [u8; 65] = [
     2, 0, 0, 0, 0, 0,
     4, 0, 5, 0, 2, 0,
 ];
+
+/// "Symbol 0 alone" in a file of its own, with control 0: four cells, as for model
+/// C.
+pub const START_B_LONE: [u8; 44] = START_C_ONE;
 
 /// "P 2, I 0, J 0, A 1, target [1,empty] on symbol 0; rules 0: (0,0,4,0,0),
 /// 1: (0,0,6,0,1)."

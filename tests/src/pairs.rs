@@ -2,16 +2,16 @@
 //! nested stacks, cells counted, the guide's answer by document 01's sentence,
 //! replay's by document 02's.
 
-use crate::automaton::accepts;
-use crate::generate::{LATE, Pair, SHAPES, Shape, pair};
+use crate::generate::{Pair, pair};
 use crate::lent::Lent;
 use crate::random::seeds;
 use crate::replay::{ReplayReply, Run};
 use crate::search::{Bounds, Outcome, search};
 use crate::services::GuideReply::{self, Arrived, CellsShort, TraceFull};
 use crate::services::MOST_CELLS;
-use crate::stack::{Configuration, after_rules, configuration, new_cells};
-use crate::table::Table;
+use crate::shapes::{LATE, SHAPES, Shape};
+use crate::stack::{Configuration, Empty, after_rules, configuration, new_cells};
+use crate::target::in_target;
 
 /// The generated pairs of all shapes, with what names them in a failure.
 pub fn pairs(count: u64) -> impl Iterator<Item = (String, Pair)> {
@@ -46,7 +46,8 @@ impl Pair {
     }
 
     /// A walk's reply that is no refusal: the trace is a run on nested stacks, it
-    /// ends in the target if it arrived, and the cells are those of its rules.
+    /// ends in the target if it arrived, it has arrived where no rule applies, and
+    /// the cells are those of its rules.
     pub fn check_run(&self, number: usize, reply: GuideReply, trace: &[u16], name: &str) {
         let (Arrived { cells, .. } | TraceFull { cells, .. } | CellsShort { cells, .. }) = reply
         else {
@@ -55,11 +56,11 @@ impl Pair {
         let trace = &trace[..reply.steps()];
         let end = self.end_of_run(number, trace, name);
         if let Arrived { .. } = reply {
-            let own = Table::new(&self.case);
-            assert!(
-                accepts(own.whole(), &end),
-                "{name} start {number} is no target"
-            );
+            let arrived = in_target(&self.case, &end);
+            assert!(arrived, "{name} start {number} is no target");
+        } else {
+            let goes_on = end.stack.empty().is_none();
+            assert!(goes_on, "{name} start {number} ends at an empty stack");
         }
         let used = self.cells_after(trace) as u64;
         assert_eq!(cells, used, "{name} start {number}");
@@ -120,7 +121,7 @@ impl Pair {
             return ReplayReply::Refused(11);
         }
         let end = self.end_of_run(number, run, "the longest run");
-        if steps == trace.len() && accepts(Table::new(&self.case).whole(), &end) {
+        if steps == trace.len() && in_target(&self.case, &end) {
             return ReplayReply::Accepted;
         }
         let step = steps as u64;
@@ -132,6 +133,10 @@ impl Pair {
 #[derive(Debug, Default)]
 pub struct Searched {
     pub reached: usize,
+    /// Those of the reached ones, by steps, where the order-2 stack is empty, and
+    /// where the top order-1 stack is.
+    pub at_empty_stack: usize,
+    pub at_empty_top: usize,
     pub exhausted: usize,
     pub bounded: usize,
 }
@@ -143,10 +148,12 @@ impl Searched {
     pub fn check(&mut self, name: &str, pair: &Pair, rounds: &[Option<usize>], bounds: Bounds) {
         for (number, &round) in rounds.iter().enumerate() {
             match search(&pair.case, pair.configuration(number), bounds) {
-                Outcome::Reached(steps) => {
+                Outcome::Reached { steps, empty } => {
                     assert!(round.is_some(), "{name} start {number} reaches the target");
                     assert_eq!(round == Some(0), steps == 0, "{name} start {number}");
                     self.reached += 1;
+                    self.at_empty_stack += usize::from(steps > 0 && empty == Some(Empty::Stack));
+                    self.at_empty_top += usize::from(steps > 0 && empty == Some(Empty::Top));
                 }
                 Outcome::Exhausted => {
                     assert_eq!(round, None, "{name} start {number} reaches no target");

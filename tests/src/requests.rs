@@ -2,15 +2,18 @@
 
 use crate::data::{bytes, bytes_of};
 use crate::replay::{REPLAY_CELL_BYTES, ReplayReply};
-use crate::services::{ENTRY_WORDS, LISTING_ENTRIES, LISTING_MOVES, MOVE_WORDS};
+use crate::services::{
+    CELL_WORDS, ENTRY_WORDS, GuideReply, LISTING_ENTRIES, LISTING_MOVES, MOVE_WORDS,
+};
 
 /// The last request that has landed.
-const LANDED: u64 = 2;
+const LANDED: u64 = 3;
 
-/// The requests whose files are here, and how many lines of each hold now.
-const FILES: [(u64, usize); 2] = [(1, 20), (2, 28)];
+/// The requests whose files are here, and how many lines of each hold after it.
+const FILES: [(u64, usize); 3] = [(1, 20), (2, 28), (3, 23)];
 
 type Judge = fn(&[u8], &[u8], &mut [u64], &mut [u64], &mut [u16]) -> u64;
+type Guide = fn(&[u8], &[u8], u64, &mut [u64], &mut [u64], &mut [u16], &mut [u16]) -> GuideReply;
 type Listing = fn(&[u8], &[u8]) -> String;
 type Replay = fn(&[u8], &[u8], u64, &[u8], &mut [u8]) -> ReplayReply;
 
@@ -18,6 +21,7 @@ type Replay = fn(&[u8], &[u8], u64, &[u8], &mut [u8]) -> ReplayReply;
 #[derive(Clone, Copy)]
 pub struct Services {
     pub judge: Judge,
+    pub guide: Guide,
     pub listing: Listing,
     pub replay: Replay,
 }
@@ -71,6 +75,7 @@ impl Example {
         let start = bytes_of(&self.take("start").expect("a start file"));
         let reply = match self.call.as_str() {
             "judge" => self.judge(services, &case, &start),
+            "guide" => self.guide(services, &case, &start),
             "listing" => in_one_line(&(services.listing)(&case, &start)),
             "replay" => self.replay(services, &case, &start),
             call => panic!("{}: the call {call} is not known", self.name),
@@ -79,20 +84,59 @@ impl Example {
         assert_eq!(reply, self.reply, "{}", self.name);
     }
 
+    /// The tables that a line lends: words of moves and of entries.
+    fn tables(&mut self) -> [Vec<u64>; 2] {
+        let moves = self.number("moves").unwrap_or(LISTING_MOVES);
+        let entries = self.number("entries").unwrap_or(LISTING_ENTRIES);
+        [moves * MOVE_WORDS, entries * ENTRY_WORDS].map(|words| vec![u64::MAX; words])
+    }
+
     /// Judge's reply. "Every lent slice that is not plainly zero" is in the
     /// line's reply, so the tables are zero.
     fn judge(&mut self, services: Services, case: &[u8], start: &[u8]) -> String {
-        let moves = self.number("moves").unwrap_or(LISTING_MOVES);
-        let entries = self.number("entries").unwrap_or(LISTING_ENTRIES);
+        let [mut moves, mut entries] = self.tables();
         let answers = self.number("answers").expect("answer words");
-        let mut moves = vec![u64::MAX; moves * MOVE_WORDS];
-        let mut entries = vec![u64::MAX; entries * ENTRY_WORDS];
         let mut answers = vec![u16::MAX; answers];
         let code = (services.judge)(case, start, &mut moves, &mut entries, &mut answers);
-        let tables = moves.iter().chain(&entries);
-        assert!(tables.copied().all(|word| word == 0), "{}", self.name);
-        let answers: Vec<String> = answers.iter().map(u16::to_string).collect();
-        format!("code={code} answers={}", answers.join(","))
+        let tables = [moves, entries].concat();
+        assert!(tables.iter().all(|&word| word == 0), "{}", self.name);
+        format!("code={code} answers={}", list(&answers))
+    }
+
+    /// Guide's reply. No line's reply has tables or cells of the walk, so they are
+    /// zero.
+    fn guide(&mut self, services: Services, case: &[u8], start: &[u8]) -> String {
+        let [mut moves, mut entries] = self.tables();
+        let number = self.number("number").expect("a start number") as u64;
+        let cells = self.number("cells").expect("cells");
+        let trace = self.number("trace_words").expect("trace words");
+        let mut cells = vec![u16::MAX; cells * CELL_WORDS];
+        let mut trace = vec![u16::MAX; trace];
+        let reply = (services.guide)(
+            case,
+            start,
+            number,
+            &mut moves,
+            &mut entries,
+            &mut cells,
+            &mut trace,
+        );
+        let tables = [moves, entries].concat();
+        assert!(tables.iter().all(|&word| word == 0), "{}", self.name);
+        assert!(cells.iter().all(|&word| word == 0), "{}", self.name);
+        let walked = |kind: &str, steps: u64, cells: u64| {
+            format!(
+                "kind={kind} trace={} steps={steps} cells={cells}",
+                list(&trace)
+            )
+        };
+        match reply {
+            GuideReply::Refused(number) => format!("kind=refused number={number}"),
+            GuideReply::NoRun => format!("kind=no_run trace={}", list(&trace)),
+            GuideReply::Arrived { steps, cells } => walked("arrived", steps, cells),
+            GuideReply::TraceFull { steps, cells } => walked("trace", steps, cells),
+            GuideReply::CellsShort { steps, cells } => walked("cells", steps, cells),
+        }
     }
 
     /// Replay's reply. No line's reply has cells, so they are zero.
@@ -120,6 +164,12 @@ impl Example {
         let value = self.take(name)?;
         Some(value.parse().expect("a number"))
     }
+}
+
+/// "Lists divided by commas."
+fn list(words: &[u16]) -> String {
+    let words: Vec<String> = words.iter().map(u16::to_string).collect();
+    words.join(",")
 }
 
 /// "In the text of a listing `|` stands for a line end and `_` for a space";

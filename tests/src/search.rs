@@ -3,10 +3,9 @@
 
 use std::collections::HashSet;
 
-use crate::automaton::accepts;
 use crate::file::Case;
-use crate::stack::Configuration;
-use crate::table::Table;
+use crate::stack::{Configuration, Empty};
+use crate::target::in_target;
 
 /// Where the search stops.
 #[derive(Clone, Copy, Debug)]
@@ -22,33 +21,30 @@ pub struct Bounds {
 /// What the search found.
 #[derive(Clone, Copy, Debug, PartialEq, Eq)]
 pub enum Outcome {
-    /// The target is reached, by this number of steps.
-    Reached(usize),
+    /// The target is reached by this number of steps, and there a part of the
+    /// stack is empty or a symbol is at the top.
+    Reached { steps: usize, empty: Option<Empty> },
     /// Every reachable configuration was looked at, none is in the target.
     Exhausted,
     /// None within the bounds is in the target.
     Bounded,
 }
 
-/// Searches breadth-first. "The target is every configuration that the case's
-/// own automaton accepts from its control." If no configuration was left out,
-/// the number of steps found is the least.
+/// Searches breadth-first. If no configuration was left out, the number of steps
+/// found is the least.
 pub fn search(case: &Case, start: Configuration, bounds: Bounds) -> Outcome {
-    let own = Table::new(case);
     let mut left_out = false;
     let mut seen = HashSet::from([start.clone()]);
     let mut level = vec![start];
-    for depth in 0.. {
-        if level
-            .iter()
-            .any(|configuration| accepts(own.whole(), configuration))
-        {
-            return Outcome::Reached(depth);
+    for steps in 0.. {
+        if let Some(end) = level.iter().find(|now| in_target(case, now)) {
+            let empty = end.stack.empty();
+            return Outcome::Reached { steps, empty };
         }
         if level.is_empty() {
             break;
         }
-        if depth == bounds.depth || seen.len() > bounds.configurations {
+        if steps == bounds.depth || seen.len() > bounds.configurations {
             left_out = true;
             break;
         }

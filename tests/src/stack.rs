@@ -80,6 +80,26 @@ impl Two {
     }
 }
 
+/// What is empty of a stack without a top symbol.
+#[derive(Clone, Copy, Debug, PartialEq, Eq)]
+pub enum Empty {
+    /// The order-2 stack.
+    Stack,
+    /// The top order-1 stack.
+    Top,
+}
+
+impl Two {
+    /// "No rule applies to an empty stack or an empty top order-1 stack": which of
+    /// the two this is, if it is one of them.
+    pub fn empty(&self) -> Option<Empty> {
+        match &self.0 {
+            None => Some(Empty::Stack),
+            Some(level) => level.top.0.is_none().then_some(Empty::Top),
+        }
+    }
+}
+
 /// A nonempty stack "as symbol a annotated u, then s, then t".
 pub struct Top {
     /// The whole top order-1 stack.

@@ -4,7 +4,7 @@
 use std::collections::{HashMap, HashSet};
 
 use crate::file::{Case, Edge, Entry, Move};
-use crate::sets::Set;
+use crate::sets::{Set, only};
 
 /// Numbers of moves and entries.
 #[derive(Clone, Copy, Debug, PartialEq, Eq)]
@@ -13,12 +13,34 @@ pub struct Size {
     pub entries: usize,
 }
 
+/// The final states of each order: "an empty stack is accepted by final states
+/// only".
+#[derive(Clone, Copy, Debug, PartialEq, Eq)]
+pub struct Finals {
+    pub one: Set,
+    pub two: Set,
+}
+
+impl Finals {
+    /// The final states of a case: those that its final sets name, and the entries
+    /// that its file writes as final (document 02, §3).
+    fn of(case: &Case) -> Finals {
+        let entries = case.numbered_entries();
+        let entries = entries.filter(|(_, written)| written.is_final);
+        Finals {
+            one: entries.fold(case.final_one, |set, (one, _)| set | only(one)),
+            two: case.final_two,
+        }
+    }
+}
+
 /// A case's automaton with what the rounds so far have added.
 #[derive(Clone, Debug)]
 pub struct Table {
     inner_one: u8,
-    final_one: Set,
-    final_two: Set,
+    /// No round changes them: "Entries found by saturation are never final", and
+    /// an entry of the file stays as it is written (document 02, §3).
+    finals: Finals,
     moves: Vec<Move>,
     entries: Vec<Entry>,
     /// The edges of each order-2 state, by (order-1 state, S).
@@ -35,8 +57,7 @@ impl Table {
     pub fn new(case: &Case) -> Table {
         let mut table = Table {
             inner_one: case.inner_one,
-            final_one: case.final_one,
-            final_two: case.final_two,
+            finals: Finals::of(case),
             moves: Vec::new(),
             entries: Vec::new(),
             edges: vec![Vec::new(); usize::from(case.order_two_states())],
@@ -52,7 +73,7 @@ impl Table {
         }
         case.entries
             .iter()
-            .for_each(|&entry| table.add_entry(entry));
+            .for_each(|written| table.add_entry(written.entry));
         case.moves.iter().for_each(|&m| table.add_move(m));
         table.end_round();
         table
@@ -93,12 +114,8 @@ impl Table {
         &self.entries
     }
 
-    pub fn final_one(&self) -> Set {
-        self.final_one
-    }
-
-    pub fn final_two(&self) -> Set {
-        self.final_two
+    pub fn finals(&self) -> Finals {
+        self.finals
     }
 
     /// The number of order-2 states.

@@ -4,7 +4,7 @@
 use std::collections::BTreeMap;
 
 use crate::automaton::{Accepting, ReadSymbol, accept_pair, accept_symbol, accepting};
-use crate::file::{Case, Cell, Entry, Move, Rule, Start, StartFile};
+use crate::file::{Case, Cell, FileEntry, Move, Rule, Start, StartFile};
 use crate::sets::{Set, has, members};
 use crate::table::Table;
 
@@ -80,39 +80,43 @@ impl<'a> Rounds<'a> {
         }
     }
 
-    /// The top symbol of a start and the cell beneath its order-1 stack.
-    fn top(&self, start: &Start) -> Option<(u8, u16, u16, u16)> {
-        let Cell::Pair { top, rest: below } = self.cells[usize::from(start.root)] else {
+    fn cell(&self, number: u16) -> Cell {
+        self.cells[usize::from(number)]
+    }
+
+    /// The order of the top symbol's annotation, if there is a symbol at the top.
+    fn note_order(&self, start: &Start) -> Option<u8> {
+        let Cell::Pair { top, .. } = self.cell(start.root) else {
             return None;
         };
-        match self.cells[usize::from(top)] {
-            Cell::Symbol { name, note, rest } => Some((name, note, rest, below)),
+        match self.cell(top) {
+            Cell::Symbol { note, .. } => Some(self.cell(note).order()),
             _ => None,
         }
     }
 
-    fn note_order(&self, start: &Start) -> Option<u8> {
-        let (_, note, _, _) = self.top(start)?;
-        Some(self.cells[usize::from(note)].order())
-    }
-
     /// The least round whose table accepts the start, where the part, if one is
-    /// given, is read by the saturated table in every round.
+    /// given, is read by the saturated table in every round. An empty stack has
+    /// no parts: the case's own table accepts it, or none.
     fn won(&self, start: &Start, part: Option<Part>) -> Option<usize> {
-        let (name, note, rest, below) = self.top(start)?;
         let last = self.table.rounds();
+        let Cell::Pair { top, rest: below } = self.cell(start.root) else {
+            return has(self.table.finals().two, start.control).then_some(0);
+        };
         (0..=last).find(|&round| {
             let read = |cell: u16, of: Part| {
                 let round = if part == Some(of) { last } else { round };
                 self.accepting[round][usize::from(cell)]
             };
-            let symbol = ReadSymbol {
-                name,
-                note: read(note, Part::Note),
-                rest: read(rest, Part::Rest).states,
-            };
             let view = self.table.after_round(round);
-            let top = accept_symbol(view, &symbol);
+            let top = match self.cell(top) {
+                Cell::Symbol { name, note, rest } => {
+                    let note = read(note, Part::Note);
+                    let rest = read(rest, Part::Rest).states;
+                    accept_symbol(view, &ReadSymbol { name, note, rest })
+                }
+                _ => self.table.finals().one,
+            };
             let below = read(below, Part::Below).states;
             has(accept_pair(view, top, below), start.control)
         })
@@ -137,8 +141,8 @@ pub fn latest(table: &Table, cells: &[Cell], choices: Choices) -> Vec<BTreeMap<u
         let at = |number: u16| &known[usize::from(number)];
         let finals = |set: Set| members(set).map(|state| (state, 0)).collect();
         let rounds = match cell {
-            Cell::EmptyOne => finals(table.final_one()),
-            Cell::EmptyTwo => finals(table.final_two()),
+            Cell::EmptyOne => finals(table.finals().one),
+            Cell::EmptyTwo => finals(table.finals().two),
             Cell::Symbol { name, note, rest } => {
                 let order = cells[usize::from(note)].order();
                 let by_move = |number: usize| {
@@ -214,7 +218,7 @@ pub fn example_case() -> Case {
         rule(0, 9, 5, 0),
         rule(0, 9, 6, 0),
     ];
-    case.entries = vec![Entry { control: 1, set: 0 }];
+    case.entries = vec![FileEntry::plain(1, 0)];
     case.moves = vec![Move {
         state: 0,
         symbol: 0,

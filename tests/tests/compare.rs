@@ -3,7 +3,7 @@
 //! a bounded search; memory of every small length.
 
 use second::compare::Both;
-use second::generate::{Pair, WIDE, pair};
+use second::generate::{Pair, pair};
 use second::lent::Lent;
 use second::pairs::{Searched, late_pairs, pairs};
 use second::proved;
@@ -13,6 +13,7 @@ use second::services::GuideReply::{self, Arrived, CellsShort, NoRun, Refused, Tr
 use second::services::{
     CELL_WORDS, ENTRY_WORDS, LISTING_ENTRIES, LISTING_MOVES, MOVE_WORDS, listing,
 };
+use second::shapes::WIDE;
 
 /// Memory in which nearly every walk of a generated pair arrives.
 fn ample() -> Both {

@@ -6,10 +6,11 @@ use second::compare::Both;
 use second::damage::{
     bodies_swapped, changed, counts_off_by_one, cuts, lines_swapped, longer, offsets_off_by_one,
 };
-use second::generate::{Pair, SHAPES, pair};
+use second::generate::{Pair, pair};
 use second::lent::Lent;
 use second::random::{Random, seeds};
 use second::replay::ReplayReply::{Accepted, Fails, Refused};
+use second::shapes::SHAPES;
 use second::traces::{recorded, wander};
 
 /// Small generated pairs.

@@ -5,7 +5,7 @@ use second::compare::Both;
 use second::damage::changed;
 use second::data::{Vector, bytes, larger_files, vectors, without_rounds};
 use second::encode::{encode_case, encode_start};
-use second::file::{Case, Cell, Entry, Move, Rule, Start, StartFile};
+use second::file::{Case, Cell, FileEntry, Move, Rule, Start, StartFile};
 use second::lent::Lent;
 use second::models::{
     CASE_A, CASE_B, CASE_C, START_A, START_B, START_C_ONE, START_C_TWO, case_a_with_rules,
@@ -71,6 +71,7 @@ fn every_vector() {
 fn every_example_of_the_requests() {
     check_examples(Services {
         judge: proved::judge,
+        guide: proved::guide,
         listing: proved::listing,
         replay: proved::replay,
     });
@@ -294,10 +295,7 @@ fn entries_at_their_limit() {
     let own = |count: u64, inner: u8| {
         wide_case(|case| {
             case.inner_one = inner;
-            let entry = |n: u64| Entry {
-                control: (n / 32) as u8,
-                set: (n % 32) << 8,
-            };
+            let entry = |n: u64| FileEntry::plain((n / 32) as u8, (n % 32) << 8);
             case.entries = (0..count).map(entry).collect();
         })
     };

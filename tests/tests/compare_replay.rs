@@ -6,7 +6,7 @@
 use second::attempts::count_answers;
 use second::compare::Both;
 use second::deep::{MOST_PUSHES, MOST_ROUNDS, deep_case, deep_start, pushes, up, up_and_down};
-use second::generate::{Pair, WIDE, pair};
+use second::generate::{Pair, pair};
 use second::lent::Lent;
 use second::models::{CASE_A, START_A};
 use second::pairs::pairs;
@@ -15,6 +15,7 @@ use second::replay::REPLAY_CELL_BYTES;
 use second::replay::ReplayReply::{self, Accepted, Fails, Refused};
 use second::services::GuideReply::Arrived;
 use second::services::{LISTING_ENTRIES, LISTING_MOVES, MOST_CELLS};
+use second::shapes::WIDE;
 use second::traces::{Wandering, recorded, traces, wander};
 
 /// The answer of both with so many bytes of cells.

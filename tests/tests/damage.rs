@@ -6,12 +6,13 @@ use second::damage::{
 };
 use second::encode::{encode_case, encode_start};
 use second::file::decode_case;
-use second::generate::{Pair, SHAPES, pair};
+use second::generate::{Pair, pair};
 use second::lent::Lent;
 use second::random::seeds;
 use second::replay::ReplayReply;
 use second::services::GuideReply::{Arrived, NoRun, Refused};
 use second::services::listing;
+use second::shapes::SHAPES;
 use second::start_file::decode_start;
 
 /// The replies of the services: saturate, judge, and guide and replay for start

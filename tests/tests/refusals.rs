@@ -2,77 +2,12 @@
 //! counts the words of document 02, §1.
 
 use second::encode::{encode_case, encode_start};
-use second::file::{Case, Cell, Edge, Entry, Move, Rule, Start, StartFile};
+use second::file::{Case, Cell, FileEntry, Rule, StartFile};
 use second::lent::Lent;
 use second::replay::ReplayReply;
 use second::services::GuideReply::{CellsShort, NoRun, Refused};
 use second::services::listing;
-
-/// P 2, I 2, J 2, A 2: controls 0 and 1, inner order-2 states 2 and 3, inner
-/// order-1 states 0 and 1, entries 2 and 3.
-fn sound_case() -> Case {
-    let rule = |code, put| Rule {
-        from: 0,
-        symbol: 1,
-        code,
-        put,
-        to: 1,
-    };
-    Case {
-        controls: 2,
-        inner_two: 2,
-        inner_one: 2,
-        symbols: 2,
-        final_two: 0b1000,
-        final_one: 0b10,
-        rules: vec![rule(1, 1), rule(4, 0), rule(8, 0)],
-        entries: vec![entry(0, 0b100), entry(1, 0)],
-        edges: vec![edge(2, 1, 0), edge(2, 0, 0b1000), edge(3, 0, 0b1100)],
-        moves: vec![
-            a_move(0, 0, 0, 0, 0b11),
-            a_move(0, 1, 1, 0b11, 0),
-            a_move(3, 1, 2, 0b1100, 0),
-        ],
-    }
-}
-
-fn entry(control: u8, set: u64) -> Entry {
-    Entry { control, set }
-}
-
-fn edge(state: u8, one: u8, set: u64) -> Edge {
-    Edge { state, one, set }
-}
-
-fn a_move(state: u8, symbol: u8, order: u8, note: u64, rest: u64) -> Move {
-    Move {
-        state,
-        symbol,
-        order,
-        note,
-        rest,
-    }
-}
-
-fn symbol(name: u8, note: u16, rest: u16) -> Cell {
-    Cell::Symbol { name, note, rest }
-}
-
-fn pair(top: u16, rest: u16) -> Cell {
-    Cell::Pair { top, rest }
-}
-
-fn start(control: u8, root: u16) -> Start {
-    Start { control, root }
-}
-
-/// Cells 0 and 2 of order 1, cells 1 and 3 of order 2.
-fn sound_start() -> StartFile {
-    StartFile {
-        starts: vec![start(1, 3), start(0, 1)],
-        cells: vec![Cell::EmptyOne, Cell::EmptyTwo, symbol(1, 1, 0), pair(2, 1)],
-    }
-}
+use second::sound::{a_move, edge, pair, sound_case, sound_start, symbol};
 
 /// All services answer the refusal, and all lent memory is zero.
 fn assert_case_bytes(case: &[u8], refusal: u64) {
@@ -153,10 +88,35 @@ fn fields_of_the_case() {
     assert_case(2, |case| case.inner_one = 17);
     assert_case(2, |case| case.symbols = 0);
     assert_case(2, |case| case.symbols = 33);
-    // "Sets in bodies 1, 3 and 4 name inner states only."
-    assert_case(2, |case| case.final_two = 0b10);
+    // Order-2 states that do not exist, alone and beside one that does; entries.
     assert_case(2, |case| case.final_two = 0b10000);
+    assert_case(2, |case| case.final_two = 0b10001);
+    assert_case(2, |case| case.final_two = 1 << 15);
     assert_case(2, |case| case.final_one = 0b100);
+    assert_case(2, |case| case.final_one = 0b1010);
+    assert_case(2, |case| {
+        case.entries[0].is_final = true;
+        case.final_one = 0b100;
+    });
+}
+
+/// "The final order-2 set may name controls, and an entry written with second byte
+/// 254 instead of 255 is final" (document 02, §3). Start 1 of the sound pair is
+/// the empty stack from control 0, and in the target if that is final.
+#[test]
+fn final_controls_and_entries_are_not_refused() {
+    let mut lent = Lent::as_listing();
+    let start = encode_start(&sound_start());
+    for final_two in 0..16 {
+        for marks in 0..4 {
+            let mut case = sound_case();
+            case.final_two = final_two;
+            case.entries[0].is_final = marks & 1 != 0;
+            case.entries[1].is_final = marks & 2 != 0;
+            assert_eq!(lent.judge(&encode_case(&case), &start), 0);
+            assert_eq!(u64::from(lent.answers[1]), final_two & 1);
+        }
+    }
 }
 
 #[test]
@@ -175,19 +135,37 @@ fn rules_of_the_case() {
 
 #[test]
 fn edges_of_the_case() {
-    assert_case(3, |case| case.entries[0].set = 0b1);
-    assert_case(3, |case| case.entries[0].set = 0b10000);
+    assert_case(3, |case| case.entries[0].entry.set = 0b1);
+    assert_case(3, |case| case.entries[0].entry.set = 0b10000);
     assert_case(3, |case| case.edges[2].state = 4);
-    assert_case(3, |case| case.edges[2].one = 2);
-    assert_case(3, |case| case.edges[2].one = 255);
+    for second in [2, 3, 253, 254, 255] {
+        assert_case(3, |case| case.edges[2].one = second);
+    }
     assert_case(3, |case| case.edges[2].set = 0b10);
     // The second byte of the first entry, after three rules.
     let mut file = encode_case(&sound_case());
-    assert_eq!(file[63], 255);
-    for second in [0, 1, 254] {
+    assert_eq!(file[62..66], [0, 255, 0b100, 0]);
+    for second in 0..254 {
         file[63] = second;
         assert_case_bytes(&file, 3);
     }
+}
+
+/// The sets of bodies 3 and 4 name inner states only, whatever is final.
+#[test]
+fn sets_name_inner_states_only() {
+    let assert_all_final = |change: fn(&mut Case)| {
+        assert_case(3, |case| {
+            case.final_two = 0b1111;
+            case.entries = vec![FileEntry::finished(0, 0b100), FileEntry::finished(1, 0)];
+            change(case);
+        });
+    };
+    assert_all_final(|case| case.entries[0].entry.set = 0b1);
+    assert_all_final(|case| case.edges[2].set = 0b10);
+    assert_all_final(|case| case.moves[0].rest = 0b100);
+    assert_all_final(|case| case.moves[1].note = 0b1000);
+    assert_all_final(|case| case.moves[2].note = 0b10);
 }
 
 #[test]
@@ -219,7 +197,7 @@ fn entries_of_the_case() {
             moves: Vec::new(),
             ..sound_case()
         };
-        let all = (0..8).flat_map(|p| (0..8).map(move |set| entry(p, set << 8)));
+        let all = (0..8).flat_map(|p| (0..8).map(move |set| FileEntry::plain(p, set << 8)));
         case.entries = all.take(count).collect();
     };
     assert_case(3, |case| with_entries(case, 49));
@@ -240,6 +218,36 @@ fn order_of_edges_and_moves() {
     assert_case(4, |case| case.edges[1] = edge(2, 0, 0));
     assert_case(4, |case| case.moves.swap(0, 1));
     assert_case(4, |case| case.moves[1] = case.moves[0]);
+}
+
+/// "A second entry for the same state and S is refusal 4" (document 02, §3),
+/// whichever of 254 and 255 stand there; also where (state, S, second byte) rises.
+#[test]
+fn second_entries() {
+    let (plain, finished) = (FileEntry::plain, FileEntry::finished);
+    for first in [plain, finished] {
+        for second in [plain, finished] {
+            let double = |control, set| vec![first(control, set), second(control, set)];
+            let others = [plain(0, 0b100), plain(1, 0)];
+            assert_case(4, |case| {
+                case.entries = [double(0, 0b100), vec![others[1]]].concat();
+            });
+            assert_case(4, |case| {
+                case.entries = [vec![others[0]], double(1, 0)].concat();
+            });
+            // A bound of the body that is broken too comes first.
+            assert_case(3, |case| {
+                case.entries = double(0, 0b1);
+            });
+        }
+    }
+    // The same set at two controls, and two sets at one control.
+    let mut lent = Lent::as_listing();
+    for (control, set) in [(1, 0b100), (0, 0b1000)] {
+        let mut case = sound_case();
+        case.entries = vec![finished(0, 0b100), plain(control, set)];
+        assert_eq!(lent.saturate(&encode_case(&case)).0, 0);
+    }
 }
 
 /// "The lowest number that applies is returned."
@@ -376,9 +384,9 @@ fn moves_of_the_table() {
     assert_eq!(lent.saturate(&encode_case(&case)), (9, 0, 0));
 }
 
-/// Start 1 is the empty stack, which no control accepts; start 0 is in the
-/// target only by its annotation, the empty order-2 stack, which state 3
-/// accepts and state 2 does not.
+/// Start 1 is the empty stack, and no control is final; start 0 is in the target
+/// only by its annotation, the empty order-2 stack, which state 3 accepts and
+/// state 2 does not.
 #[test]
 fn no_run_and_cells_short() {
     let mut case = sound_case();

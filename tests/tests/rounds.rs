@@ -5,11 +5,12 @@ use std::collections::BTreeSet;
 
 use second::derivation::{Derivation, first_derivation};
 use second::file::{Case, Edge, Entry, Move, Rule};
-use second::generate::{SHAPES, pair};
+use second::generate::pair;
 use second::lines::First;
 use second::random::seeds;
 use second::saturation::saturate;
 use second::sets::{Set, has, members, only};
+use second::shapes::SHAPES;
 use second::table::{Size, Table};
 
 /// Tables above these sizes are left to the other tests.

@@ -124,7 +124,7 @@ fn short_runs_are_found_by_the_search() {
                 configurations: 5000,
             };
             match search(&pair.case, pair.configuration(number), bounds) {
-                Outcome::Reached(least) => {
+                Outcome::Reached { steps: least, .. } => {
                     assert!(least <= steps as usize, "{name} start {number}");
                     found += usize::from(steps > 0);
                 }

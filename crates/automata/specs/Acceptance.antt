@@ -13,7 +13,8 @@ use Rattle.automata.specs.Automaton.{Automaton, Move, Edge, edges}
 module _ (A : Automaton) where
   unfoldable mutual
     -- "An order-1 state accepts a nonempty stack if a move of its has the top symbol, R accepts the rest, and at order k > 0 the
-    -- annotation has order k and B accepts it." "An empty stack is accepted by final states only."
+    -- annotation has order k and B accepts it." "An empty stack is accepted by final states only", inner states and the final entries of
+    -- the file.
     pub accepts1 : Stack1 → ℕ → Bool
     accepts1 nil1 r = member (A .final1) r
     accepts1 (cons1 a u s) r =

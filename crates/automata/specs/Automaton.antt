@@ -29,7 +29,7 @@ pub record Entry : Type 0 where
   pub S : ℕ
 
 -- Order-1 state n is inner for n below J, and the entry number n - J from there on. The inner edges of a state stand in the order of
--- least choice, by (r, S). The final sets are over all states; that only inner states are final is a fact of the file.
+-- least choice, by (r, S). The final sets are over all states, controls and entries included.
 pub record Automaton : Type 0 where
   pub J : ℕ
   pub final1 : ℕ

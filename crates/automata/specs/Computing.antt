@@ -22,7 +22,7 @@ unfolding Order.less Order.same Order.insert Order.sorted Order.risingFrom Order
 open-order = 0
 
 unfoldable pub open-sets : ℕ
-unfolding Sets.member Sets.single Sets.joinBits Sets.join Sets.partOf Sets.membersFrom Sets.members
+unfolding Sets.member Sets.single Sets.joinBits Sets.join Sets.setOf Sets.partOf Sets.membersFrom Sets.members
 open-sets = 0
 
 unfoldable pub open-stack : ℕ

@@ -42,8 +42,7 @@ Once es = (i j : ℕ) → i < length es → j < length es → entryKey (getD es 
 
 -- Of any table, where there are P controls.
 pub record TableFacts (P : ℕ) (A : Automaton) : Type 0 where
-  pub final1-inner : All (A .final1) (λ r. r < A .J)
-  pub final2-inner : All (A .final2) (λ q. P ≤ q)
+  pub final1-exists : All (A .final1) (λ r. r < states A)
   pub inner-facts : (e : Edge) → List·Memᴰ e (A .inner) → InnerFacts P (A .J) e
   pub inner-rising : rising choiceKey (A .inner) ≡ true
   pub entry-control : (e : Entry) → List·Memᴰ e (A .entries) → e .control < P

@@ -35,7 +35,7 @@ unfoldable pub withEntry : ℕ → ℕ → List Entry → List Entry
 withEntry p S [] = record { control = p; S = S } ∷ []
 withEntry p S (e ∷ es) = elim (isEntry p S e) [ true ↦ e ∷ es | false ↦ e ∷ withEntry p S es ]
 
--- the automaton with one result more, as the last move
+-- The automaton with one result more, as the last move. "Entries found by saturation are never final": the final words stay.
 unfoldable pub add : Automaton → Result → Automaton
 add A x =
     record {

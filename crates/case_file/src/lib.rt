@@ -1,6 +1,6 @@
 // The check of a case file, body by body.
 ghost use mathlib.Core.Path.{_≡_};
-ghost use mathlib.Core.Bool.{true, _&&_};
+ghost use mathlib.Core.Bool.{true};
 ghost use mathlib.Core.List.{[], _∷_, map};
 ghost use Prim.Native.Nat.{_<_, _≤_, _+_, _*_};
 ghost use lib.ListN.{length};
@@ -8,9 +8,10 @@ ghost use Rattle.words.specs.Lists.{every};
 ghost use Rattle.words.specs.Order.{rising};
 ghost use Rattle.files.specs.Bytes.{placed, records};
 ghost use Rattle.files.specs.Case;
-ghost use Rattle.files.specs.Case.{caseBodies, headRight, ruleBytes, ruleRight, ruleRecords, edgeBytes, edgeRight, edgeKey, edgeRecords, entriesOf, moveOf, moveRight, moveKey, moveRecords, recordsRight, caseRefusal};
+ghost use Rattle.files.specs.Case.{caseBodies, headRight, ruleBytes, ruleRight, ruleRecords, edgeBytes, edgeRight, edgeRecords, entriesOf, moveOf, moveRight, moveKey, moveRecords, recordsRight, increasing, caseRefusal};
 ghost use Rattle.bytes_in.specs.Records.{bodyOf};
 ghost use Rattle.case_records.specs.Values.{theHead, theEdge};
+ghost use Rattle.case_records.specs.Keys.{edgeOrder};
 use case_records::Edge;
 use case_records::Head;
 use limits::Limits;
@@ -90,7 +91,7 @@ fn moves_right(h: Head, states: u64, body: &[u8], n: usize) -> bool
 }
 
 // 1 for an edge of a control, which is an entry, and 0 for one of an inner state.
-fn entry_count(h: Head, e: Edge) -> u64
+pub fn entry_count(h: Head, e: Edge) -> u64
     ensures { λ r. ⌜ r ≡ length (entriesOf (theHead h) (theEdge e ∷ [])) ⌝ }
     ensures { λ r. ⌜ r ≤ 1 ⌝ }
 {
@@ -115,16 +116,16 @@ fn entries_in(h: Head, body: &[u8], n: usize) -> u64
     count
 }
 
-// The edges of the body are strictly increasing.
-fn edges_rising(body: &[u8], n: usize) -> bool
+// The edges of the body are strictly increasing, and no entry of theirs is a second one for its state and S.
+fn edges_rising(h: Head, body: &[u8], n: usize) -> bool
     requires { ⌜ (n * 4 ≤ length (now body)) × (n ≤ 64) ⌝ }
-    ensures { λ r. ⌜ r ≡ rising edgeKey (map edgeBytes (records n 4 (now (body .entry)))) ⌝ }
+    ensures { λ r. ⌜ r ≡ rising (edgeOrder (theHead h)) (map edgeBytes (records n 4 (now (body .entry)))) ⌝ }
 {
     let mut i: usize = 0;
     while i + 1 < n {
         let x = case_records::edge_at(body, i);
         let y = case_records::edge_at(body, i + 1);
-        if !case_records::edge_before(x, y) {
+        if !case_records::edge_before(h, x, y) {
             return false;
         }
         i += 1;
@@ -259,12 +260,16 @@ fn records_right(h: Head, file: &[u8]) -> bool
     file_moves_right(h, states, file)
 }
 
-// Edges and moves are strictly increasing.
-fn records_rising(file: &[u8]) -> bool
-    requires { ⌜ placed caseBodies (now file) ≡ true ⌝ }
-    ensures { λ r. ⌜ r ≡ rising edgeKey (edgeRecords (now (file .entry))) && rising moveKey (moveRecords (now (file .entry))) ⌝ }
+// Edges, entries and moves are strictly increasing.
+fn records_rising(h: Head, file: &[u8]) -> bool
+    requires { ⌜ (placed caseBodies (now file) ≡ true) × (theHead h ≡ Case.head (now file)) ⌝ }
+    ensures { λ r. ⌜ r ≡ increasing (now (file .entry)) ⌝ }
 {
-    if edges_rising(edge_body(file), bytes_in::count_of(file, Limits::EDGE_BODY)) {
+    if edges_rising(
+        h,
+        edge_body(file),
+        bytes_in::count_of(file, Limits::EDGE_BODY),
+    ) {
         return moves_rising(move_body(file), bytes_in::count_of(file, Limits::MOVE_BODY));
     }
     false
@@ -284,7 +289,7 @@ pub fn check_case(file: &[u8]) -> u64
     if !records_right(h, file) {
         return 3;
     }
-    if !records_rising(file) {
+    if !records_rising(h, file) {
         return 4;
     }
     0

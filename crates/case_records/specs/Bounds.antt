@@ -2,7 +2,7 @@
 -- Assumes nothing.
 pub mod Laws
 use Prim.Native.Nat.{ℕ}
-use mathlib.Core.Bool.{Bool, true, false}
+use mathlib.Core.Bool.{Bool, true, false, _||_}
 use lib.Dec.{eqb, ltb}
 use Rattle.files.specs.Case.{Head, EdgeBytes}
 
@@ -12,4 +12,4 @@ operandRight h code b = elim (ltb code 4) [ true ↦ ltb b (h .A) | false ↦ eq
 
 -- the second byte is right for the state
 unfoldable pub firstRight : Head → EdgeBytes → Bool
-firstRight h x = elim (ltb (x .state) (h .P)) [ true ↦ eqb (x .first) 255 | false ↦ ltb (x .first) (h .J) ]
+firstRight h x = elim (ltb (x .state) (h .P)) [ true ↦ eqb (x .first) 254 || eqb (x .first) 255 | false ↦ ltb (x .first) (h .J) ]

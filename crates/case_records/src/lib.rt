@@ -4,13 +4,13 @@ ghost use mathlib.Core.Bool.{true};
 ghost use Prim.Native.Nat.{_<_, _≤_, _+_, _*_};
 ghost use lib.ListN.{length};
 ghost use Rattle.files.specs.Case;
-ghost use Rattle.files.specs.Case.{headOf, headRight, ruleBytes, ruleRight, operationOf, ruleOf, edgeBytes, edgeRight, moveOf, annotationRight, moveRight, edgeKey, moveKey};
+ghost use Rattle.files.specs.Case.{headOf, headRight, ruleBytes, ruleRight, operationOf, ruleOf, edgeBytes, edgeRight, moveOf, annotationRight, moveRight, moveKey};
 ghost use Rattle.words.specs.Order.{less};
 ghost use Rattle.bytes_in.specs.Records.{recordAt};
 ghost use Rattle.case_records.specs.Values.{theHead, theOperation, theRule, theEdge};
 ghost use Rattle.tables.specs.Records.{asMove};
 ghost use Rattle.case_records.specs.Bounds.{operandRight, firstRight};
-ghost use Rattle.case_records.specs.Keys.{lessThen};
+ghost use Rattle.case_records.specs.Keys.{lessThen, orderByte, edgeOrder};
 use limits::Limits;
 use tables::Move;
 
@@ -46,7 +46,7 @@ pub struct Rule {
     pub next: u64,
 }
 
-// An edge's order-2 state, its order-1 state or 255 (`first`, the second byte) and its set S.
+// An edge's order-2 state, its order-1 state or 254 or 255 (`first`, the second byte) and its set S.
 pub struct Edge {
     pub state: u64,
     pub first: u64,
@@ -168,6 +168,14 @@ fn inner1(h: Head, s: u64) -> bool
     s >> h.inner1 == 0
 }
 
+// The set names order-2 states that exist.
+fn existing2(h: Head, s: u64) -> bool
+    requires { ⌜ (h .controls ≤ 8) × (h .inner2 ≤ 8) ⌝ }
+    ensures { λ r. ⌜ r ≡ Case.existing2 (theHead h) s ⌝ }
+{
+    s >> (h.controls + h.inner2) == 0
+}
+
 // The set names inner order-2 states only.
 fn inner2(h: Head, s: u64) -> bool
     requires { ⌜ (h .controls ≤ 8) × (h .inner2 ≤ 8) ⌝ }
@@ -176,10 +184,10 @@ fn inner2(h: Head, s: u64) -> bool
     if s % sets::one_bit(h.controls) != 0 {
         return false;
     }
-    s >> (h.controls + h.inner2) == 0
+    existing2(h, s)
 }
 
-// The numbers and the final sets are in range.
+// The numbers and the final sets are in range: the final order-2 set may name controls.
 pub fn head_right(h: Head) -> bool
     ensures { λ r. ⌜ r ≡ headRight (theHead h) ⌝ }
 {
@@ -201,7 +209,7 @@ pub fn head_right(h: Head) -> bool
     if Limits::SYMBOLS < h.symbols {
         return false;
     }
-    if inner2(h, h.final2) {
+    if existing2(h, h.final2) {
         return inner1(h, h.final1);
     }
     false
@@ -241,11 +249,14 @@ pub fn rule_right(h: Head, b: &[u8]) -> bool
     operand_right(h, code, bytes_in::byte_at(b, 3))
 }
 
-// Whether the second byte is right for the state: 255 for a control, and an inner order-1 state for an inner state.
+// Whether the second byte is right for the state: 254 or 255 for a control, and an inner order-1 state for an inner state.
 fn first_right(h: Head, e: Edge) -> bool
     ensures { λ r. ⌜ r ≡ firstRight (theHead h) (theEdge e) ⌝ }
 {
     if e.state < h.controls {
+        if e.first == Limits::FINAL_MARK {
+            return true;
+        }
         return e.first == Limits::ENTRY_MARK;
     }
     e.first < h.inner1
@@ -315,11 +326,22 @@ fn key_before(x: u64, y: u64, rest: bool) -> bool
     false
 }
 
-// The edge x comes before y by (state, S, second byte).
-pub fn edge_before(x: Edge, y: Edge) -> bool
-    ensures { λ r. ⌜ r ≡ less (edgeKey (theEdge x)) (edgeKey (theEdge y)) ⌝ }
+// The second byte as it counts in the order of edges: that of an entry does not, so that a second entry for the same state and S does not
+// come after the first.
+fn order_byte(h: Head, e: Edge) -> u64
+    ensures { λ r. ⌜ r ≡ orderByte (theHead h) (theEdge e) ⌝ }
 {
-    let first = key_before(x.first, y.first, false);
+    if e.state < h.controls {
+        return 0;
+    }
+    e.first
+}
+
+// The edge x comes before y: by (state, S, second byte), and entries by (state, S).
+pub fn edge_before(h: Head, x: Edge, y: Edge) -> bool
+    ensures { λ r. ⌜ r ≡ less (edgeOrder (theHead h) (theEdge x)) (edgeOrder (theHead h) (theEdge y)) ⌝ }
+{
+    let first = key_before(order_byte(h, x), order_byte(h, y), false);
     let s = key_before(x.s, y.s, first);
     key_before(x.state, y.state, s)
 }

@@ -4,8 +4,9 @@ ghost use mathlib.Core.Bool.{true};
 ghost use mathlib.Core.List.{[], _∷_, map};
 ghost use Prim.Native.Nat.{_<_, _≤_, _+_, _*_};
 ghost use lib.ListN.{length};
+ghost use Rattle.words.specs.Sets.{setOf};
 ghost use Rattle.files.specs.Bytes.{placed, records};
-ghost use Rattle.files.specs.Case.{caseBodies, edgeBytes, entriesOf, innerEdges, moveOf, ownOf};
+ghost use Rattle.files.specs.Case.{caseBodies, edgeBytes, entriesOf, finalEntries, innerEdges, moveOf, ownOf};
 ghost use Rattle.tables.specs.Layouts.{edgeRow, entryRow, moveRow};
 ghost use Rattle.tables.specs.Held.{automatonOf};
 ghost use Rattle.case_records.specs.Values.{theHead, theEdge};
@@ -85,6 +86,38 @@ fn load_entries(h: Head, body: &[u8], n: usize, t: &mut [u64]) -> usize
     k
 }
 
+// ---- final entries
+
+// The set of order-1 state r where the edge is a final entry, which has that number, and otherwise the empty set.
+fn final_entry(h: Head, e: case_records::Edge, r: u64) -> u64
+    requires { ⌜ (e .state < h .controls → r < 64) ⌝ }
+    ensures { λ s. ⌜ s ≡ setOf (finalEntries (theHead h) r (theEdge e ∷ [])) ⌝ }
+{
+    if e.state < h.controls {
+        if e.first == Limits::FINAL_MARK {
+            return sets::one_bit(r);
+        }
+    }
+    0
+}
+
+// The set of the final entries among the n edges of the body, as order-1 states.
+fn final_entries(h: Head, body: &[u8], n: usize) -> u64
+    requires { ⌜ (n * 4 ≤ length (now body)) × (n ≤ 64) × (h .inner1 + length (entriesOf (theHead h) (map edgeBytes (records n 4 (now body)))) ≤ 64) ⌝ }
+    ensures { λ s. ⌜ s ≡ setOf (finalEntries (theHead h) (h .inner1) (map edgeBytes (records n 4 (now (body .entry))))) ⌝ }
+{
+    let mut i: usize = 0;
+    let mut r = h.inner1;
+    let mut set: u64 = 0;
+    while i < n {
+        let e = case_records::edge_at(body, i);
+        set = sets::join(set, final_entry(h, e, r));
+        r += case_file::entry_count(h, e);
+        i += 1;
+    }
+    set
+}
+
 // ---- moves
 
 // Writes the n moves of the body.
@@ -115,9 +148,10 @@ pub fn load_case(file: &[u8], inner: &mut [u64], entries: &mut [u64], moves: &mu
     let inner_count = load_inner(h, case_file::edge_body(file), n, inner);
     let entry_count = load_entries(h, case_file::edge_body(file), n, entries);
     load_moves(case_file::move_body(file), m, moves);
+    let finals = final_entries(h, case_file::edge_body(file), n);
     Table {
         inner1: h.inner1,
-        final1: h.final1,
+        final1: sets::join(h.final1, finals),
         final2: h.final2,
         edges: inner_count,
         entries: entry_count,

@@ -1,5 +1,5 @@
--- Document 01's idle programs, those that report another round, and those that replay in another way. The answer that each gives at a
--- worked model contradicts the demand's statement, read alone.
+-- Document 01's idle programs, those that report another round, those that replay in another way, and those that take finished scripts in
+-- another way. The answer that each gives at a worked model contradicts the demand's statement, read alone.
 -- Assumes nothing.
 use Prim.Native.Nat.{ℕ, _+_, _*_}
 use mathlib.Core.Bool.{false≢true}
@@ -7,7 +7,7 @@ use mathlib.Core.Path.{_≡_, refl, ap, sym, _∙_, subst}
 use mathlib.Core.Option.{none, some}
 use mathlib.Core.List.{List, [], _∷_, _++_, map}
 use lib.ListN.{getD}
-use lib.Dec.{lit<}
+use lib.Dec.{lit<, lit≤}
 use borrow.Author.Tests.{eqb-false}
 use Rattle.automata.specs.Saturation.{Saturated, sizeOf, tableAfter}
 use Rattle.replies.specs.declared.Counts.{Counts}
@@ -22,20 +22,24 @@ use Rattle.files.specs.Case.{ownOf, rulesOf}
 use Rattle.files.specs.Start.{startsOf, startAt, configurationAt}
 use Rattle.services.specs.Memory.{padded, moveTable}
 use Rattle.services.specs.Saturate.{Lent, SaturateDone}
-use Rattle.services.specs.Judge.{JudgeDone, mark}
+use Rattle.services.specs.Judge.{JudgeInput, JudgeDone, mark}
 use Rattle.services.specs.Guide.{GuideInput, GuideDone}
 use Rattle.services.specs.Replay.{ReplayInput, ReplayDone, replayService}
 use Rattle.guidance.specs.Halt.{isArrival}
 use Rattle.models.specs.Computing.{computed}
 use Rattle.models.specs.Files.{two, caseA, startA, startC, startCC, caseCircle, casePast, caseCollapse, startCollapse}
-use Rattle.demands.specs.Refusals.{guideRefusals}
+use Rattle.models.specs.Files.{caseBFinal, caseBTwice, caseBNamed, caseBOther, startEmpty, caseFinished, startFinished}
+use Rattle.demands.specs.Refusals.{Returned, judgeRefusals, guideRefusals}
 use Rattle.demands.specs.Refusals.Laws.{returned-one}
 use Rattle.demands.specs.FullRun.{saturatedTable, walkFrom, fullWalk, fullTrace, fullNext, FullRun}
 use Rattle.demands.specs.FullRun.Laws.{one-full-run}
 use Rattle.demands.specs.Demand1.{SaturateStates, JudgeStates, Answered, GuideStates, ReplayAnswered, ReplayStates}
-use Rattle.demands.specs.Demand1.Proof.{demand1-guide}
+use Rattle.demands.specs.Demand1.Proof.{demand1-judge, demand1-guide}
 use Rattle.demands.specs.Demand2.{judgeFor, JudgeMarks}
+use Rattle.demands.specs.Demand2.Proof.{judge-marks}
 use Rattle.demands.specs.Demand3.{MarkedYes, Guides}
+use Rattle.demands.specs.Finished.{finished}
+use Rattle.demands.specs.Finished.Proof.{finished-guides}
 use Rattle.demands.specs.Determined.{saturate-only, judge-only, run-only, replay-only}
 use Rattle.demands.specs.Instances.{inputA, unrefused-A, run-A, replayA}
 
@@ -54,6 +58,24 @@ guideA n = record { case = caseA; start = startA; number = n; moves = 17; entrie
 -- the circle model, with as many
 unfoldable pub guideCircle : GuideInput
 guideCircle = record { case = caseCircle; start = startC; number = 0; moves = 17; entries = 7; cells = 10 * 68; trace = 3 }
+
+-- model B with its entry written twice, and with a final order-1 set that names it
+unfoldable pub lentTwice : Lent
+lentTwice = record { case = caseBTwice; moves = 17; entries = 7 }
+
+unfoldable pub lentNamed : Lent
+lentNamed = record { case = caseBNamed; moves = 17; entries = 7 }
+
+-- judge of empty stacks, with three answers: with a final entry [1,{2}] beside [1,empty], and with model B's entry final
+unfoldable pub inputOther : JudgeInput
+inputOther = record { case = caseBOther; start = startEmpty; moves = 17; entries = 7; answers = 3 }
+
+unfoldable pub inputFound : JudgeInput
+inputFound = record { case = caseBFinal; start = startEmpty; moves = 17; entries = 7; answers = 3 }
+
+-- a finished script, the empty stack with a final control, with as much lent as for model A
+unfoldable pub guideFinished : GuideInput
+guideFinished = record { case = caseFinished; start = startFinished; number = 3; moves = 17; entries = 7; cells = 10 * 68; trace = 3 }
 
 -- replay of a trace that collapses, with nine cells, and of one that goes past the target, with seven
 unfoldable pub replayCollapse : ℕ → List ℕ → ReplayInput
@@ -256,3 +278,47 @@ looks-ahead d e s = eqb-false 260 11 refl (ap replayNumber (sym e ∙ replay-is 
 pub start-cells-late : (d : ReplayDone) → d .reply ≡ Replayed.FailsAt 0 → ReplayStates (replayA 0 (two 99) (5 * 6 + 5)) d → ⊥
 unfolding computed replayA
 start-cells-late d e s = eqb-false 260 11 refl (ap replayNumber (sym e ∙ replay-is _ d s))
+
+-- ---- refusal 3 in place of 4 for "a second entry for the same state and S"
+
+pub three-for-four : (d : SaturateDone) → d .reply .code ≡ 3 → SaturateStates lentTwice d → ⊥
+unfolding computed lentTwice
+three-for-four d e s = eqb-false 3 4 refl (sym e ∙ ap (λ (x : SaturateDone). x .reply .code) (saturate-only lentTwice d s))
+
+-- ---- a final order-1 set that may name entries
+
+pub names-entries : (d : SaturateDone) → (d .reply .code ≡ 2 → ⊥) → SaturateStates lentNamed d → ⊥
+unfolding computed lentNamed
+names-entries d bad s = bad (ap (λ (x : SaturateDone). x .reply .code) (saturate-only lentNamed d s))
+
+-- ---- every entry of a control taken as final where one is: of control 1 it is [1,{2}], and state 2 does not accept the empty rest
+
+unrefused-other : Returned judgeRefusals inputOther 0
+unfolding computed inputOther
+unrefused-other = demand1-judge inputOther .number
+
+pub spreads-the-mark : (d : JudgeDone) → (getD (d .answers) 1 0 ≡ 0 → ⊥) → JudgeMarks inputOther d → ⊥
+unfolding computed inputOther
+spreads-the-mark d bad m =
+    bad (m unrefused-other .each-mark 1 (lit< tt) .no-run .1 (judge-marks inputOther unrefused-other .each-mark 1 (lit< tt) .no-run .0 refl))
+
+-- ---- "Entries found by saturation are never final": here [0,empty]
+
+unrefused-found : Returned judgeRefusals inputFound 0
+unfolding computed inputFound
+unrefused-found = demand1-judge inputFound .number
+
+pub found-is-final : (d : JudgeDone) → (getD (d .answers) 0 0 ≡ 0 → ⊥) → JudgeMarks inputFound d → ⊥
+unfolding computed inputFound
+found-is-final d bad m =
+    bad (m unrefused-found .each-mark 0 (lit< tt) .no-run .1 (judge-marks inputFound unrefused-found .each-mark 0 (lit< tt) .no-run .0 refl))
+
+-- ---- a walk that goes on from an empty stack, or does not arrive there
+
+marked-finished : MarkedYes (judgeFor guideFinished 5) 3
+unfolding computed guideFinished judgeFor
+marked-finished = record { judged = refl; start-there = lit< tt; yes = eqb-false 1 0 refl }
+
+pub steps-from-empty : (d : GuideDone) → (d .reply ≡ Walked (Arrived (record { steps = 0; cells = 5 })) → ⊥) → Guides guideFinished d → ⊥
+unfolding computed guideFinished finished configurationAt startAt
+steps-from-empty d bad g = bad (finished-guides guideFinished d g 5 marked-finished refl (lit≤ tt) .reply-is)

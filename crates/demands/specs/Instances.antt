@@ -1,4 +1,4 @@
--- The demands at models A and C: their hypotheses are met by the models' files, by computation, and what follows.
+-- The demands at models A, B and C: their hypotheses are met by the models' files, by computation, and what follows.
 -- Assumes nothing.
 use Prim.Native.Nat.{ℕ, _*_}
 use mathlib.Core.Path.{refl}
@@ -8,7 +8,7 @@ use borrow.Author.Tests.{eqb-false}
 use Rattle.services.specs.Judge.{JudgeInput}
 use Rattle.services.specs.Replay.{ReplayInput}
 use Rattle.models.specs.Computing.{computed}
-use Rattle.models.specs.Files.{two, caseA, startA, caseC, startC}
+use Rattle.models.specs.Files.{two, caseA, startA, caseB, startB, caseBFinal, caseC, startC}
 use Rattle.demands.specs.Reach.{Runs, WonIn}
 use Rattle.demands.specs.Refusals.{Returned, judgeRefusals}
 use Rattle.demands.specs.Traces.{RealFault}
@@ -21,6 +21,12 @@ use Rattle.demands.specs.Replays.Proof.{replay-answers}
 -- judge with tables of 17 and 7 words and five answers
 unfoldable pub inputA : JudgeInput
 inputA = record { case = caseA; start = startA; moves = 17; entries = 7; answers = 5 }
+
+unfoldable pub inputB : JudgeInput
+inputB = record { case = caseB; start = startB; moves = 17; entries = 7; answers = 5 }
+
+unfoldable pub inputBFinal : JudgeInput
+inputBFinal = record { case = caseBFinal; start = startB; moves = 17; entries = 7; answers = 5 }
 
 unfoldable pub inputC : JudgeInput
 inputC = record { case = caseC; start = startC; moves = 17; entries = 7; answers = 5 }
@@ -53,6 +59,24 @@ won-A = judge-marks inputA unrefused-A .each-mark 0 (lit< tt) .round 2 .0 refl
 pub no-run-A : Runs caseA startA 2 → ⊥
 unfolding computed inputA
 no-run-A = judge-marks inputA unrefused-A .each-mark 2 (lit< tt) .no-run .0 refl
+
+-- start 1 of model B, its lone symbol, is marked no, so there is no run
+pub no-run-B : Runs caseB startB 1 → ⊥
+unfolding computed inputB
+no-run-B = judge-marks inputB (demand1-judge inputB .number) .each-mark 1 (lit< tt) .no-run .0 refl
+
+-- "Model B's lone symbol turns to yes if its entry is written with 254": there is a run of the published system, and its guided run arrives
+pub marked-B-final : MarkedYes inputBFinal 1
+unfolding computed inputBFinal
+marked-B-final = record { judged = refl; start-there = lit< tt; yes = eqb-false 2 0 refl }
+
+pub run-B-final : Runs caseBFinal startB 1
+unfolding computed inputBFinal
+run-B-final = judge-marks inputBFinal (demand1-judge inputBFinal .number) .each-mark 1 (lit< tt) .yes .0 (eqb-false 2 0 refl)
+
+pub guided-B-final : GuidedRun caseBFinal startB 1
+unfolding inputBFinal
+guided-B-final = demand3 inputBFinal 1 marked-B-final
 
 -- start 0 of model C is marked yes, so there is a run of the published system, and its guided run arrives
 pub marked-C : MarkedYes inputC 0

@@ -8,8 +8,9 @@ use mathlib.Core.Logic.{_⊎_}
 use mathlib.Core.List.{List, [], _∷_, _++_, List·Memᴰ}
 use lib.ListN.{length, getD}
 use Rattle.words.specs.Order.{rising}
+use Rattle.automata.specs.Automaton.{noEntry}
 use Rattle.files.specs.Bytes.{placed}
-use Rattle.files.specs.Case.{caseBodies, head, headRight, ruleRight, ruleRecords, edgeRight, edgeKey, edgeRecords, moveRight, moveKey, moveRecords, states1}
+use Rattle.files.specs.Case.{caseBodies, head, headRight, ruleRight, ruleRecords, edgeRight, edgeKey, edgeRecords, entriesOf, moveRight, moveKey, moveRecords, states1}
 use Rattle.files.specs.Start.{Files, startBodies, startsOf, startRight, CellBytes, cellRecords, cellRight}
 use Rattle.services.specs.Saturate.{Lent}
 use Rattle.services.specs.Judge.{JudgeInput, judgeLent, judgeFiles}
@@ -54,9 +55,17 @@ BoundBroken case =
     ⊎ (SomeFails (edgeRight (head case)) (edgeRecords case)
     ⊎ (SomeFails (moveRight (head case) (states1 case)) (moveRecords case) ⊎ (64 < states1 case)))
 
--- 4: "Edges or moves are not strictly increasing."
+-- "A second entry for the same state and S": two of the case's entries, by number, are one.
+pub record SecondEntry (case : List ℕ) : Type 0 where
+  pub one : ℕ
+  pub other : ℕ
+  pub after : one < other
+  pub there : other < length (entriesOf (head case) (edgeRecords case))
+  pub same : getD (entriesOf (head case) (edgeRecords case)) one noEntry ≡ getD (entriesOf (head case) (edgeRecords case)) other noEntry
+
+-- 4: "Edges or moves are not strictly increasing." "A second entry for the same state and S is refusal 4."
 abbrev pub NotIncreasing : List ℕ → Type 0
-NotIncreasing case = (rising edgeKey (edgeRecords case) ≡ false) ⊎ (rising moveKey (moveRecords case) ≡ false)
+NotIncreasing case = (rising edgeKey (edgeRecords case) ≡ false) ⊎ ((rising moveKey (moveRecords case) ≡ false) ⊎ SecondEntry case)
 
 -- 5: "The start file's first byte, contents table, a count or the length is wrong."
 abbrev pub StartFileWrong : Files → Type 0

@@ -3,16 +3,16 @@
 pub mod Records
 pub mod Laws
 use Prim.Native.Nat.{ℕ, zero, suc, _+_}
-use mathlib.Core.Bool.{Bool, true, false, not, _&&_}
+use mathlib.Core.Bool.{Bool, true, false, not, _&&_, _||_}
 use mathlib.Core.List.{List, [], _∷_, map}
 use lib.ListN.{length, getD}
 use lib.Dec.{eqb, ltb, leb}
-use Rattle.words.specs.Sets.{members}
-use Rattle.words.specs.Lists.{only, every}
+use Rattle.words.specs.Sets.{join, setOf, members}
+use Rattle.words.specs.Lists.{only, every, placesFrom}
 use Rattle.words.specs.Order.{sorted, rising}
 use Rattle.stacks.specs.Stack.{Operation, rewrite, push1, push2, copy, pop1, pop2, collapse1, collapse2}
 use Rattle.stacks.specs.System.{Rule}
-use Rattle.automata.specs.Automaton.{Automaton, Move, Edge, Entry, choiceKey}
+use Rattle.automata.specs.Automaton.{Automaton, Move, Edge, Entry, choiceKey, entryKey}
 use Rattle.files.specs.Bytes.{field, Body, placed, recordsOf, Test, firstHit}
 
 unfoldable pub caseBodies : List Body
@@ -47,10 +47,15 @@ inner1 h s = every (λ r. ltb r (h .J)) (members s)
 unfoldable pub inner2 : Head → ℕ → Bool
 inner2 h s = every (λ q. leb (h .P) q && ltb q (h .P + h .I)) (members s)
 
+-- the set names order-2 states that exist, controls or inner ones
+unfoldable pub existing2 : Head → ℕ → Bool
+existing2 h s = every (λ q. ltb q (h .P + h .I)) (members s)
+
+-- "The final order-2 set may name controls"; the final order-1 set names inner states only.
 unfoldable pub headRight : Head → Bool
 headRight h =
     leb 1 (h .P) && leb (h .P) 8 && leb (h .I) 8 && leb (h .J) 16 && leb 1 (h .A) && leb (h .A) 32
-    && inner2 h (h .final2)
+    && existing2 h (h .final2)
     && inner1 h (h .final1)
 
 -- ---- body 2
@@ -101,10 +106,11 @@ pub record EdgeBytes : Type 0 where
 unfoldable pub edgeBytes : List ℕ → EdgeBytes
 edgeBytes x = record { state = getD x 0 0; first = getD x 1 0; S = field 2 2 x }
 
--- "For an inner state the second byte is an inner order-1 state. For a control it is 255 and the edge is an entry."
+-- "For an inner state the second byte is an inner order-1 state. For a control it is 255 and the edge is an entry", or 254: "an
+-- entry written with second byte 254 instead of 255 is final".
 unfoldable pub edgeRight : Head → EdgeBytes → Bool
 edgeRight h x =
-    elim (ltb (x .state) (h .P)) [ true ↦ eqb (x .first) 255 | false ↦ ltb (x .first) (h .J) ]
+    elim (ltb (x .state) (h .P)) [ true ↦ eqb (x .first) 254 || eqb (x .first) 255 | false ↦ ltb (x .first) (h .J) ]
     && ltb (x .state) (h .P + h .I)
     && inner2 h (x .S)
 
@@ -115,9 +121,17 @@ edgeKey x = x .state ∷ x .S ∷ x .first ∷ []
 unfoldable pub edgeRecords : List ℕ → List EdgeBytes
 edgeRecords file = map edgeBytes (recordsOf file 2 4)
 
+-- the edges of controls, which are entries
+abbrev pub entryRecords : Head → List EdgeBytes → List EdgeBytes
+entryRecords h xs = only (λ x. ltb (x .state) (h .P)) xs
+
 -- the entries, "numbered from J in file order"
 unfoldable pub entriesOf : Head → List EdgeBytes → List Entry
-entriesOf h xs = map (λ x. record { control = x .state; S = x .S }) (only (λ x. ltb (x .state) (h .P)) xs)
+entriesOf h xs = map (λ x. record { control = x .state; S = x .S }) (entryRecords h xs)
+
+-- the final entries, where the first entry is order-1 state r: "an entry written with second byte 254 instead of 255 is final"
+unfoldable pub finalEntries : Head → ℕ → List EdgeBytes → List ℕ
+finalEntries h r xs = placesFrom r (λ x. eqb (x .first) 254) (entryRecords h xs)
 
 -- the inner edges, in the order of least choice
 unfoldable pub innerEdges : Head → List EdgeBytes → List Edge
@@ -163,25 +177,34 @@ recordsRight file =
     && leb (states1 file) 64
     && every (moveRight (head file) (states1 file)) (moveRecords file)
 
+-- Edges are strictly increasing by (state, S, second byte), entries by (state, S) alone, since "a second entry for the same state and S is
+-- refusal 4"; and moves are.
+unfoldable pub increasing : List ℕ → Bool
+increasing file =
+    rising edgeKey (edgeRecords file)
+    && rising entryKey (entriesOf (head file) (edgeRecords file))
+    && rising moveKey (moveRecords file)
+
 -- refusals 1 to 4
 unfoldable pub caseTests : List (Test (List ℕ))
 caseTests =
     record { fails = λ file. not (placed caseBodies file); refusal = 1 }
     ∷ record { fails = λ file. not (headRight (head file)); refusal = 2 }
     ∷ record { fails = λ file. not (recordsRight file); refusal = 3 }
-    ∷ record { fails = λ file. not (rising edgeKey (edgeRecords file) && rising moveKey (moveRecords file)); refusal = 4 }
+    ∷ record { fails = λ file. not (increasing file); refusal = 4 }
     ∷ []
 
 -- 0 for a sound case, else its refusal
 unfoldable pub caseRefusal : List ℕ → ℕ
 caseRefusal file = firstHit caseTests file
 
--- the case's own automaton
+-- The case's own automaton. Its final words are over all states: the final order-2 set as it stands, and the final order-1 set with the
+-- final entries.
 unfoldable pub ownOf : List ℕ → Automaton
 ownOf file =
     record {
       J = head file .J;
-      final1 = head file .final1;
+      final1 = join (head file .final1) (setOf (finalEntries (head file) (head file .J) (edgeRecords file)));
       final2 = head file .final2;
       inner = innerEdges (head file) (edgeRecords file);
       entries = entriesOf (head file) (edgeRecords file);

@@ -119,7 +119,7 @@ module _ (rules : List Rule) (T : Saturated) where
       by-first x (some d) e l f k = by-rule x d (getElem? rules (d .rule)) e l f refl k
 
       at-top : (o : Option Top) → topOf (T .table) w (guidedAt w (w .root) .cell) ≡ o → atTop rules T w o ≡ to n v → Stepped w n v
-      at-top none e k = absurd (stuck-to k)
+      at-top none e k = absurd (to-arrived (sym k))
       at-top (some x) e k = by-test (ltb (x .move) (ownMoves (T .sizes)))
           (λ p. absurd (to-arrived (sym (rw (atTop, p) at k))))
           (λ p. by-first x (derived x) e (ltb-false (x .move) (ownMoves (T .sizes)) p) refl (rw (atTop, p) at k))

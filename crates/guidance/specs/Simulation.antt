@@ -242,7 +242,7 @@ module _ (rules : List Rule) (T : Saturated) (w : Walk) (F : WalkFormed w) where
 
   same-at : {o : Option Top} {z : Option DecoratedTop} → SameTop (w .cells) o z → SameNext (atTop rules T w o) (atTop′ rules T z)
   unfolding atTop atTop′ decoratedTop
-  same-at no-top = both-stuck
+  same-at no-top = both-arrive
   same-at (a-top x X) = by-test (ltb (x .move) (ownMoves (T .sizes)))
       (λ e. rw (atTop, atTop′, e) both-arrive)
       (λ e. rw (atTop, atTop′, e) (same-derivation x X (firstDerivation (before T (x .move)) rules (resultOf (T .table) (moveAt (T .table) (x .move))))))

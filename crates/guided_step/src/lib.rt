@@ -90,7 +90,7 @@ fn first_of(z: Table, inner: &[u64], entries: &[u64], n: u16) -> u64
     0
 }
 
-// The top of a walk with the number of its chosen move, or that there is none.
+// The top of a walk with the number of its chosen move, or that there is none: its stack or its top order-1 stack is empty.
 pub enum Tip {
     Nothing,
     At(Top, u16),
@@ -295,7 +295,7 @@ fn step_of(
     }
 }
 
-// The next step of a walk. Where it goes on, the numbers of the edges that the derivation chooses stand in `edges`, and those of the moves in
+// The next step of a walk, which has arrived where there is no top: no move is needed there. Where it goes on, the numbers of the edges that the derivation chooses stand in `edges`, and those of the moves in
 // `chosen`, by state.
 pub fn next_step(
     z: Table,
@@ -317,7 +317,7 @@ pub fn next_step(
 {
     let tip = top_of(z, inner, entries, cells, w);
     match tip {
-        Tip::Nothing => Next::Stuck,
+        Tip::Nothing => Next::Arrived,
         Tip::At(x, i) => step_of(
             z,
             inner,

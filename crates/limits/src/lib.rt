@@ -68,6 +68,8 @@ impl Limits {
 
     pub const ENTRY_MARK: u64 = 255;
 
+    pub const FINAL_MARK: u64 = 254;
+
     // ---- words of a move, an entry, an edge, a result, the sizes after a round, a state of the memo table; 16-bit words of a cell, of which
     // the first are its fields
 

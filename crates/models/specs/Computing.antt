@@ -22,7 +22,7 @@ unfolding Bytes.number Bytes.field Bytes.records Bytes.kindOf Bytes.countOf Byte
 open-bytes = 0
 
 unfoldable pub open-case : ℕ
-unfolding Case.caseBodies Case.headOf Case.head Case.inner1 Case.inner2 Case.headRight Case.ruleBytes Case.ruleRight Case.operationOf Case.ruleOf Case.ruleRecords Case.edgeBytes Case.edgeRight Case.edgeKey Case.edgeRecords Case.entriesOf Case.innerEdges Case.moveOf Case.annotationRight Case.moveRight Case.moveKey Case.moveRecords Case.states1 Case.recordsRight Case.caseTests Case.caseRefusal Case.ownOf Case.rulesOf
+unfolding Case.caseBodies Case.headOf Case.head Case.inner1 Case.inner2 Case.existing2 Case.headRight Case.ruleBytes Case.ruleRight Case.operationOf Case.ruleOf Case.ruleRecords Case.edgeBytes Case.edgeRight Case.edgeKey Case.edgeRecords Case.entriesOf Case.finalEntries Case.innerEdges Case.moveOf Case.annotationRight Case.moveRight Case.moveKey Case.moveRecords Case.states1 Case.recordsRight Case.increasing Case.caseTests Case.caseRefusal Case.ownOf Case.rulesOf
 open-case = 0
 
 unfoldable pub open-start : ℕ
@@ -62,7 +62,7 @@ unfolding Saturate.saturated Saturate.tooLarge Saturate.sizeTests Saturate.satur
 open-saturate = 0
 
 unfoldable pub open-files : ℕ
-unfolding Files.two Files.line Files.head Files.rule Files.entry Files.plain Files.start Files.empty1 Files.symbol Files.empty2 Files.above Files.caseA Files.startA Files.caseB Files.startB Files.caseC Files.startC Files.startCC Files.caseCircle Files.casePast Files.caseCollapse Files.startCollapse Files.times Files.startsA Files.rulesA Files.itselfA
+unfolding Files.two Files.line Files.headWith Files.head Files.rule Files.entry Files.finalEntry Files.plain Files.start Files.empty1 Files.symbol Files.empty2 Files.above Files.caseA Files.startA Files.caseB Files.startB Files.caseBFinal Files.startLone Files.startEmpty Files.caseBTwice Files.caseBNamed Files.caseBOther Files.caseFinished Files.startFinished Files.caseC Files.startC Files.startCC Files.caseCircle Files.casePast Files.caseCollapse Files.startCollapse Files.times Files.startsA Files.rulesA Files.itselfA
 open-files = 0
 
 unfoldable pub computed : ℕ

@@ -22,7 +22,7 @@ use Rattle.services.specs.Replay.{replayService}
 use Rattle.services.specs.Listing.{listingText, ascii}
 use Rattle.services.specs.Run.{runText, numberNamed}
 use Rattle.models.specs.Computing.{computed}
-use Rattle.models.specs.Files.{two, caseA, startA, caseB, startB, caseC, startC, startCC, casePast, caseCollapse, startCollapse, startsA, rulesA, itselfA}
+use Rattle.models.specs.Files.{two, caseA, startA, caseB, startB, caseBFinal, startLone, startEmpty, caseBTwice, caseBNamed, caseBOther, caseFinished, startFinished, caseC, startC, startCC, casePast, caseCollapse, startCollapse, startsA, rulesA, itselfA}
 
 -- ---- what an example says
 
@@ -108,6 +108,25 @@ examples =
     ∷ judges caseB startB 2 0 (2 ∷ 0 ∷ [])
     ∷ guides caseB startB 0 (arrived 1 8) (0 ∷ 0 ∷ 0 ∷ [])
     ∷ guides caseB startB 1 NoRun (0 ∷ 0 ∷ 0 ∷ [])
+    -- Document 02, 3: "Model B's lone symbol turns to yes if its entry is written with 254", by one step, with 8 cells in B's file and 5 in a
+    -- file of its own; its trace is accepted.
+    ∷ judges caseBFinal startB 2 0 (2 ∷ 2 ∷ [])
+    ∷ guides caseBFinal startB 1 (arrived 1 8) (0 ∷ 0 ∷ 0 ∷ [])
+    ∷ guides caseBFinal startLone 0 (arrived 1 5) (0 ∷ 0 ∷ 0 ∷ [])
+    ∷ guides caseB startLone 0 NoRun (0 ∷ 0 ∷ 0 ∷ [])
+    ∷ replays caseBFinal startB 1 (two 0) (8 * 6) Accepted
+    ∷ replays caseB startB 1 (two 0) (8 * 6) (FailsAt 1)
+    -- "It accepts the empty top order-1 stack", and its control does not accept the empty order-2 stack. "Entries found by saturation are
+    -- never final", such as [0,empty]; and an entry is final by its own byte alone.
+    ∷ judges caseBFinal startEmpty 3 0 (0 ∷ 1 ∷ 0 ∷ [])
+    ∷ judges caseBOther startEmpty 3 0 (0 ∷ 0 ∷ 0 ∷ [])
+    -- "The final order-2 set may name controls." "The walk has also arrived where no move is needed."
+    ∷ judges caseFinished startFinished 5 0 (2 ∷ 2 ∷ 0 ∷ 1 ∷ 0 ∷ [])
+    ∷ guides caseFinished startFinished 1 (arrived 1 5) (1 ∷ 0 ∷ 0 ∷ [])
+    ∷ guides caseFinished startFinished 3 (arrived 0 5) (0 ∷ 0 ∷ 0 ∷ [])
+    -- "A second entry for the same state and S is refusal 4"; the final order-1 set names inner states only.
+    ∷ saturates caseBTwice 17 4 0 0 (zeros 17) (zeros 7)
+    ∷ saturates caseBNamed 17 2 0 0 (zeros 17) (zeros 7)
     -- "[[0]], a file of four cells: yes, rules 0, 1, 8 cells. [[0],[0]]: yes, rule 1 alone."
     ∷ judges caseC startC 1 0 (3 ∷ [])
     ∷ guides caseC startC 0 (arrived 2 8) (0 ∷ 1 ∷ 0 ∷ [])
@@ -150,4 +169,4 @@ examples =
 pub all-hold : AllHold examples
 unfolding computed Models.ownA Models.firstA Models.tableA
 all-hold =
-    (refl, (refl, (refl, (refl, (refl, (refl, (refl, (refl, (refl, (refl, (refl, (refl, (refl, (refl, (refl, (refl, (refl, (refl, (refl, (refl, (refl, (refl, (refl, (refl, (refl, (refl, (refl, (refl, (refl, (refl, (refl, (refl, (refl, (refl, (refl, (refl, (refl, (refl, (refl, (refl, (refl, (refl, (refl, (refl, (refl, (refl, (refl, tt)))))))))))))))))))))))))))))))))))))))))))))))
+    (refl, (refl, (refl, (refl, (refl, (refl, (refl, (refl, (refl, (refl, (refl, (refl, (refl, (refl, (refl, (refl, (refl, (refl, (refl, (refl, (refl, (refl, (refl, (refl, (refl, (refl, (refl, (refl, (refl, (refl, (refl, (refl, (refl, (refl, (refl, (refl, (refl, (refl, (refl, (refl, (refl, (refl, (refl, (refl, (refl, (refl, (refl, (refl, (refl, (refl, (refl, (refl, (refl, (refl, (refl, (refl, (refl, (refl, (refl, (refl, tt))))))))))))))))))))))))))))))))))))))))))))))))))))))))))))

@@ -1,4 +1,4 @@
--- The files of document 01's worked models A, B and C, and of its sentence "At the edges", byte by byte.
+-- The files of document 01's worked models A, B and C, of its sentence "At the edges" and of document 02's examples, byte by byte.
 -- Assumes nothing.
 use Prim.Native.Nat.{ℕ, zero, suc, _+_, _*_, _/_, _%_}
 use mathlib.Core.List.{List, [], _∷_, _++_}
@@ -13,9 +13,13 @@ two n = n % 256 ∷ n / 256 ∷ []
 unfoldable pub line : ℕ → ℕ → ℕ → List ℕ
 line kind count offset = two kind ++ two count ++ two offset ++ (0 ∷ 0 ∷ [])
 
--- body 1 with these numbers of controls, inner states and symbols, and empty final sets
+-- body 1 with these numbers of controls, inner states and symbols, these final sets of order 2 and of order 1, both below 65,536,
+unfoldable pub headWith : ℕ → ℕ → ℕ → ℕ → ℕ → ℕ → List ℕ
+headWith P I J A final2 final1 = P ∷ I ∷ J ∷ A ∷ two final2 ++ two final1 ++ (0 ∷ 0 ∷ 0 ∷ 0 ∷ 0 ∷ 0 ∷ [])
+
+-- and with empty ones
 unfoldable pub head : ℕ → ℕ → ℕ → ℕ → List ℕ
-head P I J A = P ∷ I ∷ J ∷ A ∷ 0 ∷ 0 ∷ 0 ∷ 0 ∷ 0 ∷ 0 ∷ 0 ∷ 0 ∷ 0 ∷ 0 ∷ []
+head P I J A = headWith P I J A 0 0
 
 unfoldable pub rule : ℕ → ℕ → ℕ → ℕ → ℕ → List ℕ
 rule p a code b next = p ∷ a ∷ code ∷ b ∷ next ∷ []
@@ -23,6 +27,10 @@ rule p a code b next = p ∷ a ∷ code ∷ b ∷ next ∷ []
 -- the entry [p,S]
 unfoldable pub entry : ℕ → ℕ → List ℕ
 entry p S = p ∷ 255 ∷ two S
+
+-- the entry [p,S], final
+unfoldable pub finalEntry : ℕ → ℕ → List ℕ
+finalEntry p S = p ∷ 254 ∷ two S
 
 -- a move of order 0 with empty sets
 unfoldable pub plain : ℕ → ℕ → List ℕ
@@ -96,6 +104,76 @@ startB =
     ++ above 2 3
     ++ symbol 0 0 0
     ++ above 5 3
+
+-- model B with its entry "written with 254": it is final
+unfoldable pub caseBFinal : List ℕ
+caseBFinal =
+    (4 ∷ []) ++ line 1 1 33 ++ line 2 1 47 ++ line 3 1 52 ++ line 4 1 56
+    ++ head 2 0 0 2
+    ++ rule 0 0 5 0 1
+    ++ finalEntry 1 0
+    ++ plain 0 1
+
+-- "model B's lone symbol" in a file of its own, of four cells
+unfoldable pub startLone : List ℕ
+startLone = (2 ∷ []) ++ line 1 1 17 ++ line 2 4 20 ++ start 0 3 ++ empty1 ++ empty2 ++ symbol 0 0 0 ++ above 2 1
+
+-- an empty order-1 stack alone, with control 0 and with control 1, and the empty order-2 stack with control 1
+unfoldable pub startEmpty : List ℕ
+startEmpty = (2 ∷ []) ++ line 1 3 17 ++ line 2 3 26 ++ start 0 2 ++ start 1 2 ++ start 1 1 ++ empty1 ++ empty2 ++ above 0 1
+
+-- model B with its entry written twice, with 254 and with 255
+unfoldable pub caseBTwice : List ℕ
+caseBTwice =
+    (4 ∷ []) ++ line 1 1 33 ++ line 2 1 47 ++ line 3 2 52 ++ line 4 1 60
+    ++ head 2 0 0 2
+    ++ rule 0 0 5 0 1
+    ++ finalEntry 1 0
+    ++ entry 1 0
+    ++ plain 0 1
+
+-- model B with a final order-1 set that names its entry
+unfoldable pub caseBNamed : List ℕ
+caseBNamed =
+    (4 ∷ []) ++ line 1 1 33 ++ line 2 1 47 ++ line 3 1 52 ++ line 4 1 56
+    ++ headWith 2 0 0 2 0 1
+    ++ rule 0 0 5 0 1
+    ++ entry 1 0
+    ++ plain 0 1
+
+-- model B without its rule, with an inner state 2, from which no stack is accepted, and a final entry [1,{2}] after [1,empty]
+unfoldable pub caseBOther : List ℕ
+caseBOther =
+    (4 ∷ []) ++ line 1 1 33 ++ line 2 0 47 ++ line 3 2 47 ++ line 4 1 55
+    ++ head 2 1 0 2
+    ++ entry 1 0
+    ++ finalEntry 1 4
+    ++ plain 0 1
+
+-- ---- a finished script
+
+-- P 2, I 0, J 0, A 1; control 1 is final; rules 0: (0,0,6,0,0), 1: (0,0,6,0,1); no edge and no move
+unfoldable pub caseFinished : List ℕ
+caseFinished =
+    (4 ∷ []) ++ line 1 1 33 ++ line 2 2 47 ++ line 3 0 57 ++ line 4 0 57
+    ++ headWith 2 0 0 1 2 0
+    ++ rule 0 0 6 0 0
+    ++ rule 0 0 6 0 1
+
+-- for it: [[0],[0]], [[0]] and the empty stack with control 0, the empty stack and [[0]] with control 1
+unfoldable pub startFinished : List ℕ
+startFinished =
+    (2 ∷ []) ++ line 1 5 17 ++ line 2 5 32
+    ++ start 0 4
+    ++ start 0 3
+    ++ start 0 1
+    ++ start 1 1
+    ++ start 1 3
+    ++ empty1
+    ++ empty2
+    ++ symbol 0 0 0
+    ++ above 2 1
+    ++ above 2 3
 
 -- ---- model C
 

@@ -5,6 +5,7 @@ use mathlib.Core.Path.{_≡_, refl, sym, subst}
 use mathlib.Core.Logic.{⊎-elim}
 use mathlib.Core.Option.{some}
 use mathlib.Core.List.{List, [], _∷_, List·Memᴰ, List·Memᴰ·head, List·Memᴰ·tail, List·Memᴰ·append-cases, List·Memᴰ·eq-of-singleton}
+use native.Mathlib.Nat.{le-trans}
 use native.Mathlib.Omega.{arith}
 use lib.ListN.{length}
 use Rattle.words.specs.Lists.Laws.{getElem?-in}
@@ -73,8 +74,7 @@ module _ {P : ℕ} {A : Automaton} (F : TableFacts P A) where
   unfolding add newMove
   add-facts x f =
       record {
-        final1-inner = F .final1-inner;
-        final2-inner = F .final2-inner;
+        final1-exists = λ r h. le-trans (F .final1-exists r h) (states-more (withEntry-grows (x .control) (x .S) (A .entries)));
         inner-facts = F .inner-facts;
         inner-rising = F .inner-rising;
         entry-control = λ e j. ⊎-elim (λ i. F .entry-control e i) (λ z. rw z (f .control-exists)) (withEntry-out (x .control) (x .S) (A .entries) j);

@@ -123,9 +123,10 @@ module _ (rules : List Rule) (T : Saturated) where
         (afterDecorated (ρ .operation) (choicesAfter (T .table) d (ρ .next) (ρ .operation)) (x .a) (x .u) (x .s) (x .t))
   ]
 
-  -- "The chosen move at the top has arrived if it is from round 0. Otherwise the step is its first derivation from earlier rounds."
+  -- "The chosen move at the top has arrived if it is from round 0. Otherwise the step is its first derivation from earlier rounds." "The
+  -- walk has also arrived where no move is needed."
   unfoldable pub atTop : Option DecoratedTop → DecoratedNext
-  atTop none = stuck
+  atTop none = arrived
   atTop (some x) = elim (ltb (x .move) (ownMoves (T .sizes))) [
     | true ↦ arrived
     | false ↦ byDerivation x (firstDerivation (before T (x .move)) rules (resultOf (T .table) (moveAt (T .table) (x .move))))

@@ -1,5 +1,5 @@
--- Moves of round 0 and inner edges: their sets are inner, so the own automaton accepts, and a walk whose chosen move is from round 0 is in
--- the target.
+-- Moves of round 0, inner edges and final states: their sets are inner, so the own automaton accepts, and a walk whose chosen move is from
+-- round 0, or that needs no move, is in the target.
 -- Assumes nothing.
 use Prim.Native.Nat.{ℕ, _+_, _<_, _≤_}
 use mathlib.Core.Path.{_≡_, refl, ap, sym, _∙_, subst}
@@ -7,20 +7,21 @@ use mathlib.Core.Logic.{⊎-elim}
 use mathlib.Core.List.{List, List·Memᴰ}
 use native.Mathlib.Omega.{arith}
 use lib.ListN.{length, getD}
-use Rattle.words.specs.Sets.Laws.{All}
+use Rattle.words.specs.Sets.Laws.{Has, All}
 use Rattle.words.specs.Lists.Laws.{getD-in}
-use Rattle.stacks.specs.Stack.{cons1, cons2}
+use Rattle.stacks.specs.Stack.{Stack1, nil1, cons1, nil2, cons2}
 use Rattle.stacks.specs.System.{Rule}
 use Rattle.automata.specs.Automaton.{Automaton, Move, Edge, noEdge, noEntry, edges, moveAt, edgeAt, entryEdge}
 use Rattle.automata.specs.Automaton.Laws.{MoveOf, EdgeOf, EntryIs, moveAt-in, entry-edge, edge-cases, edgeAt-inner, length-edges}
 use Rattle.automata.specs.Acceptance.{inTarget}
 use Rattle.automata.specs.Acceptance.Laws.{Accepts1, Accepts2, AcceptsAnnotation, accepts2-in, annotation-any}
+use Rattle.automata.specs.Facts.{states}
 use Rattle.automata.specs.Facts.Laws.{control-edge, moveAt-kept, edgeAt-kept, entryIs-own}
 use Rattle.automata.specs.Saturation.{Saturated}
-use Rattle.soundness.specs.Decorated.{Decorated1, cons1′, Decorated2, cons2′, DecoratedAnnotation, erase1, erase2, eraseAnnotation, erased, Arrives, here}
+use Rattle.soundness.specs.Decorated.{Decorated1, nil1′, cons1′, Decorated2, nil2′, cons2′, DecoratedAnnotation, erase1, erase2, eraseAnnotation, erased, Arrives, here}
 use Rattle.soundness.specs.Facts.{SaturatedFacts}
 use Rattle.soundness.specs.Meaning.{Ok1, Ok2, OkAnnotation, any, one, two}
-use Rattle.soundness.specs.Step.{next-arrived, at}
+use Rattle.soundness.specs.Step.{empty-arrived, empty-top-arrived, next-arrived, at}
 
 module _ {P : ℕ} {own : Automaton} {rules : List Rule} {T : Saturated} (F : SaturatedFacts P own rules T) where
   abbrev table : Automaton
@@ -54,6 +55,21 @@ module _ {P : ℕ} {own : Automaton} {rules : List Rule} {T : Saturated} (F : Sa
         rest = λ q k. y′ q k .inner (subst (λ (j : ℕ). q < j) (sym (F .extends .same-J)) (g q k));
       }
 
+  -- an own entry [p,S] that accepts the top makes p accept, where S is right about the rest
+  entry-accepts : (w : Stack1) {p S e : ℕ} {t : Decorated2} → EntryIs own p S e → Accepts1 own w (table .J + e) → All S (λ q. Ok2 F q t)
+      → Accepts2 own (cons2 w (erase2 t)) p
+  unfolding Accepts1
+  entry-accepts w {e = e} E a z =
+      let c = entry-edge own E in
+      let first : edgeAt own (entryEdge own e) .first ≡ table .J + e = c .first-is ∙ ap (λ (j : ℕ). j + e) (sym (F .extends .same-J)) in
+      let inner = F .own-inner .entry-inner (getD (own .entries) e noEntry) (getD-in (own .entries) e noEntry (E .below)) in
+      record {
+        number = entryEdge own e;
+        edge = c .edge;
+        first = rw first a;
+        rest = rw (c .set-is) (λ q n. z q n .inner (inner q (rw (E .set-is) n)));
+      }
+
   -- a walk whose chosen move is from round 0 has arrived, in the target
   pub own-arrives : (p S e i a : ℕ) (u : DecoratedAnnotation) (s : Decorated1) (f : ℕ → ℕ) (t : Decorated2) (g : ℕ → ℕ) → i < length (own .moves)
       → MoveOf table a (table .J + e) i → EntryIs table p S e
@@ -75,16 +91,30 @@ module _ {P : ℕ} {own : Automaton} {rules : List Rule} {T : Saturated} (F : Sa
           entryIs-own (F .extends) below k
 
       accepted : Accepts2 own (cons2 (cons1 a (eraseAnnotation u) (erase1 s)) (erase2 t)) p
-      accepted =
-          let c = entry-edge own E in
-          let first : edgeAt own (entryEdge own e) .first ≡ table .J + e = c .first-is ∙ ap (λ (j : ℕ). j + e) (sym (F .extends .same-J)) in
-          let inner = F .own-inner .entry-inner (getD (own .entries) e noEntry) (getD-in (own .entries) e noEntry (E .below)) in
-          record {
-            number = entryEdge own e;
-            edge = c .edge;
-            first = rw first (own-accepts l h x y);
-            rest = rw (c .set-is) (λ q n. z q n .inner (inner q (rw (E .set-is) n)));
-          }
+      accepted = entry-accepts (cons1 a (eraseAnnotation u) (erase1 s)) E (own-accepts l h x y) z
+
+  -- ---- final states
+
+  -- a final entry is one of the file
+  final-entry : {p S e r : ℕ} → Has (table .final1) r → r ≡ table .J + e → EntryIs table p S e → EntryIs own p S e
+  final-entry {e = e} {r = r} h q E =
+      let b : r < states own = F .own-table .final1-exists r (subst (λ (f : ℕ). Has f r) (F .extends .same-final1) h) in
+      let j = F .extends .same-J in
+      let below : e < length (own .entries) = omega arith in
+      entryIs-own (F .extends) below E
+
+  -- a walk whose top order-1 stack is empty, and whose root chooses a final entry, has arrived, in the target
+  pub final-arrives : (p S e r : ℕ) (t : Decorated2) (g : ℕ → ℕ) → Has (table .final1) r → r ≡ table .J + e → EntryIs table p S e
+      → All S (λ q. Ok2 F q t) → Arrives rules T own (record { control = p; stack = cons2′ nil1′ t g })
+  unfolding Accepts1 inTarget erased erase1
+  final-arrives p S e r t g h q E z =
+      let f : Has (own .final1) (table .J + e) = rw (← q) (subst (λ (f : ℕ). Has f r) (F .extends .same-final1) h) in
+      here (empty-top-arrived rules T p t g) (accepts2-in own (cons2 nil1 (erase2 t)) p (entry-accepts nil1 (final-entry h q E) f z))
+
+  -- a walk from a final control at the empty stack has arrived, in the target
+  pub empty-arrives : (p : ℕ) → Has (table .final2) p → Arrives rules T own (record { control = p; stack = nil2′ })
+  unfolding Accepts1 inTarget erased erase1
+  empty-arrives p h = here (empty-arrived rules T p) (accepts2-in own nil2 p (subst (λ (f : ℕ). Has f p) (F .extends .same-final2) h))
 
   -- ---- order-2 states
 

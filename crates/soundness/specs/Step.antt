@@ -12,7 +12,7 @@ use Rattle.automata.specs.Automaton.{Automaton, moveAt, edgeAt}
 use Rattle.automata.specs.Derivation.{Derivation, resultOf, firstDerivation}
 use Rattle.automata.specs.Saturation.{Saturated, before, ownMoves}
 use Rattle.walks.specs.Guide.{choicesAfter}
-use Rattle.soundness.specs.Decorated.{Decorated1, cons1′, Decorated2, cons2′, DecoratedAnnotation, of1′, of2′, erase1, erase2, eraseAnnotation, erased, topOf, afterDecorated, DecoratedWalk, arrived, to, leaves, byDerivation, atTop, next, Arrives, onward}
+use Rattle.soundness.specs.Decorated.{Decorated1, nil1′, cons1′, Decorated2, nil2′, cons2′, DecoratedAnnotation, of1′, of2′, erase1, erase2, eraseAnnotation, erased, topOf, afterDecorated, DecoratedWalk, arrived, to, leaves, byDerivation, atTop, next, Arrives, onward}
 
 -- without the choices, an operation leaves what document 01's table says
 pub after-erased : (o : Operation) (fs : List (ℕ → ℕ)) (a : ℕ) (u : DecoratedAnnotation) (s : Decorated1) (t : Decorated2)
@@ -28,6 +28,16 @@ after-erased collapse1 fs a (of1′ u) s t = refl
 after-erased collapse1 fs a (of2′ u) s t = refl
 after-erased collapse2 fs a (of1′ u) s t = refl
 after-erased collapse2 fs a (of2′ u) s t = refl
+
+-- "The walk has also arrived where no move is needed": at the empty order-2 stack, and at an empty top order-1 stack.
+pub empty-arrived : (rules : List Rule) (T : Saturated) (p : ℕ) → next rules T (record { control = p; stack = nil2′ }) ≡ arrived
+unfolding next topOf atTop
+empty-arrived rules T p = refl
+
+pub empty-top-arrived : (rules : List Rule) (T : Saturated) (p : ℕ) (t : Decorated2) (g : ℕ → ℕ)
+    → next rules T (record { control = p; stack = cons2′ nil1′ t g }) ≡ arrived
+unfolding next topOf atTop
+empty-top-arrived rules T p t g = refl
 
 -- A walk from control p: symbol a annotated u, then s, then t. The symbol has the choices f, and the root has the choices g.
 module _ (own : Automaton) (rules : List Rule) (T : Saturated) (p a : ℕ) (u : DecoratedAnnotation) (s : Decorated1) (f : ℕ → ℕ) (t : Decorated2) (g : ℕ → ℕ) where

@@ -23,7 +23,7 @@ use Rattle.soundness.specs.Decorated.{erase1, erase2, eraseAnnotation, d
 use Rattle.soundness.specs.Facts.{SaturatedFacts}
 use Rattle.soundness.specs.Choices.{least-move, least-edge}
 use Rattle.soundness.specs.Meaning.{Ok1, Ok2, OkAnnotation, any, one, two}
-use Rattle.soundness.specs.Own.{edge-ok}
+use Rattle.soundness.specs.Own.{final-arrives, empty-arrives, edge-ok}
 use Rattle.soundness.specs.Lemma.{good}
 
 -- ---- the least choices
@@ -57,9 +57,7 @@ module _ {P : ℕ} {own : Automaton} {rules : List Rule} {T : Saturated} (F : Sa
     accepts-ok1 nil1 r h =
         record {
           inner = λ l. subst (λ (z : ℕ). Has z r) (F .extends .same-final1) h;
-          entry = λ p S e q E t y g k.
-              let l : r < T .table .J = F .table .final1-inner r h in
-              absurd (omega arith);
+          entry = λ p S e q E t y g k. final-arrives F p S e r t g h q E y;
         }
     accepts-ok1 (cons1 a u s) r h =
         let x = least-move (T .table) a u s r h in
@@ -71,9 +69,7 @@ module _ {P : ℕ} {own : Automaton} {rules : List Rule} {T : Saturated} (F : Sa
     accepts-ok2 nil2 q h =
         record {
           inner = λ l. subst (λ (z : ℕ). Has z q) (F .extends .same-final2) h;
-          control = λ l.
-              let k : P ≤ q = F .table .final2-inner q h in
-              absurd (omega arith);
+          control = λ l. empty-arrives F q h;
         }
     accepts-ok2 (cons2 w t) q h =
         let x = least-edge (T .table) w t q h in

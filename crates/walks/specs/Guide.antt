@@ -149,9 +149,11 @@ module _ (rules : List Rule) (T : Saturated) where
   byDerivation w x none = stuck
   byDerivation w x (some d) = elim (getElem? rules (d .rule)) [ none ↦ stuck | some ρ ↦ to (d .rule) (moved w x d ρ) ]
 
-  -- "The chosen move at the top has arrived if it is from round 0. Otherwise the step is its first derivation from earlier rounds."
+  -- "The chosen move at the top has arrived if it is from round 0. Otherwise the step is its first derivation from earlier rounds." "The
+  -- walk has also arrived where no move is needed": there is no top, as the root is the empty order-2 stack or the top order-1 stack is
+  -- empty.
   unfoldable pub atTop : Walk → Option Top → Next
-  atTop w none = stuck
+  atTop w none = arrived
   atTop w (some x) = elim (ltb (x .move) (ownMoves (T .sizes))) [
     | true ↦ arrived
     | false ↦ byDerivation w x (firstDerivation (before T (x .move)) rules (resultOf (T .table) (moveAt (T .table) (x .move))))

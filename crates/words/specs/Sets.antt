@@ -1,6 +1,7 @@
 -- Sets of states as words: state n is a member exactly if bit n of the word is 1. The definitions hold for every width.
 -- Assumes nothing.
 pub mod Laws
+pub mod Listed
 use Prim.Native.Nat.{ℕ, zero, suc, _+_, _*_, _/_, _%_, _^_, max}
 use mathlib.Core.Bool.{Bool, true, false}
 use mathlib.Core.List.{List, [], _∷_}
@@ -25,6 +26,11 @@ joinBits (suc k) a b = elim (eqb a 0) [
 -- the set of all that is a member of a or of b
 unfoldable pub join : ℕ → ℕ → ℕ
 join a b = joinBits a a b
+
+-- the set of these states
+unfoldable pub setOf : List ℕ → ℕ
+setOf [] = 0
+setOf (n ∷ ns) = join (single n) (setOf ns)
 
 -- every member of a is a member of b
 unfoldable pub partOf : ℕ → ℕ → Bool

@@ -96,10 +96,10 @@ module _ (x : Lent) (sound : caseRefusal (x .case) ≡ 0) {T : Saturated} (is : 
         inner-small = λ e j. let f : e .first < T .table .J = table-facts .inner-facts e j .to-inner in (inner-exists e j, omega arith);
         controls-small = λ e j. let l : e .control < head (x .case) .P = table-facts .entry-control e j in omega arith;
         states-small = λ m j. let l : m .state < T .table .J + length (T .table .entries) = table-facts .move-facts m j .state-exists in omega arith;
-        final1-small = λ r i. let l : r < T .table .J = table-facts .final1-inner r i in omega arith;
+        final1-small = λ r i. let l : r < T .table .J + length (T .table .entries) = table-facts .final1-exists r i in omega arith;
         final2-small = λ q i.
             let e : T .table .final2 ≡ head (x .case) .final2 = table-extends (is-saturated .after) .same-final2 in
-            let l = case-head (x .case) sound .final2-inner q (subst (λ (f : ℕ). Has f q) e i) .1 in
+            let l : q < head (x .case) .P + head (x .case) .I = case-head (x .case) sound .final2-exists q (subst (λ (f : ℕ). Has f q) e i) in
             let n : head (x .case) .I ≤ 8 = case-head (x .case) sound .inner2-few in
             omega arith;
       }

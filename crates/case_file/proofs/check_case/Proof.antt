@@ -46,7 +46,7 @@ returns-3 c =
     )
 
 records-rising-requires : tie.Need-records-rising-requires
-records-rising-requires c κs = sym (c .before .before .before .before .before .before .case-placed .ensures) ∙ not-false _ (c .before .before .before .before .before .if1 .left)
+records-rising-requires c κs = (sym (c .before .before .before .before .before .before .case-placed .ensures) ∙ not-false _ (c .before .before .before .before .before .if1 .left), c .before .before .before .before .head-of .ensures)
 
 returns-4 : tie.Need-returns-4
 unfolding refusalBy

@@ -7,17 +7,19 @@ use mathlib.Core.List.{map}
 use borrow.Author.Tests.{not-true, not-false}
 use Rattle.words.specs.Order.{less, rising}
 use Rattle.files.specs.Bytes.{records}
-use Rattle.files.specs.Case.{EdgeBytes, edgeBytes, edgeKey}
+use Rattle.files.specs.Case.{EdgeBytes, edgeBytes}
+use Rattle.case_records.specs.Values.{theHead}
+use Rattle.case_records.specs.Keys.{edgeOrder}
 use Rattle.bytes_in.specs.Records.Laws.{rising-one, rising-more, rising-not, rising-fewer}
 use borrow.Author.Needs.{needs}
 use Rattle.case_file.proofs.edges_rising.Statement.{statement}
 use Rattle.case_file.proofs.edges_rising.Tie as tie
 
 abbrev Inv-loop : tie.InvT-loop
-Inv-loop body n i₀ i = (i ≤ n) × (rising edgeKey (map edgeBytes (records (i + 1) 4 body)) ≡ true)
+Inv-loop h body n i₀ i = (i ≤ n) × (rising (edgeOrder (theHead h)) (map edgeBytes (records (i + 1) 4 body)) ≡ true)
 
 abbrev μ-loop : tie.MeasureT-loop
-μ-loop body n i₀ i = n - i
+μ-loop h body n i₀ i = n - i
 
 loop-holds : tie.Need-loop-holds Inv-loop μ-loop
 loop-holds c = (search needs, rising-one _ _ _ _ 1 (search needs))
@@ -38,7 +40,7 @@ edge-before-requires : tie.Need-edge-before-requires Inv-loop μ-loop
 edge-before-requires c κs = search needs
 
 returns : tie.Need-returns Inv-loop μ-loop
-returns c = sym (rising-not edgeBytes 4 _ edgeKey _ _ (c .before .before .before .before .loop-test .taken) (ap₂ (λ (x y : EdgeBytes). less (edgeKey x) (edgeKey y)) (sym (c .before .before .before .edge-at .ensures)) (sym (c .before .before .edge-at2 .ensures)) ∙ sym (c .before .edge-before .ensures) ∙ not-true _ (c .if1 .taken)))
+returns c = sym (rising-not edgeBytes 4 _ (edgeOrder (theHead (c .before .before .before .before .before .before .before .args .h))) _ _ (c .before .before .before .before .loop-test .taken) (ap₂ (λ (x y : EdgeBytes). less (edgeOrder (theHead (c .before .before .before .before .before .before .before .args .h)) x) (edgeOrder (theHead (c .before .before .before .before .before .before .before .args .h)) y)) (sym (c .before .before .before .edge-at .ensures)) (sym (c .before .before .edge-at2 .ensures)) ∙ sym (c .before .edge-before .ensures) ∙ not-true _ (c .if1 .taken)))
 
 add-i : tie.Need-add-i Inv-loop μ-loop
 add-i c = search needs
@@ -47,10 +49,10 @@ loop-less : tie.Need-loop-less Inv-loop μ-loop
 loop-less c = search needs
 
 loop-again : tie.Need-loop-again Inv-loop μ-loop
-loop-again c = (search needs, rising-more edgeBytes 4 _ edgeKey _ (c .before .before .before .before .before .loop .inv .1) (ap₂ (λ (x y : EdgeBytes). less (edgeKey x) (edgeKey y)) (sym (c .before .before .before .edge-at .ensures)) (sym (c .before .before .edge-at2 .ensures)) ∙ sym (c .before .edge-before .ensures) ∙ not-false _ (c .if1 .left)))
+loop-again c = (search needs, rising-more edgeBytes 4 _ (edgeOrder (theHead (c .before .before .before .before .before .before .before .args .h))) _ (c .before .before .before .before .before .loop .inv .1) (ap₂ (λ (x y : EdgeBytes). less (edgeOrder (theHead (c .before .before .before .before .before .before .before .args .h)) x) (edgeOrder (theHead (c .before .before .before .before .before .before .before .args .h)) y)) (sym (c .before .before .before .edge-at .ensures)) (sym (c .before .before .edge-at2 .ensures)) ∙ sym (c .before .edge-before .ensures) ∙ not-false _ (c .if1 .left)))
 
 returns-2 : tie.Need-returns-2 Inv-loop μ-loop
-returns-2 c = sym (rising-fewer edgeBytes 4 _ edgeKey _ _ (c .loop-test .left) (c .before .loop .inv .1))
+returns-2 c = sym (rising-fewer edgeBytes 4 _ (edgeOrder (theHead (c .before .before .before .args .h))) _ _ (c .loop-test .left) (c .before .loop .inv .1))
 
 pub edges-rising-spec : {M : Type 1} → statement M
 edges-rising-spec =

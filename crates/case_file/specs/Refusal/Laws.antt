@@ -1,22 +1,21 @@
 -- The refusal of a case is that of the first test that fails.
 -- Assumes nothing.
 use Prim.Native.Nat.{ℕ}
-use mathlib.Core.Bool.{Bool, true, false, not, _&&_}
+use mathlib.Core.Bool.{Bool, true, false, not}
 use mathlib.Core.Path.{_≡_, refl}
 use mathlib.Core.List.{List}
-use Rattle.words.specs.Order.{rising}
 use Rattle.files.specs.Bytes.{placed, firstHit}
-use Rattle.files.specs.Case.{caseBodies, head, headRight, recordsRight, edgeKey, edgeRecords, moveKey, moveRecords, caseTests, caseRefusal}
+use Rattle.files.specs.Case.{caseBodies, head, headRight, recordsRight, increasing, caseTests, caseRefusal}
 use Rattle.case_file.specs.Refusal.{refusalBy}
 
 pub refusal-is : (file : List ℕ)
     → caseRefusal file
     ≡ refusalBy (placed caseBodies file) (headRight (head file)) (recordsRight file)
-    (rising edgeKey (edgeRecords file) && rising moveKey (moveRecords file))
+    (increasing file)
 unfolding caseRefusal caseTests firstHit refusalBy
 refusal-is file =
     go (placed caseBodies file) (headRight (head file)) (recordsRight file)
-    (rising edgeKey (edgeRecords file) && rising moveKey (moveRecords file))
+    (increasing file)
   where
     go : (p h r s : Bool)
         → elim (not p) [

@@ -31,19 +31,19 @@ returns-6 : tie.Need-returns-6
 unfolding headRight
 returns-6 c = simp (le-leb _ _ (c .before .before .before .before .before .before .before .before .before .before .if1 .left), le-leb _ _ (c .before .before .before .before .before .before .before .before .if2 .left), le-leb _ _ (c .before .before .before .before .before .before .if3 .left), le-leb _ _ (c .before .before .before .before .if4 .left), le-leb _ _ (c .before .before .if5 .left), lt-leb _ _ (c .if6 .taken))
 
-inner2-requires : tie.Need-inner2-requires
-inner2-requires c κs = search needs
+existing2-requires : tie.Need-existing2-requires
+existing2-requires c κs = search needs
 
 inner1-requires : tie.Need-inner1-requires
 inner1-requires c κs = search needs
 
 returns-7 : tie.Need-returns-7
 unfolding headRight
-returns-7 c = simp (le-leb _ _ (c .before .before .before .before .before .before .before .before .before .before .before .before .before .if1 .left), le-leb _ _ (c .before .before .before .before .before .before .before .before .before .before .before .if2 .left), le-leb _ _ (c .before .before .before .before .before .before .before .before .before .if3 .left), le-leb _ _ (c .before .before .before .before .before .before .before .if4 .left), le-leb _ _ (c .before .before .before .before .before .if5 .left), le-leb _ _ (c .before .before .before .if6 .left), sym (c .before .before .inner2 .ensures) ∙ c .before .if7 .taken) (c .inner1 .ensures)
+returns-7 c = simp (le-leb _ _ (c .before .before .before .before .before .before .before .before .before .before .before .before .before .if1 .left), le-leb _ _ (c .before .before .before .before .before .before .before .before .before .before .before .if2 .left), le-leb _ _ (c .before .before .before .before .before .before .before .before .before .if3 .left), le-leb _ _ (c .before .before .before .before .before .before .before .if4 .left), le-leb _ _ (c .before .before .before .before .before .if5 .left), le-leb _ _ (c .before .before .before .if6 .left), sym (c .before .before .existing2 .ensures) ∙ c .before .if7 .taken) (c .inner1 .ensures)
 
 returns-8 : tie.Need-returns-8
 unfolding headRight
-returns-8 c = simp (le-leb _ _ (c .before .before .before .before .before .before .before .before .before .before .before .before .if1 .left), le-leb _ _ (c .before .before .before .before .before .before .before .before .before .before .if2 .left), le-leb _ _ (c .before .before .before .before .before .before .before .before .if3 .left), le-leb _ _ (c .before .before .before .before .before .before .if4 .left), le-leb _ _ (c .before .before .before .before .if5 .left), le-leb _ _ (c .before .before .if6 .left), sym (c .before .inner2 .ensures) ∙ c .if7 .left)
+returns-8 c = simp (le-leb _ _ (c .before .before .before .before .before .before .before .before .before .before .before .before .if1 .left), le-leb _ _ (c .before .before .before .before .before .before .before .before .before .before .if2 .left), le-leb _ _ (c .before .before .before .before .before .before .before .before .if3 .left), le-leb _ _ (c .before .before .before .before .before .before .if4 .left), le-leb _ _ (c .before .before .before .before .if5 .left), le-leb _ _ (c .before .before .if6 .left), sym (c .before .existing2 .ensures) ∙ c .if7 .left)
 
 pub head-right-spec : {M : Type 1} → statement M
 head-right-spec =
@@ -55,7 +55,7 @@ head-right-spec =
     returns-4
     returns-5
     returns-6
-    inner2-requires
+    existing2-requires
     inner1-requires
     returns-7
     returns-8)

@@ -19,15 +19,12 @@ returns : tie.Need-returns
 unfolding single
 returns c = rw (inner2-is, ← c .before .one-bit .ensures, ne-eqb _ _ (c .if1 .taken))
 
-add-result : tie.Need-add-result
-add-result c = search needs
-
-shr-result : tie.Need-shr-result
-shr-result c = search needs
+existing2-requires : tie.Need-existing2-requires
+existing2-requires c κs = search needs
 
 returns-2 : tie.Need-returns-2
 unfolding single
-returns-2 c = rw (inner2-is, ← c .before .before .one-bit .ensures, eq-eqb _ _ (c .before .if1 .left))
+returns-2 c = rw (inner2-is, ← c .before .before .one-bit .ensures, eq-eqb _ _ (c .before .if1 .left)) (c .existing2 .ensures)
 
 pub inner2-spec : {M : Type 1} → statement M
-inner2-spec = tie.close (tie.spec one-bit-requires rem-if1 returns add-result shr-result returns-2)
+inner2-spec = tie.close (tie.spec one-bit-requires rem-if1 returns existing2-requires returns-2)

@@ -6,7 +6,7 @@ use mathlib.Core.Path.{_≡_, refl}
 use lib.Dec.{eqb, ltb, leb}
 use borrow.Author.Tests.{eq-eqb, ne-eqb}
 use native.Mathlib.Omega.{arith}
-use Rattle.files.specs.Case.{Head, inner1, inner2, RuleBytes, ruleRight, EdgeBytes, edgeRight, annotationRight}
+use Rattle.files.specs.Case.{Head, inner1, inner2, existing2, RuleBytes, ruleRight, EdgeBytes, edgeRight, annotationRight}
 use Rattle.case_records.specs.Laws.Inner.{every-below, every-between}
 use Rattle.case_records.specs.Bounds.{operandRight, firstRight}
 
@@ -16,9 +16,13 @@ pub inner1-is : (h : Head) (s : ℕ) → inner1 h s ≡ eqb (s / 2 ^ h .J) 0
 unfolding inner1
 inner1-is h s = every-below (h .J) s
 
-pub inner2-is : (h : Head) (s : ℕ) → inner2 h s ≡ eqb (s % 2 ^ h .P) 0 && eqb (s / 2 ^ (h .P + h .I)) 0
+pub existing2-is : (h : Head) (s : ℕ) → existing2 h s ≡ eqb (s / 2 ^ (h .P + h .I)) 0
+unfolding existing2
+existing2-is h s = every-below (h .P + h .I) s
+
+pub inner2-is : (h : Head) (s : ℕ) → inner2 h s ≡ eqb (s % 2 ^ h .P) 0 && existing2 h s
 unfolding inner2
-inner2-is h s = every-between (h .P) (h .P + h .I) s
+inner2-is h s = rw existing2-is (every-between (h .P) (h .P + h .I) s)
 
 pub rule-parts : (h : Head) (x : RuleBytes)
     → ruleRight h x

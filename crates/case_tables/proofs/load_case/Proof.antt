@@ -7,7 +7,7 @@ use Rattle.files.specs.Case.Laws.{CasePlaces, case-places}
 use Rattle.tables.specs.Layouts.{edgeRow, entryRow, moveRow}
 use Rattle.bytes_in.specs.Records.Laws.{body-fits}
 use Rattle.case_tables.specs.Own.{HoldsOwn}
-use Rattle.case_tables.specs.Own.Laws.{own-entries, own-loaded, holds-inner, holds-entries, holds-moves}
+use Rattle.case_tables.specs.Own.Laws.{own-entries, own-finals, own-few, own-loaded, holds-inner, holds-entries, holds-moves}
 use borrow.Author.Needs.{needs}
 use Rattle.case_tables.proofs.load_case.Statement.{statement}
 use Rattle.case_tables.proofs.load_case.Tie as tie
@@ -52,6 +52,20 @@ load-moves-requires c κs =
     let p : CasePlaces (c .before .before .before .before .before .before .before .before .before .before .before .before .before .before .before .before .before .before .before .args .file .now) = case-places _ (c .before .before .before .before .before .before .before .before .before .before .before .before .before .before .before .before .before .before .before .pre .0) in
     (body-fits _ _ _ _ _ (omega arith) (c .before .move-body .ensures) (c .before .before .before .before .before .before .before .before .before .before .before .before .count-of2 .ensures .0), omega arith, omega arith)
 
+edge-body-requires-3 : tie.Need-edge-body-requires-3
+edge-body-requires-3 c κs = search needs
+
+final-entries-requires : tie.Need-final-entries-requires
+final-entries-requires c κs =
+    let p : CasePlaces (c .before .before .before .before .before .before .before .before .before .before .before .before .before .before .before .before .before .before .before .before .before .before .before .args .file .now) = case-places _ (c .before .before .before .before .before .before .before .before .before .before .before .before .before .before .before .before .before .before .before .before .before .before .before .pre .0) in (
+      body-fits _ _ _ _ _ (omega arith) (c .edge-body3 .ensures) (c .before .before .before .before .before .before .before .before .before .before .before .before .before .before .before .before .before .count-of .ensures .0),
+      omega arith,
+      own-few _ _ _ _ (c .before .before .before .before .before .before .before .before .before .before .before .before .before .before .before .before .before .before .head-of .ensures) (c .edge-body3 .ensures) (c .before .before .before .before .before .before .before .before .before .before .before .before .before .before .before .before .before .count-of .ensures .0) (c .before .before .before .before .before .before .before .before .before .before .before .before .before .before .before .before .before .before .before .before .before .before .before .pre .1 .states-few),
+    )
+
+join-requires : tie.Need-join-requires
+join-requires c κs = search needs
+
 same-length : tie.Need-same-length
 same-length c = search needs
 
@@ -63,13 +77,13 @@ same-length-3 c = search needs
 
 returns : tie.Need-returns
 returns c =
-    let i : HoldsOwn edgeRow (ownOf (c .before .before .before .before .before .before .before .before .before .before .before .before .before .before .before .before .before .before .before .before .before .before .args .file .now) .inner) (c .before .before .before .before .before .before .before .before .before .before .before .before .before .before .before .before .before .before .before .before .before .before .args .inner .now) _ _ =
-    holds-inner _ _ _ _ _ _ _ (c .before .before .before .before .before .before .before .before .before .before .before .before .before .before .before .before .before .head-of .ensures) (c .before .before .before .before .before .before .before .before .before .before .before .before .before .before .edge-body .ensures) (c .before .before .before .before .before .before .before .before .before .before .before .before .before .before .before .before .count-of .ensures .0) (c .before .before .before .before .before .before .before .before .before .before .before .before .load-inner .ensures .0) (c .before .before .before .before .before .before .before .before .before .before .before .before .load-inner .ensures .1 .0) (c .before .before .before .before .before .before .before .before .before .before .before .before .load-inner .ensures .1 .1) (c .before .before .before .before .before .before .before .before .before .before .before .before .before .before .before .before .before .before .before .before .before .before .pre .1 .inner-room) in
-    let e : HoldsOwn entryRow (ownOf (c .before .before .before .before .before .before .before .before .before .before .before .before .before .before .before .before .before .before .before .before .before .before .args .file .now) .entries) (c .before .before .before .before .before .before .before .before .before .before .before .before .before .before .before .before .before .before .before .before .before .before .args .entries .now) _ _ =
-    holds-entries _ _ _ _ _ _ _ (c .before .before .before .before .before .before .before .before .before .before .before .before .before .before .before .before .before .head-of .ensures) (c .before .before .before .before .before .before .before .before .before .edge-body2 .ensures) (c .before .before .before .before .before .before .before .before .before .before .before .before .before .before .before .before .count-of .ensures .0) (c .before .before .before .before .before .before .before .load-entries .ensures .0) (c .before .before .before .before .before .before .before .load-entries .ensures .1) (c .before .before .before .before .before .before .before .before .before .before .before .before .before .before .before .before .before .before .before .before .before .before .pre .1 .entry-room) in
-    let m : HoldsOwn moveRow (ownOf (c .before .before .before .before .before .before .before .before .before .before .before .before .before .before .before .before .before .before .before .before .before .before .args .file .now) .moves) (c .before .before .before .before .before .before .before .before .before .before .before .before .before .before .before .before .before .before .before .before .before .before .args .moves .now) _ _ =
-    holds-moves _ _ _ _ _ (c .before .before .before .before .move-body .ensures) (c .before .before .before .before .before .before .before .before .before .before .before .before .before .before .before .count-of2 .ensures .0) (c .before .before .load-moves .ensures) (c .before .before .before .before .before .before .before .before .before .before .before .before .before .before .before .before .before .before .before .before .before .before .pre .1 .move-room) in
-    (own-loaded _ _ _ _ _ _ _ _ _ (c .before .before .before .before .before .before .before .before .before .before .before .before .before .before .before .before .before .head-of .ensures) refl refl refl i e m, (i .is, (e .is, m .is)))
+    let i : HoldsOwn edgeRow (ownOf (c .before .before .before .before .before .before .before .before .before .before .before .before .before .before .before .before .before .before .before .before .before .before .before .before .before .args .file .now) .inner) (c .before .before .before .before .before .before .before .before .before .before .before .before .before .before .before .before .before .before .before .before .before .before .before .before .before .args .inner .now) _ _ =
+    holds-inner _ _ _ _ _ _ _ (c .before .before .before .before .before .before .before .before .before .before .before .before .before .before .before .before .before .before .before .before .head-of .ensures) (c .before .before .before .before .before .before .before .before .before .before .before .before .before .before .before .before .before .edge-body .ensures) (c .before .before .before .before .before .before .before .before .before .before .before .before .before .before .before .before .before .before .before .count-of .ensures .0) (c .before .before .before .before .before .before .before .before .before .before .before .before .before .before .before .load-inner .ensures .0) (c .before .before .before .before .before .before .before .before .before .before .before .before .before .before .before .load-inner .ensures .1 .0) (c .before .before .before .before .before .before .before .before .before .before .before .before .before .before .before .load-inner .ensures .1 .1) (c .before .before .before .before .before .before .before .before .before .before .before .before .before .before .before .before .before .before .before .before .before .before .before .before .before .pre .1 .inner-room) in
+    let e : HoldsOwn entryRow (ownOf (c .before .before .before .before .before .before .before .before .before .before .before .before .before .before .before .before .before .before .before .before .before .before .before .before .before .args .file .now) .entries) (c .before .before .before .before .before .before .before .before .before .before .before .before .before .before .before .before .before .before .before .before .before .before .before .before .before .args .entries .now) _ _ =
+    holds-entries _ _ _ _ _ _ _ (c .before .before .before .before .before .before .before .before .before .before .before .before .before .before .before .before .before .before .before .before .head-of .ensures) (c .before .before .before .before .before .before .before .before .before .before .before .before .edge-body2 .ensures) (c .before .before .before .before .before .before .before .before .before .before .before .before .before .before .before .before .before .before .before .count-of .ensures .0) (c .before .before .before .before .before .before .before .before .before .before .load-entries .ensures .0) (c .before .before .before .before .before .before .before .before .before .before .load-entries .ensures .1) (c .before .before .before .before .before .before .before .before .before .before .before .before .before .before .before .before .before .before .before .before .before .before .before .before .before .pre .1 .entry-room) in
+    let m : HoldsOwn moveRow (ownOf (c .before .before .before .before .before .before .before .before .before .before .before .before .before .before .before .before .before .before .before .before .before .before .before .before .before .args .file .now) .moves) (c .before .before .before .before .before .before .before .before .before .before .before .before .before .before .before .before .before .before .before .before .before .before .before .before .before .args .moves .now) _ _ =
+    holds-moves _ _ _ _ _ (c .before .before .before .before .before .before .before .move-body .ensures) (c .before .before .before .before .before .before .before .before .before .before .before .before .before .before .before .before .before .before .count-of2 .ensures .0) (c .before .before .before .before .before .load-moves .ensures) (c .before .before .before .before .before .before .before .before .before .before .before .before .before .before .before .before .before .before .before .before .before .before .before .before .before .pre .1 .move-room) in
+    (own-loaded _ _ _ _ _ _ _ _ _ (c .before .before .before .before .before .before .before .before .before .before .before .before .before .before .before .before .before .before .before .before .head-of .ensures) refl (own-finals _ _ _ _ (c .before .before .edge-body3 .ensures) (c .before .before .before .before .before .before .before .before .before .before .before .before .before .before .before .before .before .before .before .count-of .ensures .0) (c .before .final-entries .ensures) (c .join .ensures)) refl i e m, (i .is, (e .is, m .is)))
 
 pub load-case-spec : {M : Type 1} → statement M
 load-case-spec =
@@ -84,6 +98,9 @@ load-case-spec =
     load-entries-requires
     move-body-requires
     load-moves-requires
+    edge-body-requires-3
+    final-entries-requires
+    join-requires
     same-length
     same-length-2
     same-length-3

@@ -1,20 +1,25 @@
 -- The loops over the edges and moves of a case, turn by turn.
 -- Assumes nothing.
 use Prim.Native.Nat.{ℕ, suc, _+_, _*_, _-_, _≤_, _<_}
+use mathlib.Core.Bool.{Bool}
 use mathlib.Core.Path.{_≡_, refl, ap, ap₂, sym, _∙_}
 use mathlib.Core.List.{List, [], _∷_, _++_, map, map-append}
 use lib.ListN.{length, drop, length-append, length-map}
-use lib.Dec.{ltb}
-use borrow.Author.Tests.{lt-ltb, le-ltb}
+use lib.Dec.{eqb, ltb}
+use borrow.Author.Tests.{lt-ltb, le-ltb, eq-eqb, ne-eqb}
 use lib.Seq.{drop-drop}
 use native.Mathlib.Nat.{zero-add}
 use native.Mathlib.Omega.{arith}
-use Rattle.words.specs.Lists.{only}
+use Rattle.words.specs.Lists.{only, placesFrom}
+use Rattle.words.specs.Lists.Laws.{only-append, placesFrom-append}
+use Rattle.words.specs.Sets.{single, join, setOf}
+use Rattle.words.specs.Sets.Laws.{join-empty-right}
+use Rattle.words.specs.Sets.Listed.{setOf-append}
 use Rattle.words.specs.Laws.Tests.{by-test}
 use Rattle.words.specs.Order.{insert, sorted}
 use Rattle.automata.specs.Automaton.{Move, Edge, Entry, choiceKey}
 use Rattle.files.specs.Bytes.{records}
-use Rattle.files.specs.Case.{Head, EdgeBytes, edgeBytes, entriesOf, innerEdges, moveOf}
+use Rattle.files.specs.Case.{Head, EdgeBytes, edgeBytes, entriesOf, finalEntries, innerEdges, moveOf}
 use Rattle.files.specs.Bytes.Laws.{length-records}
 use Rattle.bytes_in.specs.Records.{recordAt}
 use Rattle.bytes_in.specs.Records.Laws.{records-split, from-last, from-first, from-cons, map-more}
@@ -72,6 +77,49 @@ entries-within h b n i l e =
     ap (λ (z : List EdgeBytes). length (entriesOf h z)) split
     ∙ simp (entries-append, entry-cons h x ys e, length-append) in
     omega arith
+
+-- ---- final entries
+
+pub final-none : (h : Head) (r : ℕ) → setOf (finalEntries h r []) ≡ 0
+unfolding finalEntries only placesFrom setOf
+final-none h r = refl
+
+final-append : (h : Head) (r : ℕ) (xs ys : List EdgeBytes)
+    → finalEntries h r (xs ++ ys) ≡ finalEntries h r xs ++ finalEntries h (r + length (entriesOf h xs)) ys
+unfolding finalEntries entriesOf
+final-append h r xs ys =
+    let test : EdgeBytes → Bool = λ x. ltb (x .state) (h .P) in
+    let final : EdgeBytes → Bool = λ x. eqb (x .first) 254 in
+    let entry : EdgeBytes → Entry = λ x. record { control = x .state; S = x .S } in
+    ap (placesFrom r final) (only-append test xs ys)
+    ∙ placesFrom-append r final (only test xs) (only test ys)
+    ∙ ap (λ (n : ℕ). placesFrom r final (only test xs) ++ placesFrom (r + n) final (only test ys)) (sym (length-map (only test xs) entry))
+
+pub final-yes : (h : Head) (r : ℕ) (x : EdgeBytes) → x .state < h .P → x .first ≡ 254 → single r ≡ setOf (finalEntries h r (x ∷ []))
+unfolding finalEntries only placesFrom setOf
+final-yes h r x l e = sym (rw (only, lt-ltb _ _ l, placesFrom, eq-eqb _ _ e) (join-empty-right (single r)))
+
+pub final-other : (h : Head) (r : ℕ) (x : EdgeBytes) → (x .first ≡ 254 → ⊥) → 0 ≡ setOf (finalEntries h r (x ∷ []))
+unfolding finalEntries only placesFrom setOf
+final-other h r x n = by-test (ltb (x .state) (h .P))
+    (λ t. rw (only, t, placesFrom, ne-eqb _ _ n))
+    (λ t. rw (only, t))
+
+pub final-inner : (h : Head) (r : ℕ) (x : EdgeBytes) → h .P ≤ x .state → 0 ≡ setOf (finalEntries h r (x ∷ []))
+unfolding finalEntries only placesFrom setOf
+final-inner h r x l = rw (only, le-ltb _ _ l)
+
+-- one edge more
+pub final-more : (h : Head) (b : List ℕ) (j i r : ℕ) (x : EdgeBytes) {s one more : ℕ} → s ≡ setOf (finalEntries h j (map edgeBytes (records i 4 b)))
+    → r ≡ j + length (entriesOf h (map edgeBytes (records i 4 b))) → x ≡ edgeBytes (recordAt 4 i b) → one ≡ setOf (finalEntries h r (x ∷ []))
+    → more ≡ join s one → more ≡ setOf (finalEntries h j (map edgeBytes (records (i + 1) 4 b)))
+final-more h b j i r x e f g k m =
+    let xs : List EdgeBytes = map edgeBytes (records i 4 b) in
+    m
+    ∙ ap₂ join e (k ∙ ap₂ (λ (n : ℕ) (y : EdgeBytes). setOf (finalEntries h n (y ∷ []))) f g)
+    ∙ sym (setOf-append (finalEntries h j xs) (finalEntries h (j + length (entriesOf h xs)) (edgeBytes (recordAt 4 i b) ∷ [])))
+    ∙ ap setOf (sym (final-append h j xs (edgeBytes (recordAt 4 i b) ∷ [])))
+    ∙ ap (λ (ys : List EdgeBytes). setOf (finalEntries h j ys)) (sym (map-more edgeBytes 4 b i))
 
 -- ---- turns of the loops
 

@@ -1,13 +1,14 @@
 -- What the three loops write is the case's own automaton.
 -- Assumes nothing.
-use Prim.Native.Nat.{ℕ, _*_, _≤_}
+use Prim.Native.Nat.{ℕ, _+_, _*_, _≤_}
 use mathlib.Core.Path.{_≡_, ap, ap₂, sym, _∙_}
 use mathlib.Core.List.{List, map}
 use lib.ListN.{length, length-map}
 use native.Mathlib.Omega.{arith}
+use Rattle.words.specs.Sets.{join, setOf}
 use Rattle.files.specs.Bytes.{countOf, records, recordsOf}
 use Rattle.files.specs.Bytes.Laws.{length-recordsOf}
-use Rattle.files.specs.Case.{Head, head, edgeBytes, edgeRecords, entriesOf, innerEdges, moveOf, moveRecords, ownOf}
+use Rattle.files.specs.Case.{Head, head, EdgeBytes, edgeBytes, edgeRecords, entriesOf, finalEntries, innerEdges, moveOf, moveRecords, ownOf}
 use Rattle.tables.specs.declared.Table.{Table}
 use Rattle.tables.specs.Rows.{Layout, rowsIn}
 use Rattle.tables.specs.Layouts.{edgeRow, entryRow, moveRow}
@@ -39,6 +40,21 @@ pub own-moves : (file body : List ℕ) (n : ℕ) → body ≡ bodyOf file 3 19 �
 unfolding ownOf moveRecords
 own-moves file body n e f = ap (map moveOf) (records-here file 3 19 body n e f)
 
+-- the final states of order 1
+pub own-finals : (file body : List ℕ) (n : ℕ) (h : Head) {s f : ℕ} → body ≡ bodyOf file 2 4 → n ≡ countOf file 2
+    → s ≡ setOf (finalEntries h (h .J) (map edgeBytes (records n 4 body))) → f ≡ join (h .final1) s
+    → f ≡ join (h .final1) (setOf (finalEntries h (h .J) (edgeRecords file)))
+own-finals file body n h e f s j =
+    j ∙ ap (join (h .final1)) (s ∙ ap (λ (xs : List EdgeBytes). setOf (finalEntries h (h .J) xs)) (edges-here file body n e f))
+
+-- and that a word holds them
+pub own-few : (file body : List ℕ) (n : ℕ) (h : Head) → h ≡ head file → body ≡ bodyOf file 2 4 → n ≡ countOf file 2
+    → ownOf file .J + length (ownOf file .entries) ≤ 64 → h .J + length (entriesOf h (map edgeBytes (records n 4 body))) ≤ 64
+unfolding ownOf
+own-few file body n h g e f l =
+    let j : h .J ≡ head file .J = ap (λ (x : Head). x .J) g in
+    rw (own-entries file body n h g e f, j) l
+
 holds-rows : {A : Type 0} (L : Layout A) (l : List A) (t₀ t : List ℕ) (n : ℕ) → HoldsOwn L l t₀ t n → rowsIn L n t ≡ l
 holds-rows L l t₀ t n h =
     let e : n * L .width ≡ length l * L .width = ap (λ (k : ℕ). k * L .width) (h .count) in
@@ -46,7 +62,7 @@ holds-rows L l t₀ t n h =
     ap₂ (rowsIn L) (h .count) (h .is) ∙ rows-written L t₀ l (omega arith)
 
 pub own-loaded : (file : List ℕ) (z : Table) (i₀ i e₀ e m₀ m : List ℕ) (h : Head) → h ≡ head file
-    → z .inner1 ≡ h .J → z .final1 ≡ h .final1 → z .final2 ≡ h .final2
+    → z .inner1 ≡ h .J → z .final1 ≡ join (h .final1) (setOf (finalEntries h (h .J) (edgeRecords file))) → z .final2 ≡ h .final2
     → HoldsOwn edgeRow (ownOf file .inner) i₀ i (z .edges)
     → HoldsOwn entryRow (ownOf file .entries) e₀ e (z .entries)
     → HoldsOwn moveRow (ownOf file .moves) m₀ m (z .moves)
@@ -54,7 +70,8 @@ pub own-loaded : (file : List ℕ) (z : Table) (i₀ i e₀ e m₀ m : List ℕ)
 unfolding ownOf
 own-loaded file z i₀ i e₀ e m₀ m h g j f₁ f₂ hi he hm =
     let j′ : z .inner1 ≡ head file .J = j ∙ ap (λ (x : Head). x .J) g in
-    let f₁′ : z .final1 ≡ head file .final1 = f₁ ∙ ap (λ (x : Head). x .final1) g in
+    let f₁′ : z .final1 ≡ join (head file .final1) (setOf (finalEntries (head file) (head file .J) (edgeRecords file))) =
+    f₁ ∙ ap (λ (x : Head). join (x .final1) (setOf (finalEntries x (x .J) (edgeRecords file)))) g in
     let f₂′ : z .final2 ≡ head file .final2 = f₂ ∙ ap (λ (x : Head). x .final2) g in
     let ri : rowsIn edgeRow (z .edges) i ≡ ownOf file .inner = holds-rows edgeRow (ownOf file .inner) i₀ i (z .edges) hi in
     let re : rowsIn entryRow (z .entries) e ≡ ownOf file .entries = holds-rows entryRow (ownOf file .entries) e₀ e (z .entries) he in

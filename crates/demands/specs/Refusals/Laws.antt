@@ -1,28 +1,32 @@
 -- The first number of the papers' table that applies: there is only one, and the tests of the files find it.
 -- Assumes nothing.
-use Prim.Native.Nat.{ℕ, zero, suc, _+_, _<_}
+use Prim.Native.Nat.{ℕ, zero, suc, _+_, _<_, suc-le-suc}
 use mathlib.Core.Bool.{Bool, true, false, not, _&&_, false≢true}
-use mathlib.Core.Path.{_≡_, refl, sym, _∙_, subst}
+use mathlib.Core.Path.{_≡_, refl, ap, ap₂, sym, _∙_, subst}
 use mathlib.Core.Logic.{_↔_, _⊎_, inl, inr, ⊎-elim}
 use mathlib.Core.List.{List, [], _∷_, _++_, map, List·Memᴰ, List·Memᴰ·head, List·Memᴰ·tail}
 use native.Mathlib.Nat.{zero-add}
 use native.Mathlib.Omega.{arith}
 use lib.ListN.{length, getD}
-use lib.Dec.{eqb, leb}
+use lib.Dec.{eqb, ltb, leb}
 use borrow.Author.Tests.{eqb-false, leb-false, lt-leb}
 use borrow.Author.Tests as tests
-use Rattle.words.specs.Lists.{every}
+use Rattle.words.specs.Lists.{only, every}
 use Rattle.words.specs.Lists.Laws.{every-in}
 use Rattle.words.specs.Laws.Tests.{by-test, and-left, and-right}
-use Rattle.words.specs.Order.{rising}
+use Rattle.words.specs.Order.{less, risingFrom, rising}
+use Rattle.words.specs.Order.Laws.{less-lt, less-eq, less-cons, less-one, risingFrom-parts, rising-only}
+use Rattle.words.specs.Order.Rising.{rising-once}
+use Rattle.automata.specs.Automaton.{Entry, noEntry, entryKey}
+use Rattle.automata.specs.Automaton.Laws.{entryKey-eq}
 use Rattle.files.specs.Bytes.{Test, firstHit, testsOn, placed}
 use Rattle.files.specs.Bytes.Laws.{numbered, numbered-cons, numbered-testsOn, unrefused, firstHit-fails, firstHit-passes, firstHit-testsOn}
-use Rattle.files.specs.Case.{caseBodies, head, headRight, ruleRight, ruleRecords, edgeRight, edgeKey, edgeRecords, moveRight, moveKey, moveRecords, states1}
-use Rattle.files.specs.Case.{recordsRight, caseTests, caseRefusal}
+use Rattle.files.specs.Case.{caseBodies, head, headRight, ruleRight, ruleRecords, EdgeBytes, edgeRight, edgeKey, edgeRecords, entriesOf, moveRight, moveKey, moveRecords, states1}
+use Rattle.files.specs.Case.{recordsRight, increasing, caseTests, caseRefusal}
 use Rattle.files.specs.Start.{Files, startBodies, startsOf, startRight, CellBytes, cellRecords, cellRight, cellsRight, startFileRight, startTests, startRefusal}
 use Rattle.services.specs.Saturate.Laws.{case-numbered}
 use Rattle.services.specs.Judge.Laws.{start-numbered}
-use Rattle.demands.specs.Refusals.{Refusal, Returned, SomeFails, BoundBroken, CellWrong, StartOrCellWrong, caseRefusals, startRefusals}
+use Rattle.demands.specs.Refusals.{Refusal, Returned, SomeFails, BoundBroken, SecondEntry, NotIncreasing, CellWrong, StartOrCellWrong, caseRefusals, startRefusals}
 
 -- ---- the first number that applies
 
@@ -222,6 +226,76 @@ start-wrong f =
       λ e. q (⊎-elim (λ h. inl (some-fails _ _ h)) (λ h. inr (d h)) e),
     )
 
+-- ---- 4: edges, entries and moves that do not increase
+
+-- A list that rises by a key, but whose images do not rise by another key that never falls along it, has two neighbours of equal other key.
+module _ {A B : Type 0} (key : A → List ℕ) (other : B → List ℕ) (f : A → B)
+    (along : (x y : A) → less (key x) (key y) ≡ true → (less (other (f x)) (other (f y)) ≡ true) ⊎ (other (f x) ≡ other (f y))) (d : B) where
+  repeats-from : (x : A) (l : List A) → risingFrom key x l ≡ true → risingFrom other (f x) (map f l) ≡ false
+      → (i : ℕ) × (i < length (map f l)) × (other (getD (f x ∷ map f l) i d) ≡ other (getD (map f l) i d))
+  unfolding risingFrom
+  repeats-from x [] r e = absurd (false≢true (sym e))
+  repeats-from x (y ∷ l) r e =
+      let (h, t) = risingFrom-parts key x y l r in
+      by-test (less (other (f x)) (other (f y)))
+      (λ z. let (i, b, q) = repeats-from y l t (rw (risingFrom, z) at e) in (suc i, suc-le-suc b, q))
+      (λ z. ⊎-elim (λ k. absurd (false≢true (sym z ∙ k))) (λ k. (0, omega arith, k)) (along x y h))
+
+  repeats : (l : List A) → rising key l ≡ true → rising other (map f l) ≡ false
+      → (i : ℕ) × (suc i < length (map f l)) × (other (getD (map f l) i d) ≡ other (getD (map f l) (suc i) d))
+  unfolding rising
+  repeats [] r e = absurd (false≢true (sym e))
+  repeats (x ∷ l) r e = let (i, b, q) = repeats-from x l r e in (i, suc-le-suc b, q)
+
+-- along edges that increase, (state, S) never falls
+edge-along : (x y : EdgeBytes) → less (edgeKey x) (edgeKey y) ≡ true
+    → (less (x .state ∷ x .S ∷ []) (y .state ∷ y .S ∷ []) ≡ true) ⊎ (x .state ∷ x .S ∷ [] ≡ y .state ∷ y .S ∷ [])
+unfolding edgeKey
+edge-along x y h =
+    ⊎-elim
+    (λ l. inl (less-lt (x .state) (y .state) _ _ l))
+    (λ p. ⊎-elim
+    (λ l. inl (less-eq (x .state) (y .state) _ _ (p .0) ∙ less-one (x .S) (y .S) l))
+    (λ q. inr (ap₂ (λ (m n : ℕ). m ∷ n ∷ []) (p .0) (q .0)))
+    (less-cons (x .S) (y .S) _ _ (p .1)))
+    (less-cons (x .state) (y .state) _ _ h)
+
+-- where edges increase and entries do not, there is a second entry for the same state and S
+second-entry : (case : List ℕ) → rising edgeKey (edgeRecords case) ≡ true → rising entryKey (entriesOf (head case) (edgeRecords case)) ≡ false
+    → SecondEntry case
+unfolding entriesOf entryKey
+second-entry case r e =
+    let test : EdgeBytes → Bool = λ x. ltb (x .state) (head case .P) in
+    let entry : EdgeBytes → Entry = λ x. record { control = x .state; S = x .S } in
+    let (i, b, q) = repeats edgeKey entryKey entry edge-along noEntry (only test (edgeRecords case)) (rising-only edgeKey test (edgeRecords case) r) e in
+    record { one = i; other = suc i; after = omega arith; there = b; same = entryKey-eq _ _ q }
+
+-- where there is one, entries do not increase
+entry-twice : (case : List ℕ) → SecondEntry case → rising entryKey (entriesOf (head case) (edgeRecords case)) ≡ false
+entry-twice case s =
+    let es : List Entry = entriesOf (head case) (edgeRecords case) in
+    by-test (rising entryKey es)
+    (λ t.
+    let l : s .one < s .other = s .after in
+    let b : s .other < length es = s .there in
+    let z : s .one ≡ s .other = rising-once entryKey es noEntry (s .one) (s .other) t (omega arith) b (ap entryKey (s .same)) in
+    absurd (omega arith))
+    (λ t. t)
+
+not-increasing : (case : List ℕ) → (increasing case ≡ false) ↔ NotIncreasing case
+unfolding increasing
+not-increasing case =
+    let edges : Bool = rising edgeKey (edgeRecords case) in
+    let entries : Bool = rising entryKey (entriesOf (head case) (edgeRecords case)) in
+    let moves : Bool = rising moveKey (moveRecords case) in
+    let (p, q) = and-fails (edges && entries) moves in
+    let (f, g) = and-fails edges entries in (
+      λ e. by-test edges
+          (λ r. ⊎-elim (λ h. ⊎-elim (λ a. inl a) (λ a. inr (inr (second-entry case r a))) (f h)) (λ h. inr (inl h)) (p e))
+          (λ r. inl r),
+      λ e. q (⊎-elim (λ h. inl (g (inl h))) (λ y. ⊎-elim (λ h. inr h) (λ h. inl (g (inr (entry-twice case h)))) y) e),
+    )
+
 -- ---- the tests of the files
 
 -- one equivalence after another
@@ -232,9 +306,7 @@ module _ {X : Type 0} (x : X) where
   case-agrees : (part : X → List ℕ) → Agree (testsOn part caseTests) (caseRefusals part) x
   unfolding Agree testsOn caseTests
   case-agrees part =
-      let edges : Bool = rising edgeKey (edgeRecords (part x)) in
-      let moves : Bool = rising moveKey (moveRecords (part x)) in
-      let rise = both (not-true (edges && moves)) (and-fails edges moves) in
+      let rise = both (not-true (increasing (part x))) (not-increasing (part x)) in
       let bounds = both (not-true (recordsRight (part x))) (bound-broken (part x)) in
       (refl, not-true (placed caseBodies (part x)), λ e. (refl, not-true (headRight (head (part x))), λ f. (refl, bounds, λ g. (refl, rise, λ h. tt))))
 

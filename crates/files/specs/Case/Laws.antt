@@ -1,28 +1,30 @@
 -- What a case file without a refusal gives: the bounds of its head, rules, edges and moves, the facts and bounds of its rules and own
 -- automaton, and the widths of its numbers where the file is of bytes.
 -- Assumes nothing.
-use Prim.Native.Nat.{ℕ, zero, suc, _+_, _*_, _<_, _≤_}
+use Prim.Native.Nat.{ℕ, zero, suc, _+_, _-_, _*_, _<_, _≤_}
 use mathlib.Core.Bool.{Bool, true, _&&_}
-use mathlib.Core.Path.{_≡_, refl, ap, subst}
-use mathlib.Core.List.{List, List·Memᴰ, List·Memᴰ·head, List·Memᴰ·tail, Memᴰ·of-map}
+use mathlib.Core.Path.{_≡_, refl, ap, _∙_, subst}
+use mathlib.Core.Logic.{⊎-elim}
+use mathlib.Core.List.{List, map, List·Memᴰ, List·Memᴰ·head, List·Memᴰ·tail, Memᴰ·of-map}
 use native.Mathlib.Nat.{le-trans}
 use native.Mathlib.Omega.{arith}
 use lib.ListN.{length, getD, length-map}
-use lib.Dec.{leb}
-use borrow.Author.Tests.{leb-true, not-false}
+use lib.Dec.{eqb, ltb, leb}
+use borrow.Author.Tests.{eqb-true, eq-eqb, ltb-true, ltb-false, leb-true, not-false}
 use Rattle.words.specs.Lists.{every}
-use Rattle.words.specs.Lists.Laws.{every-in}
-use Rattle.words.specs.Laws.Tests.{and-left, and-right}
-use Rattle.words.specs.Sets.Laws.{All, all-empty}
+use Rattle.words.specs.Lists.Laws.{every-in, placesFrom-in, placesFrom-out}
+use Rattle.words.specs.Laws.Tests.{by-test, and-left, and-right}
+use Rattle.words.specs.Sets.Laws.{Has, All, all-empty, has-join-right, join-cases}
+use Rattle.words.specs.Sets.Listed.{in-setOf, setOf-in}
 use Rattle.words.specs.Order.{rising}
 use Rattle.stacks.specs.System.{Rule}
-use Rattle.automata.specs.Automaton.{Move, Edge, noMove, noEntry, entryKey, moveAt}
+use Rattle.automata.specs.Automaton.{Move, Edge, Entry, noMove, noEntry, entryKey, moveAt}
 use Rattle.automata.specs.Facts.{RuleFacts, InnerFacts, TableFacts, OwnFacts, RuleBounded, Bounded, ofOrder, states}
 use Rattle.files.specs.Bytes.{placed, countOf, offsetOf, recordsOf}
 use Rattle.files.specs.Bytes.Laws.{numbered, unrefused, bodies-first, bodies-end, placed-first, placed-bodies, length-recordsOf}
-use Rattle.files.specs.Case.{caseBodies, head, headRight, RuleBytes, ruleRight, ruleOf, ruleRecords, EdgeBytes, edgeBytes, edgeRight, edgeKey, edgeRecords, entriesOf, innerEdges, moveOf, moveRight, moveKey, moveRecords, states1, recordsRight, caseTests, caseRefusal, ownOf, rulesOf}
+use Rattle.files.specs.Case.{caseBodies, head, headRight, RuleBytes, ruleRight, ruleOf, ruleRecords, EdgeBytes, edgeBytes, edgeRight, edgeKey, edgeRecords, entryRecords, entriesOf, finalEntries, innerEdges, moveOf, moveRight, moveKey, moveRecords, states1, recordsRight, increasing, caseTests, caseRefusal, ownOf, rulesOf}
 use Rattle.files.specs.Case.Records.{HeadBounds, head-bounds, RuleBounds, rule-bounds, EdgeBounds, edge-bounds, AnnotationBounds, MoveBounds, move-bounds}
-use Rattle.files.specs.Case.Records.{entries-out, entries-rising, inner-out, inner-edges-rising}
+use Rattle.files.specs.Case.Records.{entries-out, inner-out, inner-edges-rising}
 use Rattle.words.specs.Order.Rising.{rising-once}
 
 -- ---- the places of the bodies
@@ -83,6 +85,16 @@ records-bounds file e =
       move = λ {m} j. move-bounds (head file) (states1 file) m (every-in (moveRight (head file) (states1 file)) (and-right c _ e) j);
     }
 
+-- ---- entries as they are written
+
+-- no edge
+abbrev pub noEdgeBytes : EdgeBytes
+noEdgeBytes = record { state = 0; first = 0; S = 0 }
+
+-- the file's entries as they are written
+abbrev pub entriesWritten : List ℕ → List EdgeBytes
+entriesWritten file = entryRecords (head file) (edgeRecords file)
+
 -- ---- a case without a refusal
 
 module _ (file : List ℕ) (sound : caseRefusal file ≡ 0) where
@@ -99,16 +111,24 @@ module _ (file : List ℕ) (sound : caseRefusal file ≡ 0) where
   case-bounds = records-bounds file
       (not-false (recordsRight file) (unrefused file refl sound (List·Memᴰ·tail (List·Memᴰ·tail (List·Memᴰ·head refl)))))
 
-  case-order : rising edgeKey (edgeRecords file) && rising moveKey (moveRecords file) ≡ true
+  case-increasing : increasing file ≡ true
   unfolding caseRefusal caseTests numbered every
-  case-order = not-false (rising edgeKey (edgeRecords file) && rising moveKey (moveRecords file))
+  case-increasing = not-false (increasing file)
       (unrefused file refl sound (List·Memᴰ·tail (List·Memᴰ·tail (List·Memᴰ·tail (List·Memᴰ·head refl)))))
 
+  edges-increasing : rising edgeKey (edgeRecords file) && rising entryKey (entriesOf (head file) (edgeRecords file)) ≡ true
+  unfolding increasing
+  edges-increasing = and-left (rising edgeKey (edgeRecords file) && rising entryKey (entriesOf (head file) (edgeRecords file))) _ case-increasing
+
   pub case-edges-rising : rising edgeKey (edgeRecords file) ≡ true
-  case-edges-rising = and-left (rising edgeKey (edgeRecords file)) _ case-order
+  case-edges-rising = and-left (rising edgeKey (edgeRecords file)) _ edges-increasing
+
+  pub case-entries-rising : rising entryKey (entriesOf (head file) (edgeRecords file)) ≡ true
+  case-entries-rising = and-right (rising edgeKey (edgeRecords file)) _ edges-increasing
 
   pub case-moves-rising : rising moveKey (moveRecords file) ≡ true
-  case-moves-rising = and-right (rising edgeKey (edgeRecords file)) _ case-order
+  unfolding increasing
+  case-moves-rising = and-right (rising edgeKey (edgeRecords file) && rising entryKey (entriesOf (head file) (edgeRecords file))) _ case-increasing
 
   -- ---- sizes
 
@@ -124,7 +144,7 @@ module _ (file : List ℕ) (sound : caseRefusal file ≡ 0) where
   unfolding ownOf states1
   case-states-few = case-bounds .states-few
 
-  -- ---- facts of the rules and the own automaton
+  -- ---- facts of the rules and the inner edges
 
   pub case-rules : {ρ : Rule} → List·Memᴰ ρ (rulesOf file) → RuleFacts (head file .P) ρ
   unfolding rulesOf ruleOf
@@ -146,17 +166,44 @@ module _ (file : List ℕ) (sound : caseRefusal file ≡ 0) where
         set-inner = λ q i. b .set-inner q i .0;
       })
 
+  -- ---- final entries
+
+  -- an entry is final only if it is written with 254
+  pub final-written : (e : ℕ) → Has (ownOf file .final1) (ownOf file .J + e) → (e < length (entriesWritten file)) × (getD (entriesWritten file) e noEdgeBytes .first ≡ 254)
+  unfolding ownOf finalEntries
+  final-written e h =
+      ⊎-elim
+      (λ k. let l : head file .J + e < head file .J = case-head .final1-inner (head file .J + e) k in absurd (omega arith))
+      (λ k.
+      let (i, q, b, t) = placesFrom-out (head file .J) _ (entriesWritten file) (setOf-in _ k) in
+      let z : e ≡ i = omega arith in
+      (omega arith, ap (λ (n : ℕ). getD (entriesWritten file) n noEdgeBytes .first) z ∙ eqb-true _ 254 (t noEdgeBytes)))
+      (join-cases (head file .final1) _ h)
+
+  -- the final order-1 states exist
+  case-finals : All (ownOf file .final1) (λ r. r < states (ownOf file))
+  unfolding ownOf entriesOf
+  case-finals r h = by-test (ltb r (head file .J))
+      (λ t. let l : r < head file .J = ltb-true r (head file .J) t in omega arith)
+      (λ t.
+      let l : head file .J ≤ r = ltb-false r (head file .J) t in
+      let z : r ≡ head file .J + (r - head file .J) = omega arith in
+      let (b, _) = final-written (r - head file .J) (subst (Has (ownOf file .final1)) z h) in
+      let entry : EdgeBytes → Entry = λ x. record { control = x .state; S = x .S } in
+      let n : length (map entry (entriesWritten file)) ≡ length (entriesWritten file) = length-map (entriesWritten file) entry in
+      omega arith)
+
+  -- ---- facts of the own automaton
+
   pub case-table : TableFacts (head file .P) (ownOf file)
   unfolding ownOf states1
   case-table =
       record {
-        final1-inner = case-head .final1-inner;
-        final2-inner = λ q i. case-head .final2-inner q i .0;
+        final1-exists = case-finals;
         inner-facts = λ e j. case-inner j;
         inner-rising = inner-edges-rising (head file) (edgeRecords file);
         entry-control = λ e j. let r = entries-out (head file) (edgeRecords file) j in rw (r .3) (r .2);
-        entry-once = λ i j hi hj e. rising-once entryKey (entriesOf (head file) (edgeRecords file)) noEntry i j
-            (entries-rising (head file) (edgeRecords file) (λ x k. case-bounds .edge k) case-edges-rising) hi hj e;
+        entry-once = λ i j hi hj e. rising-once entryKey (entriesOf (head file) (edgeRecords file)) noEntry i j case-entries-rising hi hj e;
         move-facts = λ m j.
             let b = case-bounds .move j in
             record {
@@ -219,3 +266,13 @@ module _ (file : List ℕ) (sound : caseRefusal file ≡ 0) where
               rest-below = λ r i. le-trans (b .rest-inner r i) h;
             };
       }
+
+-- ---- final entries, the other way
+
+-- an entry that is written with 254 is final
+pub written-final : (file : List ℕ) (e : ℕ) → e < length (entriesWritten file) → getD (entriesWritten file) e noEdgeBytes .first ≡ 254
+    → Has (ownOf file .final1) (ownOf file .J + e)
+unfolding ownOf finalEntries
+written-final file e l h =
+    has-join-right (head file .final1)
+    (in-setOf (placesFrom-in (head file .J) (λ x. eqb (x .first) 254) (entriesWritten file) noEdgeBytes e l (eq-eqb _ 254 h)))

@@ -1,9 +1,9 @@
 -- What the tests of a case's head, rules, edges and moves say, one record at a time, and the order of entries and inner edges.
 -- Assumes nothing.
 use Prim.Native.Nat.{ℕ, zero, suc, _+_, _<_, _≤_}
-use mathlib.Core.Bool.{Bool, true, false, not, _&&_, false≢true}
-use mathlib.Core.Path.{_≡_, refl, ap, sym, _∙_}
-use mathlib.Core.Logic.{⊎-elim}
+use mathlib.Core.Bool.{Bool, true, false, not, _&&_, _||_, false≢true}
+use mathlib.Core.Path.{_≡_, refl, ap, sym}
+use mathlib.Core.Logic.{_⊎_, ⊎-map}
 use mathlib.Core.List.{List, [], _∷_, map, List·Memᴰ, Memᴰ·of-map}
 use native.Mathlib.Omega.{arith}
 use lib.Dec.{eqb, ltb, leb}
@@ -11,12 +11,11 @@ use borrow.Author.Tests.{eqb-true, eqb-false, ltb-true, ltb-false, leb-true, lt-
 use Rattle.words.specs.Sets.Laws.{All, has-in}
 use Rattle.words.specs.Lists.{only}
 use Rattle.words.specs.Lists.Laws.{every-in, only-out}
-use Rattle.words.specs.Laws.Tests.{and-left, and-right}
-use Rattle.words.specs.Order.{less, rising}
-use Rattle.words.specs.Order.Laws.{less-cons, less-lt, less-eq, one-less, rising-only, rising-map, sorted-rising, sorted-out}
-use Rattle.automata.specs.Automaton.{Move, Edge, Entry, choiceKey, entryKey}
-use Rattle.files.specs.Case.{Head, inner1, inner2, headRight, RuleBytes, ruleRight, EdgeBytes, edgeRight, edgeKey, entriesOf, innerEdges, annotationRight, moveRight}
-use Rattle.words.specs.Order.Rising.{rising-other}
+use Rattle.words.specs.Laws.Tests.{and-left, and-right, or-cases}
+use Rattle.words.specs.Order.{rising}
+use Rattle.words.specs.Order.Laws.{sorted-rising, sorted-out}
+use Rattle.automata.specs.Automaton.{Move, Edge, Entry, choiceKey}
+use Rattle.files.specs.Case.{Head, inner1, inner2, existing2, headRight, RuleBytes, ruleRight, EdgeBytes, edgeRight, entriesOf, innerEdges, annotationRight, moveRight}
 
 -- ---- sets of inner states
 
@@ -38,6 +37,10 @@ inner2-all h s e q i =
     let f = every-in (λ q. leb (h .P) q && ltb q (h .P + h .I)) e (has-in i) in
     (leb-true (h .P) q (and-left (leb (h .P) q) _ f), ltb-true q (h .P + h .I) (and-right (leb (h .P) q) _ f))
 
+pub existing2-all : (h : Head) (s : ℕ) → existing2 h s ≡ true → All s (λ q. q < h .P + h .I)
+unfolding existing2
+existing2-all h s e q i = ltb-true q (h .P + h .I) (every-in (λ q. ltb q (h .P + h .I)) e (has-in i))
+
 -- ---- body 1
 
 pub record HeadBounds (h : Head) : Type 0 where
@@ -47,7 +50,7 @@ pub record HeadBounds (h : Head) : Type 0 where
   pub inner1-few : h .J ≤ 16
   pub symbols-some : 1 ≤ h .A
   pub symbols-few : h .A ≤ 32
-  pub final2-inner : All (h .final2) (Inner2 h)
+  pub final2-exists : All (h .final2) (λ q. q < h .P + h .I)
   pub final1-inner : All (h .final1) (Inner1 h)
 
 pub head-bounds : (h : Head) → headRight h ≡ true → HeadBounds h
@@ -59,7 +62,7 @@ head-bounds h e =
     let d : Bool = c && leb (h .J) 16 in
     let f : Bool = d && leb 1 (h .A) in
     let g : Bool = f && leb (h .A) 32 in
-    let i : Bool = g && inner2 h (h .final2) in
+    let i : Bool = g && existing2 h (h .final2) in
     let ei = and-left i _ e in
     let eg = and-left g _ ei in
     let ef = and-left f _ eg in
@@ -73,7 +76,7 @@ head-bounds h e =
       inner1-few = leb-true (h .J) 16 (and-right c _ ed);
       symbols-some = leb-true 1 (h .A) (and-right d _ ef);
       symbols-few = leb-true (h .A) 32 (and-right f _ eg);
-      final2-inner = inner2-all h (h .final2) (and-right g _ ei);
+      final2-exists = existing2-all h (h .final2) (and-right g _ ei);
       final1-inner = inner1-all h (h .final1) (and-right i _ e);
     }
 
@@ -114,7 +117,7 @@ rule-bounds h x e =
 -- ---- an edge
 
 pub record EdgeBounds (h : Head) (x : EdgeBytes) : Type 0 where
-  pub entry-second : x .state < h .P → x .first ≡ 255
+  pub entry-second : x .state < h .P → (x .first ≡ 254) ⊎ (x .first ≡ 255)
   pub inner-second : h .P ≤ x .state → Inner1 h (x .first)
   pub state-exists : x .state < h .P + h .I
   pub set-inner : All (x .S) (Inner2 h)
@@ -122,12 +125,13 @@ pub record EdgeBounds (h : Head) (x : EdgeBytes) : Type 0 where
 pub edge-bounds : (h : Head) (x : EdgeBytes) → edgeRight h x ≡ true → EdgeBounds h x
 unfolding edgeRight
 edge-bounds h x e =
-    let a : Bool = elim (ltb (x .state) (h .P)) [ true ↦ eqb (x .first) 255 | false ↦ ltb (x .first) (h .J) ] in
+    let a : Bool = elim (ltb (x .state) (h .P)) [ true ↦ eqb (x .first) 254 || eqb (x .first) 255 | false ↦ ltb (x .first) (h .J) ] in
     let b : Bool = a && ltb (x .state) (h .P + h .I) in
     let eb = and-left b _ e in
     let ea = and-left a _ eb in
     record {
-      entry-second = λ l. eqb-true (x .first) 255 (rw (lt-ltb (x .state) (h .P) l) at ea);
+      entry-second = λ l. ⊎-map (eqb-true (x .first) 254) (eqb-true (x .first) 255)
+          (or-cases (eqb (x .first) 254) (eqb (x .first) 255) (rw (lt-ltb (x .state) (h .P) l) at ea));
       inner-second = λ l. ltb-true (x .first) (h .J) (rw (le-ltb (x .state) (h .P) l) at ea);
       state-exists = ltb-true (x .state) (h .P + h .I) (and-right a _ eb);
       set-inner = inner2-all h (x .S) (and-right b _ e);
@@ -219,28 +223,3 @@ unfolding innerEdges
 inner-edges-rising h xs =
     sorted-rising choiceKey
     (map (λ (x : EdgeBytes). record { state = x .state; first = x .first; S = x .S }) (only (λ x. not (ltb (x .state) (h .P))) xs))
-
--- Of two edges with one second byte the first has the lesser (state, S).
-pub less-entry : (x y : EdgeBytes) → x .first ≡ y .first → less (edgeKey x) (edgeKey y) ≡ true
-    → less (x .state ∷ x .S ∷ []) (y .state ∷ y .S ∷ []) ≡ true
-unfolding edgeKey
-less-entry x y e h =
-    let below : less (x .S ∷ x .first ∷ []) (y .S ∷ y .first ∷ []) ≡ true → less (x .S ∷ []) (y .S ∷ []) ≡ true = λ k.
-    ⊎-elim (λ l. less-lt (x .S) (y .S) [] [] l)
-    (λ q. let l : x .first < y .first = one-less (x .first) (y .first) (q .1) in absurd (omega arith))
-    (less-cons (x .S) (y .S) (x .first ∷ []) (y .first ∷ []) k) in
-    ⊎-elim (λ l. less-lt (x .state) (y .state) (x .S ∷ []) (y .S ∷ []) l)
-    (λ q. less-eq (x .state) (y .state) (x .S ∷ []) (y .S ∷ []) (q .0) ∙ below (q .1))
-    (less-cons (x .state) (y .state) (x .S ∷ x .first ∷ []) (y .S ∷ y .first ∷ []) h)
-
--- (p, S) rises along the entries of a file, since their second bytes are one
-pub entries-rising : (h : Head) (xs : List EdgeBytes) → ((x : EdgeBytes) → List·Memᴰ x xs → EdgeBounds h x) → rising edgeKey xs ≡ true
-    → rising entryKey (entriesOf h xs) ≡ true
-unfolding entriesOf entryKey
-entries-rising h xs f r =
-    let test : EdgeBytes → Bool = λ x. ltb (x .state) (h .P) in
-    let second : (x : EdgeBytes) → List·Memᴰ x (only test xs) → x .first ≡ 255 = λ x j.
-    let o = only-out test xs j in f x (o .0) .entry-second (ltb-true (x .state) (h .P) (o .1)) in
-    rising-map entryKey (λ (x : EdgeBytes). record { control = x .state; S = x .S }) (only test xs)
-    ∙ rising-other edgeKey (λ x. x .state ∷ x .S ∷ []) (only test xs)
-    (λ x y i j l. less-entry x y (second x i ∙ sym (second y j)) l) (rising-only edgeKey test xs r)

@@ -1,6 +1,6 @@
 -- `guided_step::next_step` meets its contract.
 -- Assumes nothing.
-use Rattle.guided_step.specs.Step.Laws.{next-stuck, next-to}
+use Rattle.guided_step.specs.Step.Laws.{next-empty, next-to}
 use borrow.Author.Needs.{needs}
 use Rattle.guided_step.proofs.next_step.Statement.{statement}
 use Rattle.guided_step.proofs.next_step.Tie as tie
@@ -18,7 +18,7 @@ step-of-requires : tie.Need-step-of-requires
 step-of-requires c κs = search needs
 
 returns : tie.Need-returns
-returns c = next-stuck _ (c .before .before .before .before .before .before .before .before .before .before .before .args .z) _ _ _ _ _ (c .before .before .before .before .before .before .before .before .before .before .before .args .w) _ (c .before .before .top-of .ensures) (c .enum-told .given .1)
+returns c = next-empty _ (c .before .before .before .before .before .before .before .before .before .before .before .args .z) _ _ _ _ _ (c .before .before .before .before .before .before .before .before .before .before .before .args .w) _ (c .before .before .top-of .ensures) (c .enum-told .given .1)
 
 same-length : tie.Need-same-length
 same-length c = search needs

@@ -154,9 +154,10 @@ module _ (rules : List Rule) (z : Table) (inner entries moves : List ℕ) (k : �
   unfolding walks.next
   next-at e = ap (atTop rules S W) (e ∙ topOf-moves z inner entries moves W (walks.guidedAt W (w .root) .cell))
 
-  pub next-stuck : {t : Tip} {es ms : List ℕ} → TipIs t → t ≡ Nothing → NextIs rules S W Stuck es ms
+  -- "the walk has also arrived where no move is needed"
+  pub next-empty : {t : Tip} {es ms : List ℕ} → TipIs t → t ≡ Nothing → NextIs rules S W Arrived es ms
   unfolding atTop
-  next-stuck h e = record { gives = sym (next-at (ap tipOf (sym e) ∙ h)) }
+  next-empty h e = record { gives = sym (next-at (ap tipOf (sym e) ∙ h)) }
 
   pub next-to : {t : Tip} {x : Top} {i : ℕ} {r : Next} {es ms : List ℕ} → TipIs t → t ≡ At x i → AtTop rules S x i r es ms → NextIs rules S W r es ms
   next-to {r = r} {es} {ms} h e g = record { gives = subst (λ (o : walks.Next). Gives rules S W o r es ms) (next-at (ap tipOf (sym e) ∙ h)) (g .gives W) }

@@ -42,7 +42,7 @@ module _ (file : List ℕ) (sound : caseRefusal file ≡ 0) where
       let edges : countOf file 2 ≤ 64 = case-placed file sound .edges-count in
       let states : ownOf file .J + length (ownOf file .entries) ≤ 64 = case-states-few file sound in
       let few : countOf file 3 ≤ 1024 = case-placed file sound .moves-count in
-      record { inner-room = omega arith; entry-room = omega arith; move-room = omega arith }
+      record { inner-room = omega arith; entry-room = omega arith; move-room = omega arith; states-few = states }
 
   -- its inner edges lead from states that exist
   inner-exists : (e : Edge) → List·Memᴰ e (ownOf file .inner) → e .state < 64
@@ -66,9 +66,9 @@ module _ (file : List ℕ) (sound : caseRefusal file ≡ 0) where
         inner-small = λ e j. let l : e .first < ownOf file .J = facts .inner-facts e j .to-inner in (inner-exists e j, omega arith);
         controls-small = λ e j. let l : e .control < head file .P = facts .entry-control e j in omega arith;
         states-small = λ m j. let l : m .state < ownOf file .J + length (ownOf file .entries) = facts .move-facts m j .state-exists in omega arith;
-        final1-small = λ r i. let l : r < ownOf file .J = facts .final1-inner r i in omega arith;
+        final1-small = λ r i. let l : r < ownOf file .J + length (ownOf file .entries) = facts .final1-exists r i in omega arith;
         final2-small = λ q i.
-            let l : q < head file .P + head file .I = case-head file sound .final2-inner q i .1 in
+            let l : q < head file .P + head file .I = case-head file sound .final2-exists q i in
             let n : head file .I ≤ 8 = case-head file sound .inner2-few in
             omega arith;
       }

@@ -135,7 +135,7 @@ module _ (A : Automaton) where
   contains-self F O =
       record {
         same-J = refl;
-        final1-in = λ r h. (r, h, inner (F .final1-inner r h) refl);
+        final1-in = λ r h. (r, h, same-self r (F .final1-exists r h));
         final2-in = λ q h. h;
         inner-in = λ e j. j;
         entries-in = λ e j. j;

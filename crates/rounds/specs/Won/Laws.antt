@@ -135,7 +135,7 @@ module _ (T : Saturated) where
 pub no-state-accepts : {P : ℕ} {A : Automaton} → TableFacts P A → (r : ℕ) → states A ≤ r → (w : Stack1) → accepts1 A w r ≡ false
 unfolding accepts1
 no-state-accepts {A = A} F r l nil1 = by-test (member (A .final1) r)
-    (λ h. let b : r < A .J = F .final1-inner r (record { has = h }) in absurd (omega arith))
+    (λ h. let b : r < states A = F .final1-exists r (record { has = h }) in absurd (omega arith))
     (λ h. h)
 no-state-accepts {A = A} F r l (cons1 a u s) = by-test (accepts1 A (cons1 a u s) r)
     (λ h.

@@ -190,7 +190,7 @@ module _ (file : List ℕ) (sound : caseRefusal file ≡ 0) where
         let c : min (m / 5) 1024 ≤ m / 5 = min-le-left (m / 5) 1024 in
         let d : length (ownOf file .moves) ≡ countOf file 3 = own-moves in
         let f : countOf file 2 ≤ 64 = case-placed file sound .edges-count in
-        record { inner-room = omega arith; entry-room = omega arith; move-room = omega arith }
+        record { inner-room = omega arith; entry-room = omega arith; move-room = omega arith; states-few = k .states-fit }
 
     module _ (z : Table) (inner entries moves : List ℕ) (own : automatonOf z inner entries moves ≡ ownOf file) where
       edges-number : z .edges ≡ length (ownOf file .inner)
