@@ -1,6 +1,6 @@
 /*
  * The script analyser for the bench host: target/staticlib/libexports.a, which
- * `rt staticlib exports` writes. Documents 01 and 02 (requests 1 and 2) say what
+ * `rt staticlib exports` writes. Documents 01 and 02 (requests 1 to 3) say what
  * the four services do; this page says the same for a caller in C. crates/exports
  * proves each call equal to its definition; what this page says of numbers, words,
  * rounds and runs are the theorems of crates/demands about these definitions
@@ -59,13 +59,13 @@ extern "C" {
 /* Bytes of a listing. */
 #define ANALYSER_LISTING_BYTES 4280
 
-/* The documents' sentence for each refusal; 8 counts words, and 7 is for replay
-   too, as document 02 asks: REFUSAL(number, sentence). */
+/* The documents' sentence for each refusal; 4 is for a second entry too, 8 counts
+   words, and 7 is for replay too, as document 02 asks: REFUSAL(number, sentence). */
 #define ANALYSER_REFUSALS(REFUSAL) \
     REFUSAL(1, "the case's first byte, contents table, a count or the length is wrong") \
     REFUSAL(2, "a field of case body 1 is out of range") \
     REFUSAL(3, "a rule, edge or move breaks a bound of its body (b, or B against its order, included), or entries are too many") \
-    REFUSAL(4, "edges or moves are not strictly increasing") \
+    REFUSAL(4, "edges or moves are not strictly increasing, or an entry is a second one for its state and S") \
     REFUSAL(5, "the start file's first byte, contents table, a count or the length is wrong") \
     REFUSAL(6, "a start or cell is out of range, refers to a cell of the wrong order, or fills an unused field") \
     REFUSAL(7, "guide, replay: the start named is not in the file") \
@@ -105,7 +105,8 @@ uint64_t analyser_saturate(
  * for each start, in file order: 0 if no finite run of the case's rules leads
  * from the start into the target, otherwise 1 more than the least round whose
  * table accepts the start; the words after them are zero. Round 0 is the case's
- * own table, and a word is at most 1,025. After a refusal answers is zero. moves
+ * own table, and a word is at most 1,025. The word of a start whose stack is empty,
+ * or whose top order-1 stack is, is 1 if it lies in the target and otherwise 0. After a refusal answers is zero. moves
  * and entries are working memory, zero after every call.
  */
 uint64_t analyser_judge(
@@ -134,6 +135,9 @@ uint64_t analyser_judge(
  * cells are lent, both counts are 0. After ANALYSER_NO_RUN and after a refusal
  * both counts are 0. All trace words from *steps on are zero. moves, entries and
  * cells are working memory, zero after every call.
+ *
+ * No step leaves an empty stack or an empty top order-1 stack: a run that comes
+ * there has arrived, and a start that is there and marked yes has a run of no step.
  *
  * The run of a start is always the same one, whatever tables, cells and trace are
  * lent: with more cells or a longer trace the guide writes no fewer of its steps,

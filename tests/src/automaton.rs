@@ -1,5 +1,5 @@
-//! Acceptance (document 01, "The automaton"), on cells and on nested stacks, by
-//! the table of some round.
+//! Acceptance (document 01, "The automaton"; document 02, §3), on cells and on
+//! nested stacks, by the table of some round.
 
 use std::collections::HashMap;
 use std::rc::Rc;

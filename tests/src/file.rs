@@ -1,4 +1,5 @@
-//! Case files, and what start files share with them (document 01, "Files").
+//! Case files, and what start files share with them (document 01, "Files";
+//! document 02, §3).
 //!
 //! Decoding answers the refusal number of the table under "Three services and
 //! their halts". "The lowest number that applies is returned": the tests of a

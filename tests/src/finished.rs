@@ -2,8 +2,9 @@
 //! files hang on.
 
 use self::Kind::*;
+use self::Mistake::*;
 use crate::automaton::{ReadSymbol, accepting, accepting_with, least_edge, least_move};
-use crate::file::{Case, Cell, FileEntry, Start};
+use crate::file::{Case, Cell, Edge, Entry, FileEntry, Start};
 use crate::generate::Pair;
 use crate::kinds::{Kinds, of_these};
 use crate::sets::{Set, has, only};
@@ -60,11 +61,11 @@ pub const KINDS: usize = 21 + MISTAKES.len();
 /// Another reading of which states are final.
 #[derive(Clone, Copy, Debug, PartialEq, Eq, PartialOrd, Ord)]
 pub enum Mistake {
-    /// Every entry of the file is final whose control has a final one; every entry
-    /// that saturation finds.
+    /// A final entry's mark spreads to the others of its control in the file; to
+    /// those of its control that saturation finds.
     SpreadInFile,
     SpreadToFound,
-    /// Every entry that saturation finds is final; those with the set of a final
+    /// Every entry that saturation finds is final; each that has the set of a final
     /// one.
     Found,
     Inherited,
@@ -76,8 +77,6 @@ pub enum Mistake {
     NoEntries,
     NoControls,
 }
-
-use Mistake::*;
 
 const MISTAKES: [Mistake; 8] = [
     SpreadInFile,
@@ -96,6 +95,16 @@ pub struct Reading<'a> {
     pub table: &'a Table,
 }
 
+/// The least choices at a start: its edge, the number of its move, and the cells
+/// of the top symbol's annotation, of its rest, and of the stack beneath.
+struct Choice {
+    edge: Edge,
+    number: usize,
+    note: Cell,
+    rest: Cell,
+    below: Cell,
+}
+
 impl Reading<'_> {
     /// Counts the kinds of the case and of its starts. The runs are the guide's,
     /// by number of their start, where it arrived.
@@ -103,7 +112,9 @@ impl Reading<'_> {
         counts.count(self.kinds_of_case());
         for (number, start) in self.pair.start.starts.iter().enumerate() {
             counts.count(self.kinds_of_start(start));
-            counts.count(self.chosen(start).unwrap_or_default());
+            if let Some(choice) = self.choice(start) {
+                counts.count(self.kinds_of_choice(&choice));
+            }
             if let Some(run) = &runs[number] {
                 counts.count(self.end_of_run(number, run));
             }
@@ -121,26 +132,31 @@ impl Reading<'_> {
     // ---- cases
 
     fn kinds_of_case(&self) -> Vec<Kind> {
-        let entries = &self.case().entries;
-        let beside = |x: &FileEntry, is_final: bool| {
-            let same = |y: &&FileEntry| y.entry.control == x.entry.control && *y != x;
-            entries.iter().filter(same).any(|y| y.is_final == is_final)
-        };
-        let mut finals = entries.iter().filter(|x| x.is_final);
-        let alone = finals
-            .clone()
-            .any(|x| !beside(x, true) && !beside(x, false));
+        let final_controls = self.case().final_two & self.case().control_set();
+        let found = self.found() & self.of_final_controls();
+        let alone = self.finals().any(|x| self.others(x).is_empty());
+        let beside = self.finals().any(|x| self.others(x).contains(&false));
         of_these([
-            (
-                FinalControl,
-                self.case().final_two & self.case().control_set() != 0,
-            ),
+            (FinalControl, final_controls != 0),
             (FinalAlone, alone),
-            (FinalBesidePlain, finals.any(|x| beside(x, false))),
+            (FinalBesidePlain, beside),
             (FinalGainsMoves, self.gaining(true) != 0),
             (PlainGainsMoves, self.gaining(false) != 0),
-            (FoundBesideFinal, self.found() & self.beside_finals() != 0),
+            (FoundBesideFinal, found != 0),
         ])
+    }
+
+    /// The file's final entries.
+    fn finals(&self) -> impl Iterator<Item = Entry> {
+        let finals = self.case().entries.iter().filter(|x| x.is_final);
+        finals.map(|x| x.entry)
+    }
+
+    /// For each other entry of the same control in the file whether it is final.
+    fn others(&self, entry: Entry) -> Vec<bool> {
+        let entries = self.case().entries.iter();
+        let others = entries.filter(|x| x.entry.control == entry.control && x.entry != entry);
+        others.map(|x| x.is_final).collect()
     }
 
     /// The file's entries, final or not, to which saturation gives moves.
@@ -148,9 +164,7 @@ impl Reading<'_> {
         let own = self.table.sizes()[0].moves;
         let moves = self.table.moves()[own..].iter();
         let gaining = moves.fold(0, |set, m| set | only(m.state));
-        self.entries_that(|one, written| {
-            written.is_some_and(|w| w.is_final == is_final && has(gaining, one))
-        })
+        gaining & self.entries_that(|_, written| written.is_some_and(|x| x.is_final == is_final))
     }
 
     /// The entries that saturation found.
@@ -159,22 +173,23 @@ impl Reading<'_> {
     }
 
     /// The entries whose control has a final one.
-    fn beside_finals(&self) -> Set {
-        let finals = || self.case().entries.iter().filter(|x| x.is_final);
-        self.entries_that(|one, _| {
-            let entry = self.table.entry_of(one).expect("an entry");
-            finals().any(|x| x.entry.control == entry.control)
-        })
+    fn of_final_controls(&self) -> Set {
+        self.entries_that(|entry, _| self.finals().any(|x| x.control == entry.control))
     }
 
-    /// The entries with a property of their order-1 state and of what the file
-    /// holds of them.
-    fn entries_that(&self, property: impl Fn(u8, Option<&FileEntry>) -> bool) -> Set {
+    /// The entries whose set is that of a final one.
+    fn of_final_sets(&self) -> Set {
+        self.entries_that(|entry, _| self.finals().any(|x| x.set == entry.set))
+    }
+
+    /// The order-1 states of the entries with a property, which may ask what the
+    /// file holds of them.
+    fn entries_that(&self, property: impl Fn(Entry, Option<&FileEntry>) -> bool) -> Set {
         let written = |at: usize| self.case().entries.get(at);
-        let states = (0..self.table.entries().len())
-            .map(|at| (self.case().inner_one + at as u8, written(at)));
-        let having = states.filter(|(one, written)| property(*one, *written));
-        having.fold(0, |set, (one, _)| set | only(one))
+        let entries = self.table.entries().iter().enumerate();
+        let having = entries.filter(|(at, entry)| property(**entry, written(*at)));
+        let numbers = having.map(|(at, _)| self.case().inner_one + at as u8);
+        numbers.fold(0, |set, one| set | only(one))
     }
 
     // ---- starts
@@ -204,75 +219,68 @@ impl Reading<'_> {
 
     /// The final states by a mistake.
     fn mistaken(&self, mistake: Mistake) -> Finals {
-        let Finals { one, two } = self.table.finals();
-        let inner = self.case().inner_one_set();
-        let is_final = |set: Set| {
-            self.case()
-                .entries
-                .iter()
-                .any(|x| x.is_final && x.entry.set == set)
-        };
-        let inherited = || {
-            let set = |one| self.table.entry_of(one).expect("an entry").set;
-            self.entries_that(|one, written| written.is_none() && is_final(set(one)))
-        };
-        let one = match mistake {
-            SpreadInFile => one | self.beside_finals() & !self.found(),
-            SpreadToFound => one | self.beside_finals() & self.found(),
-            Found => one | self.found(),
-            Inherited => one | inherited(),
-            Lost => one & !self.gaining(true),
-            Gained => one | self.gaining(false),
-            NoEntries => one & inner,
-            NoControls => one,
-        };
-        let controls = self.case().control_set();
-        let two = if mistake == NoControls {
-            two & !controls
-        } else {
-            two
-        };
-        Finals { one, two }
+        let mut finals = self.table.finals();
+        match mistake {
+            SpreadInFile => finals.one |= self.of_final_controls() & !self.found(),
+            SpreadToFound => finals.one |= self.of_final_controls() & self.found(),
+            Found => finals.one |= self.found(),
+            Inherited => finals.one |= self.of_final_sets() & self.found(),
+            Lost => finals.one &= !self.gaining(true),
+            Gained => finals.one |= self.gaining(false),
+            NoEntries => finals.one &= self.case().inner_one_set(),
+            NoControls => finals.two &= !self.case().control_set(),
+        }
+        finals
     }
 
-    /// The kinds of the choices of a start marked yes.
-    fn chosen(&self, start: &Start) -> Option<Vec<Kind>> {
+    /// The choices of a start that is marked yes and has a symbol at the top.
+    fn choice(&self, start: &Start) -> Option<Choice> {
         let view = self.table.whole();
         let by_cell = accepting(view, &self.pair.start.cells);
         let at = |cell: u16| by_cell[usize::from(cell)];
         let Cell::Pair { top, rest: below } = self.cell(start.root) else {
             return None;
         };
-        let edge = least_edge(view, start.control, at(top).states, at(below).states)?;
         let Cell::Symbol { name, note, rest } = self.cell(top) else {
             return None;
         };
+        let edge = least_edge(view, start.control, at(top).states, at(below).states)?;
         let read = ReadSymbol {
             name,
             note: at(note),
             rest: at(rest).states,
         };
-        let number = least_move(view, edge.one, &read)?;
+        Some(Choice {
+            edge,
+            number: least_move(view, edge.one, &read)?,
+            note: self.cell(note),
+            rest: self.cell(rest),
+            below: self.cell(below),
+        })
+    }
+
+    fn kinds_of_choice(&self, choice: &Choice) -> Vec<Kind> {
+        let Choice {
+            edge,
+            number,
+            note,
+            rest,
+            below,
+        } = *choice;
         let m = self.table.moves()[number];
-        let entries = !self.case().inner_one_set();
-        let controls = self.case().control_set();
-        let note_one = m.order == 1 && self.cell(note) == Cell::EmptyOne;
-        let note_two = m.order == 2 && self.cell(note) == Cell::EmptyTwo;
+        let entry = |set: Set| set & !self.case().inner_one_set() != 0;
+        let control = |set: Set| set & self.case().control_set() != 0;
+        let note_one = m.order == 1 && note == Cell::EmptyOne;
+        let note_two = m.order == 2 && note == Cell::EmptyTwo;
+        let of_final = has(self.table.finals().one, edge.one);
         let later = self.table.round_of_move(number) > 0;
-        let of_final = has(self.table.finals().one & entries, edge.one);
-        Some(of_these([
-            (
-                RestByEntry,
-                self.cell(rest) == Cell::EmptyOne && m.rest & entries != 0,
-            ),
-            (NoteByEntry, note_one && m.note & entries != 0),
-            (NoteByControl, note_two && m.note & controls != 0),
-            (
-                BelowByControl,
-                self.cell(below) == Cell::EmptyTwo && edge.set & controls != 0,
-            ),
+        of_these([
+            (RestByEntry, rest == Cell::EmptyOne && entry(m.rest)),
+            (NoteByEntry, note_one && entry(m.note)),
+            (NoteByControl, note_two && control(m.note)),
+            (BelowByControl, below == Cell::EmptyTwo && control(edge.set)),
             (ByMoveOfFinal, of_final && later),
-        ]))
+        ])
     }
 
     // ---- runs

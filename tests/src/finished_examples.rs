@@ -119,6 +119,9 @@ pub fn examples() -> Vec<Example> {
         gains_moves(),
         in_two_steps(),
         no_further_step(),
+        every_final_control(),
+        last_entry(0),
+        last_entry(16),
     ]
 }
 
@@ -231,6 +234,45 @@ fn one_of_two() -> Example {
             no(0, TWO_EMPTY),
             there(1, ONE_EMPTY),
             there(1, TWO_EMPTY),
+        ],
+    }
+}
+
+/// All of eight controls and eight inner order-2 states are final.
+fn every_final_control() -> Example {
+    let mut case = Case::without_records(8, 8, 0, 2);
+    case.final_two = 0xffff;
+    Example {
+        name: "every control",
+        case,
+        answers: vec![
+            there(0, EMPTY),
+            there(7, EMPTY),
+            no(0, ONE_EMPTY),
+            no(7, ONE_EMPTY),
+        ],
+    }
+}
+
+/// Of 64 order-1 states, so many of them inner and not final, the last is a final
+/// entry. The inner order-2 states 8, 9 and 10 are final, and each control has an
+/// entry for each set of them, so that the last control's last entry is the one
+/// for all three.
+fn last_entry(inner: u8) -> Example {
+    let mut case = Case::without_records(8, 3, inner, 2);
+    case.final_two = 0b111 << 8;
+    let number = |n: u8| FileEntry::plain(n / 8, u64::from(n % 8) << 8);
+    case.entries = (0..64 - inner).map(number).collect();
+    let last = (63 - inner) / 8;
+    case.entries[usize::from(63 - inner)].is_final = true;
+    Example {
+        name: "the last of 64 order-1 states",
+        case,
+        answers: vec![
+            there(last, ONE_EMPTY),
+            no(last, TWO_EMPTY),
+            no(last, EMPTY),
+            no(last - 1, ONE_EMPTY),
         ],
     }
 }

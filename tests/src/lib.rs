@@ -12,6 +12,7 @@ pub mod attempts;
 pub mod automaton;
 pub mod compare;
 pub mod damage;
+pub mod damage_finals;
 pub mod data;
 pub mod deep;
 pub mod derivation;

@@ -24,7 +24,7 @@ pub fn pairs(count: u64) -> impl Iterator<Item = (String, Pair)> {
 
 /// Generated pairs whose starts are won in many rounds, for many reasons.
 pub fn late_pairs() -> impl Iterator<Item = (String, Pair)> {
-    seeds(250).map(|seed| (format!("late {seed}"), pair(seed, &LATE)))
+    seeds(350).map(|seed| (format!("late {seed}"), pair(seed, &LATE)))
 }
 
 impl Pair {

@@ -112,7 +112,8 @@ impl Run {
     }
 
     /// For each configuration whether it is in the target: "every configuration
-    /// that the case's own automaton accepts from its control" (document 01).
+    /// that the case's own automaton accepts from its control" (document 01), empty
+    /// stacks included (§3).
     pub fn in_target(&self, case: &Case) -> Vec<bool> {
         let own = Table::new(case);
         let mut reader = StackReader::new(own.whole());

@@ -134,6 +134,7 @@ fn marks_agree_with_the_search() {
     }
     println!("{searched:?}");
     assert!(searched.reached >= 200 && searched.exhausted >= 200);
+    assert!(searched.at_empty_stack >= 50 && searched.at_empty_top >= 50);
 }
 
 /// Tables of every length up to a few words more than the saturated table
@@ -196,7 +197,7 @@ fn every_small_number_of_cells_and_trace_words() {
     for (name, pair) in pairs(12) {
         for number in 0..pair.start.starts.len() {
             let reply = both.guide(&pair.case_file, &pair.start_file, number as u64);
-            let Arrived { steps: 1..=10, .. } = reply else {
+            let Arrived { steps: 0..=10, .. } = reply else {
                 continue;
             };
             let run = both.lent.trace[..reply.steps()].to_vec();

@@ -6,7 +6,9 @@ use second::compare::Both;
 use second::damage::{
     bodies_swapped, changed, counts_off_by_one, cuts, lines_swapped, longer, offsets_off_by_one,
 };
+use second::damage_finals::{KINDS, changed_finals};
 use second::generate::{Pair, pair};
+use second::kinds::Kinds;
 use second::lent::Lent;
 use second::random::{Random, seeds};
 use second::replay::ReplayReply::{Accepted, Fails, Refused};
@@ -129,6 +131,24 @@ fn every_byte_changed() {
         }
     }
     calls.assert_replayed(&[0, 1, 2, 3, 4, 5, 6, 7, 260]);
+}
+
+/// Final sets, marks of entries, what sets name, and entries that stand twice
+/// (document 02, §3).
+#[test]
+fn changed_finals_of_cases() {
+    let mut calls = Calls::new();
+    let mut kinds = Kinds::default();
+    for pair in small_pairs(20) {
+        calls.take_trace(&pair);
+        for (kind, copy) in changed_finals(&pair.case) {
+            calls.on_case(&copy, &pair.start_file);
+            kinds.count([kind]);
+        }
+    }
+    println!("{kinds:?}");
+    assert!(kinds.rarest(KINDS) >= 50, "{kinds:?}");
+    calls.assert_replayed(&[0, 2, 3, 4, 260]);
 }
 
 fn values_near(byte: u8) -> [u8; 7] {

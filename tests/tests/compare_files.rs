@@ -6,10 +6,11 @@ use second::damage::changed;
 use second::data::{Vector, bytes, larger_files, vectors, without_rounds};
 use second::encode::{encode_case, encode_start};
 use second::file::{Case, Cell, FileEntry, Move, Rule, Start, StartFile};
+use second::finished_examples::{COMMON_CELLS, examples};
 use second::lent::Lent;
 use second::models::{
-    CASE_A, CASE_B, CASE_C, START_A, START_B, START_C_ONE, START_C_TWO, case_a_with_rules,
-    start_a_with_starts,
+    CASE_A, CASE_B, CASE_B_FINISHED, CASE_C, START_A, START_B, START_B_LONE, START_C_ONE,
+    START_C_TWO, case_a_with_rules, start_a_with_starts,
 };
 use second::proved;
 use second::random::is_long;
@@ -87,6 +88,37 @@ fn example_of_rounds() {
     let words = EXAMPLE_WORDS.as_flattened();
     assert_eq!(both.lent.answers[..words.len()], *words);
     assert_eq!(proved::listing(&case, &start), listing(&case, &start));
+}
+
+/// Empty stacks in the target and beside it: marks, and walks with the cells and
+/// trace words that the run takes, fewer and more.
+#[test]
+fn examples_of_finished_scripts() {
+    for example in examples() {
+        let case = encode_case(&example.case);
+        let start = encode_start(&example.start_file());
+        let mut both = Both::new(Lent::as_listing());
+        assert_eq!(both.judge(&case, &start), 0, "{}", example.name);
+        let words = example.answers.iter().map(|answer| answer.word);
+        let judged = both.lent.answers.iter().copied();
+        assert!(
+            judged.take(example.answers.len()).eq(words),
+            "{}",
+            example.name
+        );
+        assert_eq!(proved::listing(&case, &start), listing(&case, &start));
+        for (number, answer) in (0..).zip(&example.answers) {
+            let used = COMMON_CELLS + answer.new_cells as usize;
+            for cells in [COMMON_CELLS - 1, COMMON_CELLS, used - 1, used, MOST_CELLS] {
+                for trace in [0, 1, 2, 3, 1024] {
+                    let lent = Lent::new(LISTING_MOVES, LISTING_ENTRIES, cells, trace);
+                    let mut both = Both::new(lent);
+                    both.guide(&case, &start, number);
+                    both.replay(&case, &start, number, &recorded(answer.run));
+                }
+            }
+        }
+    }
 }
 
 /// The vector with the longest runs, with cells from too few to more than count
@@ -167,9 +199,11 @@ fn empty_and_exchanged_files() {
 
 #[test]
 fn models() {
-    let models: [(&[u8], &[u8]); 4] = [
+    let models: [(&[u8], &[u8]); 6] = [
         (&CASE_A, &START_A),
         (&CASE_B, &START_B),
+        (&CASE_B_FINISHED, &START_B),
+        (&CASE_B_FINISHED, &START_B_LONE),
         (&CASE_C, &START_C_ONE),
         (&CASE_C, &START_C_TWO),
     ];

@@ -132,7 +132,7 @@ fn any_trace() {
 fn long_runs() {
     let mut random = Random::new(16);
     let (mut long, mut too_long, mut arrived) = (0, 0, 0);
-    for seed in seeds(300) {
+    for seed in seeds(400) {
         let pair = pair(seed, &WIDE);
         let Wandering {
             trace, arrivals, ..

@@ -4,9 +4,11 @@
 use second::damage::{
     bodies_swapped, changed, counts_off_by_one, cuts, lines_swapped, longer, offsets_off_by_one,
 };
+use second::damage_finals::{KINDS, changed_finals};
 use second::encode::{encode_case, encode_start};
 use second::file::decode_case;
 use second::generate::{Pair, pair};
+use second::kinds::Kinds;
 use second::lent::Lent;
 use second::random::seeds;
 use second::replay::ReplayReply;
@@ -234,6 +236,30 @@ fn swapped_bodies() {
             check_changed_start(&mut lent, &pair, &copy);
         }
     }
+}
+
+/// Final sets, marks of entries, what sets name, and entries that stand twice
+/// (document 02, §3): each change is refused as it must be, or passes.
+#[test]
+fn changed_finals_of_cases() {
+    let mut lent = memory();
+    let mut kinds = Kinds::default();
+    for pair in small_pairs(20) {
+        for (kind, copy) in changed_finals(&pair.case) {
+            kinds.count([kind]);
+            match kind.refusal() {
+                Some(refusal) => assert_case_refused(&mut lent, &copy, &pair.start_file, refusal),
+                None => {
+                    let case = decode_case(&copy).expect("a sound case");
+                    assert_ne!(case, pair.case);
+                    assert_eq!(encode_case(&case), copy);
+                    assert_eq!(run(&mut lent, &copy, &pair.start_file).judge, 0);
+                }
+            }
+        }
+    }
+    println!("{kinds:?}");
+    assert!(kinds.rarest(KINDS) >= 50, "{kinds:?}");
 }
 
 /// An empty file, which also stands for a missing one, and a file longer than

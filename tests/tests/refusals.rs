@@ -227,18 +227,14 @@ fn second_entries() {
     let (plain, finished) = (FileEntry::plain, FileEntry::finished);
     for first in [plain, finished] {
         for second in [plain, finished] {
-            let double = |control, set| vec![first(control, set), second(control, set)];
-            let others = [plain(0, 0b100), plain(1, 0)];
+            let twice = |control, set| vec![first(control, set), second(control, set)];
+            assert_case(4, |case| case.entries = twice(0, 0b100));
             assert_case(4, |case| {
-                case.entries = [double(0, 0b100), vec![others[1]]].concat();
+                case.entries.truncate(1);
+                case.entries.extend(twice(1, 0));
             });
-            assert_case(4, |case| {
-                case.entries = [vec![others[0]], double(1, 0)].concat();
-            });
-            // A bound of the body that is broken too comes first.
-            assert_case(3, |case| {
-                case.entries = double(0, 0b1);
-            });
+            // A set that names a control comes first.
+            assert_case(3, |case| case.entries = twice(0, 0b1));
         }
     }
     // The same set at two controls, and two sets at one control.

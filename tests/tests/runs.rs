@@ -11,8 +11,10 @@ use second::search::{Bounds, Outcome, search};
 use second::services::GuideReply::{Arrived, CellsShort, NoRun, Refused};
 use second::services::{LISTING_ENTRIES, LISTING_MOVES, MOST_CELLS};
 use second::sets::has;
+use second::stack::Configuration;
 use second::start_file::decode_start;
 use second::table::Table;
+use second::target::in_target;
 
 /// Memory with all cells that count and a long trace.
 fn ample() -> Lent {
@@ -42,16 +44,24 @@ fn generated_files_are_sound() {
     }
 }
 
-/// A cell and the nested stack it stands for are accepted by the same states.
+/// A cell and the nested stack it stands for are accepted by the same controls of
+/// the case's own automaton, read from its table and from its records.
 #[test]
 fn cells_and_stacks_are_accepted_alike() {
     for (name, pair) in pairs(100) {
         let own = Table::new(&pair.case);
         let by_cell = accepting(own.whole(), &pair.start.cells);
         for (number, start) in pair.start.starts.iter().enumerate() {
-            let states = by_cell[usize::from(start.root)].states;
-            let accepted = accepts(own.whole(), &pair.configuration(number));
-            assert_eq!(accepted, has(states, start.control), "{name}");
+            for control in 0..pair.case.controls {
+                let states = by_cell[usize::from(start.root)].states;
+                let stack = Configuration {
+                    control,
+                    ..pair.configuration(number)
+                };
+                let accepted = in_target(&pair.case, &stack);
+                assert_eq!(accepts(own.whole(), &stack), accepted, "{name}");
+                assert_eq!(has(states, control), accepted, "{name}");
+            }
         }
     }
 }
@@ -104,6 +114,7 @@ fn marks_agree_with_the_search() {
     }
     println!("{searched:?}");
     assert!(searched.reached >= 500 && searched.exhausted >= 500);
+    assert!(searched.at_empty_stack >= 100 && searched.at_empty_top >= 100);
 }
 
 /// The search finds every start marked yes whose run is short, by no more steps
@@ -158,19 +169,20 @@ fn check_halts(pair: &Pair, number: usize, run: &[u16], name: &str) {
 #[test]
 fn halts_for_all_small_cells_and_traces() {
     let mut lent = ample();
-    let mut checked = 0;
+    let mut checked = [0; 2];
     for (name, pair) in pairs(20) {
         for number in 0..pair.start.starts.len() {
             let reply = lent.guide(&pair.case_file, &pair.start_file, number as u64);
-            if let Arrived { steps: 1..=10, .. } = reply {
+            if let Arrived { steps: 0..=10, .. } = reply {
                 let run = lent.trace[..reply.steps()].to_vec();
+                let end = pair.end_of_run(number, &run, &name);
                 check_halts(&pair, number, &run, &name);
-                checked += 1;
+                checked[usize::from(end.stack.empty().is_some())] += 1;
             }
         }
     }
-    println!("{checked} runs with all small cells and traces");
-    assert!(checked >= 10);
+    println!("runs to a symbol, and to an empty stack or top: {checked:?}");
+    assert!(checked.iter().all(|&runs| runs >= 10));
 }
 
 /// A start without a run is answered so for every number of cells.
