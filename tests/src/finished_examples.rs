@@ -113,6 +113,7 @@ pub fn examples() -> Vec<Example> {
         final_control(),
         final_entry(),
         uncovered(),
+        annotations(),
         sets_of_final_entries(),
         one_of_two(),
         found(),
@@ -187,8 +188,27 @@ fn uncovered() -> Example {
             by(0, ZERO_ON_EMPTY, 1, &[0], 0),
             by(0, ZERO_NOTING_ONE_EMPTY, 1, &[1], 0),
             no(0, ZERO_NOTING_EMPTY),
-            no(0, ZERO),
             no(0, ZERO_ON_ZERO),
+        ],
+    }
+}
+
+/// Control 0 is final, and so is its entry [0,empty], order-1 state 0: the set {0} of
+/// either order accepts the empty stack of that order alone. Control 1 comes there
+/// by collapse 1, control 2 by collapse 2.
+fn annotations() -> Example {
+    let mut case = Case::without_records(3, 0, 0, 2);
+    case.final_two = 0b1;
+    case.rules = vec![rule(1, 0, 7, 0, 0), rule(2, 0, 8, 0, 0)];
+    case.entries = vec![FileEntry::finished(0, 0)];
+    Example {
+        name: "empty annotations of either order",
+        case,
+        answers: vec![
+            by(1, ZERO, 1, &[0], 1),
+            no(1, ZERO_NOTING_EMPTY),
+            by(2, ZERO_NOTING_EMPTY, 1, &[1], 0),
+            no(2, ZERO),
         ],
     }
 }

@@ -295,8 +295,8 @@ fn step_of(
     }
 }
 
-// The next step of a walk, which has arrived where there is no top: no move is needed there. Where it goes on, the numbers of the edges that the derivation chooses stand in `edges`, and those of the moves in
-// `chosen`, by state.
+// The next step of a walk. Where there is no top, no move is needed and it has arrived. Where it goes on, the numbers of the edges that the
+// derivation chooses stand in `edges`, and those of the moves in `chosen`, by state.
 pub fn next_step(
     z: Table,
     inner: &[u64],

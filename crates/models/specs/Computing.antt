@@ -62,7 +62,7 @@ unfolding Saturate.saturated Saturate.tooLarge Saturate.sizeTests Saturate.satur
 open-saturate = 0
 
 unfoldable pub open-files : ℕ
-unfolding Files.two Files.line Files.headWith Files.head Files.rule Files.entry Files.finalEntry Files.plain Files.start Files.empty1 Files.symbol Files.empty2 Files.above Files.caseA Files.startA Files.caseB Files.startB Files.caseBFinal Files.startLone Files.startEmpty Files.caseBTwice Files.caseBNamed Files.caseBOther Files.caseFinished Files.startFinished Files.caseC Files.startC Files.startCC Files.caseCircle Files.casePast Files.caseCollapse Files.startCollapse Files.times Files.startsA Files.rulesA Files.itselfA
+unfolding Files.two Files.line Files.headWith Files.head Files.rule Files.entry Files.finalEntry Files.plain Files.start Files.empty1 Files.symbol Files.empty2 Files.above Files.caseA Files.startA Files.caseBWith Files.caseB Files.startB Files.caseBFinal Files.startLone Files.startEmpty Files.caseBTwice Files.caseBNamed Files.caseBOther Files.caseFinished Files.startFinished Files.caseC Files.startC Files.startCC Files.caseCircle Files.casePast Files.caseCollapse Files.startCollapse Files.times Files.startsA Files.rulesA Files.itselfA
 open-files = 0
 
 unfoldable pub computed : ℕ

@@ -82,14 +82,18 @@ startA =
 
 -- ---- model B
 
+-- model B with this final order-1 set, below 65,536, and these n entries
+unfoldable pub caseBWith : ℕ → ℕ → List ℕ → List ℕ
+caseBWith final1 n entries =
+    (4 ∷ []) ++ line 1 1 33 ++ line 2 1 47 ++ line 3 n 52 ++ line 4 1 (52 + n * 4)
+    ++ headWith 2 0 0 2 0 final1
+    ++ rule 0 0 5 0 1
+    ++ entries
+    ++ plain 0 1
+
 -- "Case B: target as A, rule (0,0,5,0,1)."
 unfoldable pub caseB : List ℕ
-caseB =
-    (4 ∷ []) ++ line 1 1 33 ++ line 2 1 47 ++ line 3 1 52 ++ line 4 1 56
-    ++ head 2 0 0 2
-    ++ rule 0 0 5 0 1
-    ++ entry 1 0
-    ++ plain 0 1
+caseB = caseBWith 0 1 (entry 1 0)
 
 -- "starts with control 0": symbol 0 above 1, and symbol 0 alone
 unfoldable pub startB : List ℕ
@@ -107,12 +111,15 @@ startB =
 
 -- model B with its entry "written with 254": it is final
 unfoldable pub caseBFinal : List ℕ
-caseBFinal =
-    (4 ∷ []) ++ line 1 1 33 ++ line 2 1 47 ++ line 3 1 52 ++ line 4 1 56
-    ++ head 2 0 0 2
-    ++ rule 0 0 5 0 1
-    ++ finalEntry 1 0
-    ++ plain 0 1
+caseBFinal = caseBWith 0 1 (finalEntry 1 0)
+
+-- model B with its entry written twice, with 254 and with 255
+unfoldable pub caseBTwice : List ℕ
+caseBTwice = caseBWith 0 2 (finalEntry 1 0 ++ entry 1 0)
+
+-- model B with a final order-1 set that names its entry
+unfoldable pub caseBNamed : List ℕ
+caseBNamed = caseBWith 1 1 (entry 1 0)
 
 -- "model B's lone symbol" in a file of its own, of four cells
 unfoldable pub startLone : List ℕ
@@ -121,25 +128,6 @@ startLone = (2 ∷ []) ++ line 1 1 17 ++ line 2 4 20 ++ start 0 3 ++ empty1 ++ e
 -- an empty order-1 stack alone, with control 0 and with control 1, and the empty order-2 stack with control 1
 unfoldable pub startEmpty : List ℕ
 startEmpty = (2 ∷ []) ++ line 1 3 17 ++ line 2 3 26 ++ start 0 2 ++ start 1 2 ++ start 1 1 ++ empty1 ++ empty2 ++ above 0 1
-
--- model B with its entry written twice, with 254 and with 255
-unfoldable pub caseBTwice : List ℕ
-caseBTwice =
-    (4 ∷ []) ++ line 1 1 33 ++ line 2 1 47 ++ line 3 2 52 ++ line 4 1 60
-    ++ head 2 0 0 2
-    ++ rule 0 0 5 0 1
-    ++ finalEntry 1 0
-    ++ entry 1 0
-    ++ plain 0 1
-
--- model B with a final order-1 set that names its entry
-unfoldable pub caseBNamed : List ℕ
-caseBNamed =
-    (4 ∷ []) ++ line 1 1 33 ++ line 2 1 47 ++ line 3 1 52 ++ line 4 1 56
-    ++ headWith 2 0 0 2 0 1
-    ++ rule 0 0 5 0 1
-    ++ entry 1 0
-    ++ plain 0 1
 
 -- model B without its rule, with an inner state 2, from which no stack is accepted, and a final entry [1,{2}] after [1,empty]
 unfoldable pub caseBOther : List ℕ

@@ -2,7 +2,6 @@
 -- Assumes nothing.
 use mathlib.Core.Path.{_∙_}
 use Rattle.case_tables.specs.Decoded.Laws.{final-yes, final-other, final-inner}
-use borrow.Author.Needs.{needs}
 use Rattle.case_tables.proofs.final_entry.Statement.{statement}
 use Rattle.case_tables.proofs.final_entry.Tie as tie
 

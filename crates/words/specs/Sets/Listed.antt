@@ -5,7 +5,7 @@ use mathlib.Core.Path.{_≡_, ap, sym, _∙_}
 use mathlib.Core.Logic.{⊎-elim}
 use mathlib.Core.List.{List, [], _∷_, _++_, List·Memᴰ, List·Memᴰ·head, List·Memᴰ·tail}
 use Rattle.words.specs.Sets.{single, join, setOf}
-use Rattle.words.specs.Sets.Laws.{Has, All, has-empty, has-single, single-has, has-join-left, has-join-right, join-cases, join-assoc, join-empty-left}
+use Rattle.words.specs.Sets.Laws.{Has, has-empty, has-single, single-has, has-join-left, has-join-right, join-cases, join-assoc, join-empty-left}
 
 pub in-setOf : {ns : List ℕ} {n : ℕ} → List·Memᴰ n ns → Has (setOf ns) n
 unfolding setOf
