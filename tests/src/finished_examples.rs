@@ -235,11 +235,12 @@ fn sets_of_final_entries() -> Example {
     }
 }
 
-/// Each entry is written for itself. Inner state 2 accepts nothing. Control 0 has
-/// [0,empty], which is not final, and [0,{2}], which is; control 1 the other way
-/// round.
+/// Each control and each entry has a mark of its own. Inner state 2 accepts nothing.
+/// Control 0 is final, and it has [0,empty], which is not, and [0,{2}], which is;
+/// control 1 is not final, and has its entries the other way round.
 fn one_of_two() -> Example {
     let mut case = Case::without_records(2, 1, 0, 2);
+    case.final_two = 0b1;
     case.entries = vec![
         FileEntry::plain(0, 0),
         FileEntry::finished(0, 0b100),
@@ -250,8 +251,10 @@ fn one_of_two() -> Example {
         name: "one final entry of two",
         case,
         answers: vec![
+            there(0, EMPTY),
             no(0, ONE_EMPTY),
             no(0, TWO_EMPTY),
+            no(1, EMPTY),
             there(1, ONE_EMPTY),
             there(1, TWO_EMPTY),
         ],
