@@ -118,6 +118,15 @@ impl Lent {
     }
 }
 
+/// Judge's words for the starts; those after them and the tables must be zero.
+pub fn words(case: &[u8], start: &[u8], starts: usize) -> Vec<u16> {
+    let mut lent = Lent::as_listing();
+    assert_eq!(lent.judge(case, start), 0);
+    assert!(lent.tables_are_zero());
+    assert!(lent.answers[starts..].iter().all(|&answer| answer == 0));
+    lent.answers[..starts].to_vec()
+}
+
 /// Replay's answer to rule numbers with so many cells, which must be zero after.
 pub fn replayed(files: (&[u8], &[u8]), number: u64, trace: &[u16], cells: usize) -> ReplayReply {
     let bytes = cells * REPLAY_CELL_BYTES;

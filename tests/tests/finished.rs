@@ -5,7 +5,7 @@ use second::encode::{encode_case, encode_start};
 use second::finished::{KINDS, Reading};
 use second::finished_examples::{Answer, COMMON_CELLS, Example, examples};
 use second::kinds::Kinds;
-use second::lent::{Lent, replayed};
+use second::lent::{Lent, replayed, words};
 use second::models::{CASE_B, CASE_B_FINISHED, START_B, START_B_LONE};
 use second::pairs::pairs;
 use second::replay::ReplayReply::{Accepted, Fails, Refused};
@@ -13,15 +13,6 @@ use second::saturation::saturate;
 use second::services::GuideReply::{self, Arrived, CellsShort, NoRun, TraceFull};
 use second::services::{LISTING_ENTRIES, LISTING_MOVES, MOST_CELLS, listing};
 use second::table::Size;
-
-/// Judge's words for the starts; those after them must be zero.
-fn words(case: &[u8], start: &[u8], starts: usize) -> Vec<u16> {
-    let mut lent = Lent::as_listing();
-    assert_eq!(lent.judge(case, start), 0);
-    assert!(lent.tables_are_zero());
-    assert!(lent.answers[starts..].iter().all(|&answer| answer == 0));
-    lent.answers[..starts].to_vec()
-}
 
 /// Guide's reply with so many cells and trace words, and its trace. Cells, tables
 /// and the trace behind the steps must be zero.

@@ -2,7 +2,7 @@
 //! sentence "At the edges".
 
 use second::file::decode_case;
-use second::lent::Lent;
+use second::lent::{Lent, words};
 use second::models::{
     CASE_A, CASE_B, CASE_C, START_A, START_B, START_C_ONE, START_C_TWO, case_a_with_rules,
     start_a_with_starts,
@@ -11,15 +11,6 @@ use second::saturation::saturate;
 use second::services::GuideReply::{Arrived, NoRun, Refused, TraceFull};
 use second::services::{LISTING_ENTRIES, LISTING_MOVES, listing, listing_answer};
 use second::table::Size;
-
-/// Judge's words for the starts; those after them and the tables must be zero.
-fn words(case: &[u8], start: &[u8], starts: usize) -> Vec<u16> {
-    let mut lent = Lent::as_listing();
-    assert_eq!(lent.judge(case, start), 0);
-    assert!(lent.tables_are_zero());
-    assert!(lent.answers[starts..].iter().all(|&answer| answer == 0));
-    lent.answers[..starts].to_vec()
-}
 
 /// The trace of a start that arrives with these cells; all else must be zero.
 fn arrived_trace(case: &[u8], start: &[u8], number: u64, steps: usize, used: u64) -> Vec<u16> {
