@@ -1,6 +1,6 @@
 /*
  * The script analyser for the bench host: target/staticlib/libexports.a, which
- * `rt staticlib exports` writes. Documents 01 and 02 (requests 1 to 3) say what
+ * `rt staticlib exports` writes. Documents 01 and 02 (requests 1 to 4) say what
  * the four services do; this page says the same for a caller in C. crates/exports
  * proves each call equal to its definition; what this page says of numbers, words,
  * rounds and runs are the theorems of crates/demands about these definitions

@@ -1,6 +1,7 @@
 //! Finished scripts as a target (document 02, §3): small cases with their answers,
 //! worked out by hand.
 
+use crate::every_state::entry;
 use crate::file::{Case, Cell, FileEntry, Start, StartFile};
 use crate::sound::{a_move, pair, rule, start, symbol};
 
@@ -284,8 +285,7 @@ fn every_final_control() -> Example {
 fn last_entry(inner: u8) -> Example {
     let mut case = Case::without_records(8, 3, inner, 2);
     case.final_two = 0b111 << 8;
-    let number = |n: u8| FileEntry::plain(n / 8, u64::from(n % 8) << 8);
-    case.entries = (0..64 - inner).map(number).collect();
+    case.entries = (0..64 - inner).map(entry).collect();
     let last = (63 - inner) / 8;
     case.entries[usize::from(63 - inner)].is_final = true;
     Example {

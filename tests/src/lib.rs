@@ -17,6 +17,7 @@ pub mod data;
 pub mod deep;
 pub mod derivation;
 pub mod encode;
+pub mod every_state;
 pub mod file;
 pub mod finished;
 pub mod finished_examples;

@@ -7,12 +7,13 @@ use crate::services::{
 };
 
 /// The last request that has landed.
-const LANDED: u64 = 3;
+const LANDED: u64 = 4;
 
 /// The requests whose files are here, and how many lines of each hold after it.
-const FILES: [(u64, usize); 3] = [(1, 20), (2, 28), (3, 23)];
+const FILES: [(u64, usize); 4] = [(1, 20), (2, 28), (3, 23), (4, 15)];
 
-type Judge = fn(&[u8], &[u8], &mut [u64], &mut [u64], &mut [u16]) -> u64;
+pub type Saturate = fn(&[u8], &mut [u64], &mut [u64]) -> (u64, u64, u64);
+pub type Judge = fn(&[u8], &[u8], &mut [u64], &mut [u64], &mut [u16]) -> u64;
 type Guide = fn(&[u8], &[u8], u64, &mut [u64], &mut [u64], &mut [u16], &mut [u16]) -> GuideReply;
 type Listing = fn(&[u8], &[u8]) -> String;
 type Replay = fn(&[u8], &[u8], u64, &[u8], &mut [u8]) -> ReplayReply;
@@ -20,6 +21,7 @@ type Replay = fn(&[u8], &[u8], u64, &[u8], &mut [u8]) -> ReplayReply;
 /// The services that the examples call.
 #[derive(Clone, Copy)]
 pub struct Services {
+    pub saturate: Saturate,
     pub judge: Judge,
     pub guide: Guide,
     pub listing: Listing,
@@ -74,6 +76,7 @@ impl Example {
         let case = bytes_of(&self.take("case").expect("a case"));
         let start = bytes_of(&self.take("start").expect("a start file"));
         let reply = match self.call.as_str() {
+            "saturate" => self.saturate(services, &case),
             "judge" => self.judge(services, &case, &start),
             "guide" => self.guide(services, &case, &start),
             "listing" => in_one_line(&(services.listing)(&case, &start)),
@@ -89,6 +92,17 @@ impl Example {
         let moves = self.number("moves").unwrap_or(LISTING_MOVES);
         let entries = self.number("entries").unwrap_or(LISTING_ENTRIES);
         [moves * MOVE_WORDS, entries * ENTRY_WORDS].map(|words| vec![u64::MAX; words])
+    }
+
+    /// Saturate's reply; the line's start file is not used.
+    fn saturate(&mut self, services: Services, case: &[u8]) -> String {
+        let [mut moves, mut entries] = self.tables();
+        let (code, move_count, entry_count) = (services.saturate)(case, &mut moves, &mut entries);
+        format!(
+            "code={code} moves={move_count} entries={entry_count} move_words={} entry_words={}",
+            list(&moves),
+            list(&entries)
+        )
     }
 
     /// Judge's reply. "Every lent slice that is not plainly zero" is in the
@@ -167,8 +181,8 @@ impl Example {
 }
 
 /// "Lists divided by commas."
-fn list(words: &[u16]) -> String {
-    let words: Vec<String> = words.iter().map(u16::to_string).collect();
+fn list<Word: ToString>(words: &[Word]) -> String {
+    let words: Vec<String> = words.iter().map(Word::to_string).collect();
     words.join(",")
 }
 

@@ -53,7 +53,7 @@ fn new_results(case: &Case, table: &Table, most: usize) -> Option<BTreeSet<Found
     let mut round = Round {
         view: table.whole(),
         most,
-        controls: case.controls,
+        inner: case.inner_two_set(),
         seen: HashSet::new(),
         found: BTreeSet::new(),
     };
@@ -96,7 +96,8 @@ fn add_moves(table: &mut Table, found: &BTreeSet<Found>) {
 struct Round<'a> {
     view: View<'a>,
     most: usize,
-    controls: u8,
+    /// The inner order-2 states.
+    inner: Set,
     /// Readings met before, each with the control and symbol of its rule: the
     /// same reading gives the same results, so it is followed only once.
     seen: HashSet<(u8, u8, Reading)>,
@@ -112,8 +113,7 @@ impl Round<'_> {
         if !self.seen.insert((rule.from, rule.symbol, reading)) {
             return Some(());
         }
-        let inner = reading.twos >> self.controls << self.controls;
-        if let Some(state) = least(inner) {
+        if let Some(state) = least(reading.twos & self.inner) {
             self.choose_edge(rule, reading, state)
         } else if let Some(one) = least(reading.ones) {
             self.choose_move(rule, reading, one)

@@ -71,6 +71,7 @@ fn every_vector() {
 #[test]
 fn every_example_of_the_requests() {
     check_examples(Services {
+        saturate: proved::saturate,
         judge: proved::judge,
         guide: proved::guide,
         listing: proved::listing,

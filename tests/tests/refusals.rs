@@ -2,11 +2,13 @@
 //! counts the words of document 02, §1.
 
 use second::encode::{encode_case, encode_start};
+use second::every_state::entry;
 use second::file::{Case, Cell, FileEntry, Rule, StartFile};
 use second::lent::Lent;
 use second::replay::ReplayReply;
 use second::services::GuideReply::{CellsShort, NoRun, Refused};
 use second::services::listing;
+use second::sets::{has, only};
 use second::sound::{a_move, edge, pair, sound_case, sound_start, symbol};
 
 /// All services answer the refusal, and all lent memory is zero.
@@ -91,7 +93,7 @@ fn fields_of_the_case() {
     // Order-2 states that do not exist, alone and beside one that does; entries.
     assert_case(2, |case| case.final_two = 0b10000);
     assert_case(2, |case| case.final_two = 0b10001);
-    assert_case(2, |case| case.final_two = 1 << 15);
+    assert_case(2, |case| case.final_two = only(15));
     assert_case(2, |case| case.final_one = 0b100);
     assert_case(2, |case| case.final_one = 0b1010);
     assert_case(2, |case| {
@@ -111,10 +113,10 @@ fn final_controls_and_entries_are_not_refused() {
         for marks in 0..4 {
             let mut case = sound_case();
             case.final_two = final_two;
-            case.entries[0].is_final = marks & 1 != 0;
-            case.entries[1].is_final = marks & 2 != 0;
+            case.entries[0].is_final = has(marks, 0);
+            case.entries[1].is_final = has(marks, 1);
             assert_eq!(lent.judge(&encode_case(&case), &start), 0);
-            assert_eq!(u64::from(lent.answers[1]), final_two & 1);
+            assert_eq!(lent.answers[1], u16::from(has(final_two, 0)));
         }
     }
 }
@@ -186,7 +188,7 @@ fn moves_of_the_case() {
 /// "J and the file's entries together are at most 64."
 #[test]
 fn entries_of_the_case() {
-    let with_entries = |case: &mut Case, count: usize| {
+    let with_entries = |case: &mut Case, count: u8| {
         *case = Case {
             controls: 8,
             inner_two: 3,
@@ -197,8 +199,7 @@ fn entries_of_the_case() {
             moves: Vec::new(),
             ..sound_case()
         };
-        let all = (0..8).flat_map(|p| (0..8).map(move |set| FileEntry::plain(p, set << 8)));
-        case.entries = all.take(count).collect();
+        case.entries = (0..count).map(entry).collect();
     };
     assert_case(3, |case| with_entries(case, 49));
     let mut case = sound_case();

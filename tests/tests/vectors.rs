@@ -11,7 +11,7 @@ use second::requests::{Services, check_examples};
 use second::saturation::saturate;
 use second::services::GuideReply::{Arrived, CellsShort};
 use second::services::{
-    LISTING_ENTRIES, LISTING_MOVES, MOST_CELLS, guide, judge, listing, listing_answer,
+    self, LISTING_ENTRIES, LISTING_MOVES, MOST_CELLS, guide, judge, listing, listing_answer,
 };
 use second::stack::{after_rules, configuration};
 use second::start_file::decode_start;
@@ -30,6 +30,7 @@ fn every_vector() {
 #[test]
 fn every_example_of_the_requests() {
     check_examples(Services {
+        saturate: services::saturate,
         judge,
         guide,
         listing,

@@ -1,4 +1,3 @@
 pub mod Values
 pub mod Bounds
 pub mod Keys
-pub mod Laws

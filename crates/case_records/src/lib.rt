@@ -165,7 +165,7 @@ fn inner1(h: Head, s: u64) -> bool
     requires { ⌜ h .inner1 ≤ 16 ⌝ }
     ensures { λ r. ⌜ r ≡ Case.inner1 (theHead h) s ⌝ }
 {
-    s >> h.inner1 == 0
+    sets::all_below(s, h.inner1)
 }
 
 // The set names order-2 states that exist.
@@ -173,7 +173,7 @@ fn existing2(h: Head, s: u64) -> bool
     requires { ⌜ (h .controls ≤ 8) × (h .inner2 ≤ 8) ⌝ }
     ensures { λ r. ⌜ r ≡ Case.existing2 (theHead h) s ⌝ }
 {
-    s >> (h.controls + h.inner2) == 0
+    sets::all_below(s, h.controls + h.inner2)
 }
 
 // The set names inner order-2 states only.
@@ -181,10 +181,10 @@ fn inner2(h: Head, s: u64) -> bool
     requires { ⌜ (h .controls ≤ 8) × (h .inner2 ≤ 8) ⌝ }
     ensures { λ r. ⌜ r ≡ Case.inner2 (theHead h) s ⌝ }
 {
-    if s % sets::one_bit(h.controls) != 0 {
-        return false;
+    if sets::none_below(s, h.controls) {
+        return existing2(h, s);
     }
-    existing2(h, s)
+    false
 }
 
 // The numbers and the final sets are in range: the final order-2 set may name controls.

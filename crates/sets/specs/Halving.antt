@@ -1,4 +1,4 @@
--- The search for the least member of a set: the set is halved while it is even.
+-- The search for the least member of a set: the set is halved until 0 is a member of what is left.
 -- Assumes nothing.
 pub mod Laws
 use Prim.Native.Nat.{ℕ, _*_, _^_, _<_}

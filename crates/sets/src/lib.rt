@@ -1,23 +1,18 @@
 // Sets of states as words of 64 bits: state n is a member exactly if bit n of the word is 1.
 ghost use mathlib.Core.Path.{_≡_};
 ghost use mathlib.Core.List.{_∷_};
-ghost use Prim.Native.Nat.{_<_};
+ghost use Prim.Native.Nat.{_<_, _^_};
+ghost use lib.Dec.{ltb, leb};
+ghost use Rattle.words.specs.Lists.{every};
 ghost use Rattle.words.specs.Sets.{member, single, join, partOf, members};
 
-// The set whose only member is n.
+// The one-bit word of state n: 2 to the power n, for every n from 0 to 63. As a set, its only member is n.
 pub fn one_bit(n: u64) -> u64
     requires { ⌜ n < 64 ⌝ }
-    ensures { λ r. ⌜ r ≡ single n ⌝ }
+    ensures { λ r. ⌜ r ≡ 2 ^ n ⌝ }
+    ensures set { λ r. ⌜ r ≡ single n ⌝ }
 {
     1u64 << n
-}
-
-// Whether n is a member of s.
-pub fn has(s: u64, n: u64) -> bool
-    requires { ⌜ n < 64 ⌝ }
-    ensures { λ r. ⌜ r ≡ member s n ⌝ }
-{
-    (s >> n) % 2 == 1
 }
 
 // The set of all that is a member of a or of b.
@@ -34,6 +29,30 @@ pub fn part_of(a: u64, b: u64) -> bool
     join(a, b) == b
 }
 
+// Whether n is a member of s.
+pub fn has(s: u64, n: u64) -> bool
+    requires { ⌜ n < 64 ⌝ }
+    ensures { λ r. ⌜ r ≡ member s n ⌝ }
+{
+    part_of(one_bit(n), s)
+}
+
+// Whether every member of s is less than n.
+pub fn all_below(s: u64, n: u64) -> bool
+    requires { ⌜ n < 64 ⌝ }
+    ensures { λ r. ⌜ r ≡ every (λ m. ltb m n) (members s) ⌝ }
+{
+    s < one_bit(n)
+}
+
+// Whether no member of s is less than n.
+pub fn none_below(s: u64, n: u64) -> bool
+    requires { ⌜ n < 64 ⌝ }
+    ensures { λ r. ⌜ r ≡ every (λ m. leb n m) (members s) ⌝ }
+{
+    s % one_bit(n) == 0
+}
+
 // A member of a set, and the set of the others.
 pub struct Split {
     pub member: u64,
@@ -48,7 +67,8 @@ pub fn least_member(s: u64) -> Split
 {
     let mut q: u64 = 0;
     let mut x = s;
-    while x % 2 == 0 {
+    // x is what q halvings leave of s, so 0 is a member of x exactly if q is one of s.
+    while !has(x, 0) {
         x = x / 2;
         q += 1;
     }

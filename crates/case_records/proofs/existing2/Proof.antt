@@ -1,18 +1,19 @@
 -- `case_records::existing2` meets its contract.
 -- Assumes nothing.
-use Rattle.case_records.specs.Bounds.Laws.{existing2-is}
+use Rattle.files.specs.Case.{existing2}
 use borrow.Author.Needs.{needs}
 use Rattle.case_records.proofs.existing2.Statement.{statement}
 use Rattle.case_records.proofs.existing2.Tie as tie
 
-add-result : tie.Need-add-result
-add-result c = search needs
+add-all-below : tie.Need-add-all-below
+add-all-below c = search needs
 
-shr-result : tie.Need-shr-result
-shr-result c = search needs
+all-below-requires : tie.Need-all-below-requires
+all-below-requires c κs = search needs
 
 returns : tie.Need-returns
-returns c = rw existing2-is
+unfolding existing2
+returns c = c .all-below .ensures
 
 pub existing2-spec : {M : Type 1} → statement M
-existing2-spec = tie.close (tie.spec add-result shr-result returns)
+existing2-spec = tie.close (tie.spec add-all-below all-below-requires returns)

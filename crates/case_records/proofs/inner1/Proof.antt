@@ -1,16 +1,16 @@
 -- `case_records::inner1` meets its contract.
 -- Assumes nothing.
-use mathlib.Core.Path.{sym}
-use Rattle.case_records.specs.Bounds.Laws.{inner1-is}
+use Rattle.files.specs.Case.{inner1}
 use borrow.Author.Needs.{needs}
 use Rattle.case_records.proofs.inner1.Statement.{statement}
 use Rattle.case_records.proofs.inner1.Tie as tie
 
-shr-result : tie.Need-shr-result
-shr-result c = search needs
+all-below-requires : tie.Need-all-below-requires
+all-below-requires c κs = search needs
 
 returns : tie.Need-returns
-returns c = sym (inner1-is _ _)
+unfolding inner1
+returns c = c .all-below .ensures
 
 pub inner1-spec : {M : Type 1} → statement M
-inner1-spec = tie.close (tie.spec shr-result returns)
+inner1-spec = tie.close (tie.spec all-below-requires returns)

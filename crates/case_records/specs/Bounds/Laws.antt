@@ -1,28 +1,22 @@
 -- A record keeps its bounds exactly if each part does.
 -- Assumes nothing.
-use Prim.Native.Nat.{ℕ, zero, suc, _+_, _/_, _%_, _^_, _≤_}
+use Prim.Native.Nat.{ℕ, zero, suc, _+_, _≤_}
 use mathlib.Core.Bool.{false, _&&_}
 use mathlib.Core.Path.{_≡_, refl}
-use lib.Dec.{eqb, ltb, leb}
+use lib.Dec.{ltb, leb}
 use borrow.Author.Tests.{eq-eqb, ne-eqb}
 use native.Mathlib.Omega.{arith}
+use Rattle.words.specs.Sets.{members}
+use Rattle.words.specs.Lists.{every}
+use Rattle.words.specs.Lists.Laws.{every-both}
 use Rattle.files.specs.Case.{Head, inner1, inner2, existing2, RuleBytes, ruleRight, EdgeBytes, edgeRight, annotationRight}
-use Rattle.case_records.specs.Laws.Inner.{every-below, every-between}
 use Rattle.case_records.specs.Bounds.{operandRight, firstRight}
 
 -- ---- the tests by their parts
 
-pub inner1-is : (h : Head) (s : ℕ) → inner1 h s ≡ eqb (s / 2 ^ h .J) 0
-unfolding inner1
-inner1-is h s = every-below (h .J) s
-
-pub existing2-is : (h : Head) (s : ℕ) → existing2 h s ≡ eqb (s / 2 ^ (h .P + h .I)) 0
-unfolding existing2
-existing2-is h s = every-below (h .P + h .I) s
-
-pub inner2-is : (h : Head) (s : ℕ) → inner2 h s ≡ eqb (s % 2 ^ h .P) 0 && existing2 h s
-unfolding inner2
-inner2-is h s = rw existing2-is (every-between (h .P) (h .P + h .I) s)
+pub inner2-parts : (h : Head) (s : ℕ) → inner2 h s ≡ every (λ q. leb (h .P) q) (members s) && existing2 h s
+unfolding inner2 existing2
+inner2-parts h s = every-both (λ q. leb (h .P) q) (λ q. ltb q (h .P + h .I)) (members s)
 
 pub rule-parts : (h : Head) (x : RuleBytes)
     → ruleRight h x

@@ -9,7 +9,7 @@ one-bit-requires : tie.Need-one-bit-requires
 one-bit-requires c κs = c .before .before .before .before .before .pre (c .before .before .if1 .taken)
 
 returns : tie.Need-returns
-returns c = c .one-bit .ensures ∙ final-yes _ _ _ (c .before .before .before .if1 .taken) (c .before .if2 .taken)
+returns c = c .one-bit .ensures .1 ∙ final-yes _ _ _ (c .before .before .before .if1 .taken) (c .before .if2 .taken)
 
 returns-2 : tie.Need-returns-2
 returns-2 c = final-other _ _ _ (c .if2 .left)

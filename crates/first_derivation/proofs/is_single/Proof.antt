@@ -15,7 +15,7 @@ one-bit-requires : tie.Need-one-bit-requires
 one-bit-requires c κs = search needs
 
 returns-2 : tie.Need-returns-2
-returns-2 c = ap (λ (k : ℕ). eqb k (c .before .before .args .s)) (c .one-bit .ensures)
+returns-2 c = ap (λ (k : ℕ). eqb k (c .before .before .args .s)) (c .one-bit .ensures .1)
 
 pub is-single-spec : {M : Type 1} → statement M
 is-single-spec = tie.close (tie.spec returns one-bit-requires returns-2)

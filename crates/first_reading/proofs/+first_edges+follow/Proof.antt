@@ -426,7 +426,7 @@ follow-returns-3 : (t : ℕ) → follow-lts.Need-returns-3 (
   first-edges-below t,
   first-edges.Post,
 ) (follow-at t) follow.Post
-follow-returns-3 t c = followed-yes _ _ _ _ _ _ _ _ _ _ _ _ _ (c .before .before .before .before .before .before .before .before .before .before .before .before .before .before .before .edge-of .ensures .0) (c .before .before .before .before .before .before .before .before .before .before .before .before .before .if1 .left) (c .before .before .before .before .before .before .before .before .before .one-bit .ensures) (c .before .before .before .before .before .before .before .before .join2 .ensures) (c .before .before .before .before .before .before .before .before .before .before .before .before .join .ensures) (answers-is (c .if3 .taken) (c .before .before .before .before .before .first-edges .ensures))
+follow-returns-3 t c = followed-yes _ _ _ _ _ _ _ _ _ _ _ _ _ (c .before .before .before .before .before .before .before .before .before .before .before .before .before .before .before .edge-of .ensures .0) (c .before .before .before .before .before .before .before .before .before .before .before .before .before .if1 .left) (c .before .before .before .before .before .before .before .before .before .one-bit .ensures .1) (c .before .before .before .before .before .before .before .before .join2 .ensures) (c .before .before .before .before .before .before .before .before .before .before .before .before .join .ensures) (answers-is (c .if3 .taken) (c .before .before .before .before .before .first-edges .ensures))
 
 follow-same-length-3 : (t : ℕ) → follow-lts.Need-same-length-3 (
   edge-of-reads.Asked,
@@ -468,7 +468,7 @@ follow-returns-4 : (t : ℕ) → follow-lts.Need-returns-4 (
   first-edges-below t,
   first-edges.Post,
 ) (follow-at t) follow.Post
-follow-returns-4 t c = followed-no _ _ _ _ _ _ _ _ _ _ _ _ _ (c .before .before .before .before .before .before .before .before .before .before .before .before .before .before .before .edge-of .ensures .0) (c .before .before .before .before .before .before .before .before .before .before .before .before .before .if1 .left) (c .before .before .before .before .before .before .before .before .before .one-bit .ensures) (c .before .before .before .before .before .before .before .before .join2 .ensures) (c .before .before .before .before .before .before .before .before .before .before .before .before .join .ensures) (answers-is (c .if3 .left) (c .before .before .before .before .before .first-edges .ensures))
+follow-returns-4 t c = followed-no _ _ _ _ _ _ _ _ _ _ _ _ _ (c .before .before .before .before .before .before .before .before .before .before .before .before .before .before .before .edge-of .ensures .0) (c .before .before .before .before .before .before .before .before .before .before .before .before .before .if1 .left) (c .before .before .before .before .before .before .before .before .before .one-bit .ensures .1) (c .before .before .before .before .before .before .before .before .join2 .ensures) (c .before .before .before .before .before .before .before .before .before .before .before .before .join .ensures) (answers-is (c .if3 .left) (c .before .before .before .before .before .first-edges .ensures))
 
 pub +first-edges+follow-spec : {M : Type 1} → statement M
 +first-edges+follow-spec = close μ-first-edges μ-follow (λ t. first-edges-lts.spec (

@@ -111,7 +111,7 @@ read-choices-loop-less t c = search needs
 
 read-choices-loop-again : (t : ℕ) → read-choices-lts.Need-loop-again (read-choices-claims t) (read-choices-at t) read-choices.Post read-choices-Inv-loop read-choices-μ-loop
 read-choices-loop-again t c = ⊎-elim
-    (λ w. (omega (arith, (c .before .before .before .before .loop-test .taken)), edges-yes (c .before .before .before .before .before .before .before .before .before .before .before .before .args .z) _ _ _ _ _ _ _ _ _ _ _ _ _ _ _ _ _ (c .before .before .before .before .before .loop .inv .1) (c .before .before .before .before .loop-test .taken) (c .before .before .before .edge-of .ensures .0) _ _ _ _ _ _ _ (w .0 .taken) (w .1 .ensures) (w .2 .ensures) (w .3 .ensures) (w .6 .ensures .0) (w .6 .kept .1 .1 .1 .1 .1 .1 .1 .1 .1 .1 .0) (w .12) (w .13), ap length (w .12) ∙ (w .6 .kept .1 .1 .1 .1 .1 .1 .1 .1 .1 .1 .0) ∙ (c .before .before .before .before .before .loop .inv .2), memo-same (w .6 .ensures .1) (w .11) (w .12) (w .13), ap length (w .11) ∙ (w .6 .kept .1 .1 .1 .1 .1 .1 .1 .1 .1 .0) ∙ (c .before .before .before .before .before .loop .inv .4)))
+    (λ w. (omega (arith, (c .before .before .before .before .loop-test .taken)), edges-yes (c .before .before .before .before .before .before .before .before .before .before .before .before .args .z) _ _ _ _ _ _ _ _ _ _ _ _ _ _ _ _ _ (c .before .before .before .before .before .loop .inv .1) (c .before .before .before .before .loop-test .taken) (c .before .before .before .edge-of .ensures .0) _ _ _ _ _ _ _ (w .0 .taken) (w .1 .ensures .1) (w .2 .ensures) (w .3 .ensures) (w .6 .ensures .0) (w .6 .kept .1 .1 .1 .1 .1 .1 .1 .1 .1 .1 .0) (w .12) (w .13), ap length (w .12) ∙ (w .6 .kept .1 .1 .1 .1 .1 .1 .1 .1 .1 .1 .0) ∙ (c .before .before .before .before .before .loop .inv .2), memo-same (w .6 .ensures .1) (w .11) (w .12) (w .13), ap length (w .11) ∙ (w .6 .kept .1 .1 .1 .1 .1 .1 .1 .1 .1 .0) ∙ (c .before .before .before .before .before .loop .inv .4)))
     (λ w. (omega (arith, (c .before .before .before .before .loop-test .taken)), edges-no (c .before .before .before .before .before .before .before .before .before .before .before .before .args .z) _ _ _ _ _ _ _ _ _ _ _ _ _ _ _ _ _ (c .before .before .before .before .before .loop .inv .1) (c .before .before .before .before .loop-test .taken) (c .before .before .before .edge-of .ensures .0) _ _ (w .0 .left) (w .2) (w .3), ap length (w .2) ∙ (c .before .before .before .before .before .loop .inv .2), memo-same (c .before .before .before .before .before .loop .inv .3) (w .1) (w .2) (w .3), ap length (w .1) ∙ (c .before .before .before .before .before .loop .inv .4)))
     (c .if1 .came)
 

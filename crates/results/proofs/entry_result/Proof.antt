@@ -23,10 +23,10 @@ result-requires-2 : tie.Need-result-requires-2
 result-requires-2 c κs = search needs
 
 returns : tie.Need-returns
-returns c = ap asResult (c .result .ensures) ∙ is-popped _ _ _ _ _ _ (c .before .enum-told .given .1) (c .before .before .before .one-bit .ensures)
+returns c = ap asResult (c .result .ensures) ∙ is-popped _ _ _ _ _ _ (c .before .enum-told .given .1) (c .before .before .before .one-bit .ensures .1)
 
 returns-2 : tie.Need-returns-2
-returns-2 c = ap asResult (c .result2 .ensures) ∙ is-collapsed _ _ _ _ _ _ (c .before .enum-told2 .given .1) (c .before .before .before .one-bit .ensures)
+returns-2 c = ap asResult (c .result2 .ensures) ∙ is-collapsed _ _ _ _ _ _ (c .before .enum-told2 .given .1) (c .before .before .before .one-bit .ensures .1)
 
 pub entry-result-spec : {M : Type 1} → statement M
 entry-result-spec =

@@ -60,14 +60,14 @@ unfolding useOf
 returns-5 c = use-is _ _ _ _ _ (c .enum-told2 .given .1)
 
 returns-6 : tie.Need-returns-6
-returns-6 c = use-pop2 _ _ _ _ _ _ (c .before .enum-told3 .given .1) (c .before .before .before .one-bit .ensures) (c .result .ensures)
+returns-6 c = use-pop2 _ _ _ _ _ _ (c .before .enum-told3 .given .1) (c .before .before .before .one-bit .ensures .1) (c .result .ensures)
 
 returns-7 : tie.Need-returns-7
 unfolding useOf
 returns-7 c = use-is _ _ _ _ _ (c .enum-told4 .given .1)
 
 returns-8 : tie.Need-returns-8
-returns-8 c = use-collapse2 _ _ _ _ _ _ (c .before .enum-told5 .given .1) (c .before .before .before .one-bit .ensures) (c .result2 .ensures)
+returns-8 c = use-collapse2 _ _ _ _ _ _ (c .before .enum-told5 .given .1) (c .before .before .before .one-bit .ensures .1) (c .result2 .ensures)
 
 pub use-of-spec : {M : Type 1} → statement M
 use-of-spec =

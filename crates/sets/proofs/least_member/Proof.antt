@@ -1,8 +1,9 @@
 -- `sets::least_member` meets its contract.
 -- Assumes nothing.
-use mathlib.Core.Path.{sym}
+use mathlib.Core.Path.{sym, _∙_}
 use native.Mathlib.Nat.{mul-one}
 use native.Mathlib.Omega.{arith}
+use borrow.Author.Tests.{not-true, not-false}
 use borrow.Author.Needs.{needs}
 use Rattle.sets.specs.Halving.{Halved}
 use Rattle.sets.specs.Halving.Laws.{halved-more, bit-below, least-found}
@@ -18,6 +19,9 @@ abbrev μ-loop : tie.MeasureT-loop
 loop-holds : tie.Need-loop-holds Inv-loop μ-loop
 loop-holds c = record { is = sym (mul-one _); some-left = search needs; place = search needs }
 
+has-requires : tie.Need-has-requires Inv-loop μ-loop
+has-requires c κs = search needs
+
 add-q : tie.Need-add-q Inv-loop μ-loop
 add-q c = search needs
 
@@ -25,16 +29,19 @@ loop-less : tie.Need-loop-less Inv-loop μ-loop
 loop-less c = search needs
 
 loop-again : tie.Need-loop-again Inv-loop μ-loop
-loop-again c = halved-more _ _ _ (c .before .loop .inv) (c .loop-test .taken) (omega arith)
+loop-again c = halved-more _ _ _ (c .before .before .loop .inv) (sym (c .before .has .ensures) ∙ not-true _ (c .if1 .taken)) (omega arith)
 
 one-bit-requires : tie.Need-one-bit-requires Inv-loop μ-loop
 one-bit-requires c κs = search needs
 
 sub-t7 : tie.Need-sub-t7 Inv-loop μ-loop
-sub-t7 c = bit-below _ _ _ _ (c .before .before .loop .inv) (c .one-bit .ensures)
+sub-t7 c = bit-below _ _ _ _ (c .before .before .before .loop .inv) (c .one-bit .ensures .0)
 
 returns : tie.Need-returns Inv-loop μ-loop
-returns c = (least-found _ _ _ _ (c .before .before .loop .inv) (omega arith) (c .one-bit .ensures), search needs)
+returns c = (
+  least-found _ _ _ _ (c .before .before .before .loop .inv) (sym (c .before .before .has .ensures) ∙ not-false _ (c .before .if1 .left)) (c .one-bit .ensures .0),
+  search needs,
+)
 
 pub least-member-spec : {M : Type 1} → statement M
 least-member-spec =
@@ -43,6 +50,7 @@ least-member-spec =
     Inv-loop
     μ-loop
     loop-holds
+    has-requires
     add-q
     loop-less
     loop-again

@@ -15,7 +15,7 @@ use lib.Dec.{ltb}
 use borrow.Author.Tests.{ltb-true, ltb-false}
 use Rattle.words.specs.Order.{rising, risingFrom}
 use Rattle.words.specs.Order.Laws.{less-one, risingFrom-cons}
-use Rattle.words.specs.Laws.Tests.{by-test, and-left, and-right}
+use Rattle.words.specs.Laws.Tests.{by-test, and-left, and-right, equal-tests}
 use Rattle.words.specs.Lists.{zeros, each, when, only, every, some-of, first, placesFrom, places}
 
 -- ---- zeros
@@ -159,6 +159,15 @@ module _ {A : Type 0} where
   unfolding every
   in-every test [] h = refl
   in-every test (x ∷ xs) h = every-cons test x xs ∙ ap₂ _&&_ (h x (List·Memᴰ·head refl)) (in-every test xs (λ y i. h y (List·Memᴰ·tail i)))
+
+  pub every-both : (f g : A → Bool) (xs : List A) → every (λ x. f x && g x) xs ≡ every f xs && every g xs
+  every-both f g xs = equal-tests _ _
+      (λ t. ap₂ _&&_
+      (in-every f xs (λ x i. and-left (f x) (g x) (every-in (λ (y : A). f y && g y) t i)))
+      (in-every g xs (λ x i. and-right (f x) (g x) (every-in (λ (y : A). f y && g y) t i))))
+      (λ t. in-every _ xs (λ x i. ap₂ _&&_
+      (every-in f (and-left (every f xs) (every g xs) t) i)
+      (every-in g (and-right (every f xs) (every g xs) t) i)))
 
   pub some-of-in : (test : A → Bool) {l : List A} {x : A} → List·Memᴰ x l → test x ≡ true → some-of test l ≡ true
   some-of-in test (List·Memᴰ·head {x = z} {xs = zs} e) h = some-of-cons test z zs ∙ ap (λ (t : Bool). t || some-of test zs) (sym (ap test e) ∙ h)

@@ -12,7 +12,7 @@ use lib.Arith.{bin-ind}
 use lib.Bits.{bitOr, digits, or-shr, or-step, shifted-half, shifted-even}
 use lib.Pow.{pow-mono, pow-lt}
 use borrow.Author.Tests.{eqb-true, eq-eqb}
-use Rattle.words.specs.Laws.Tests.{or-cases}
+use Rattle.words.specs.Laws.Tests.{or-cases, equal-tests}
 use Rattle.words.specs.Order.{rising, risingFrom}
 use Rattle.words.specs.Order.Laws.{less-one, risingFrom-cons}
 use Rattle.words.specs.Sets.{member, single, joinBits, join, partOf, membersFrom, members}
@@ -133,10 +133,9 @@ join-empty-right a = join-comm a 0 ∙ join-empty-left a
 
 -- ---- words of a width
 
--- the machine's `1 << n`
-pub single-shift : (w n : ℕ) → n < w → 1 * 2 ^ n % 2 ^ w ≡ single n
-unfolding single
-single-shift w n h = ap (λ (k : ℕ). k % 2 ^ w) (one-mul (2 ^ n)) ∙ mod-eq-of-lt (pow-lt h)
+-- the machine's `1 << n`, where words have w bits
+pub one-shifted : (w n : ℕ) → n < w → 1 * 2 ^ n % 2 ^ w ≡ 2 ^ n
+one-shifted w n h = ap (λ (k : ℕ). k % 2 ^ w) (one-mul (2 ^ n)) ∙ mod-eq-of-lt (pow-lt h)
 
 pub member-below : (w s n : ℕ) → s < 2 ^ w → member s n ≡ true → n < w
 unfolding member
@@ -223,6 +222,12 @@ pub has-part : {a b : ℕ} → All a (Has b) → partOf a b ≡ true
 unfolding partOf
 has-part {a} {b} f = eq-eqb (join a b) b (ext-all (join a b) b λ n.
     member-join a b n ∙ same-members (member a n) (member b n) (λ e. f n (record { has = e }) .has))
+
+-- n is a member of s exactly if the set whose only member is n is a part of s
+pub single-part : (s n : ℕ) → partOf (single n) s ≡ member s n
+single-part s n = equal-tests _ _
+    (λ e. part-has (single n) s e n (has-single n) .has)
+    (λ e. has-part (all-single (Has s) n (record { has = e })))
 
 pub part-join : (a b : ℕ) → partOf a b ≡ true → join a b ≡ b
 unfolding partOf

@@ -1,0 +1,3 @@
+-- Laws about definitions of the crate below.
+-- Assumes nothing.
+pub mod Bounds
