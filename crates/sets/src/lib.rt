@@ -6,7 +6,7 @@ ghost use lib.Dec.{ltb, leb};
 ghost use Rattle.words.specs.Lists.{every};
 ghost use Rattle.words.specs.Sets.{member, single, join, partOf, members};
 
-// The one-bit word of state n: 2 to the power n, for every n from 0 to 63. As a set, its only member is n.
+// The one-bit word of state n, by a shift: 2 to the power n, for every n from 0 to 63 (document 02, 4). As a set, its only member is n.
 pub fn one_bit(n: u64) -> u64
     requires { ⌜ n < 64 ⌝ }
     ensures { λ r. ⌜ r ≡ 2 ^ n ⌝ }

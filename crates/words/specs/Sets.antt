@@ -11,7 +11,7 @@ use lib.Dec.{eqb}
 unfoldable pub member : ℕ → ℕ → Bool
 member s n = eqb (s / 2 ^ n % 2) 1
 
--- the set whose only member is n
+-- the set whose only member is n: the one-bit word of n
 unfoldable pub single : ℕ → ℕ
 single n = 2 ^ n
 
