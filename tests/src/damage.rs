@@ -1,6 +1,8 @@
 //! Damaged copies of a file: cuts, changed bytes, wrong numbers in the contents
 //! table, sections that change places.
 
+use crate::sets::only;
+
 /// The parts of a contents line, as (first byte, length) from the line's start.
 const COUNT: (usize, usize) = (2, 2);
 const OFFSET: (usize, usize) = (4, 4);
@@ -15,6 +17,15 @@ pub fn changed(file: &[u8], at: usize, value: u8) -> Vec<u8> {
     let mut copy = file.to_vec();
     copy[at] = value;
     copy
+}
+
+/// Other values of a byte: one higher and one lower, 0, 255, and those with one bit
+/// changed.
+pub fn values_near(byte: u8) -> Vec<u8> {
+    let mut values = vec![byte.wrapping_add(1), byte.wrapping_sub(1), 0, 255];
+    values.extend((0..8).map(|bit| byte ^ only(bit) as u8));
+    values.retain(|&value| value != byte);
+    values
 }
 
 /// The file with one byte after its end.

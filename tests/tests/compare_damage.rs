@@ -5,6 +5,7 @@ use std::collections::BTreeMap;
 use second::compare::Both;
 use second::damage::{
     bodies_swapped, changed, counts_off_by_one, cuts, lines_swapped, longer, offsets_off_by_one,
+    values_near,
 };
 use second::damage_finals::{KINDS, changed_finals};
 use second::generate::{Pair, pair};
@@ -149,11 +150,6 @@ fn changed_finals_of_cases() {
     println!("{kinds:?}");
     assert!(kinds.rarest(KINDS) >= 50, "{kinds:?}");
     calls.assert_replayed(&[0, 2, 3, 4, 260]);
-}
-
-fn values_near(byte: u8) -> [u8; 7] {
-    let (above, below) = (byte.wrapping_add(1), byte.wrapping_sub(1));
-    [above, below, byte ^ 0x80, byte ^ 0x10, byte ^ 4, 0, 255]
 }
 
 /// Several bytes changed at once, among them small values that stay in range.

@@ -3,6 +3,7 @@
 
 use second::damage::{
     bodies_swapped, changed, counts_off_by_one, cuts, lines_swapped, longer, offsets_off_by_one,
+    values_near,
 };
 use second::damage_finals::{KINDS, changed_finals};
 use second::encode::{encode_case, encode_start};
@@ -174,19 +175,6 @@ fn every_byte_changed() {
             }
         }
     }
-}
-
-fn values_near(byte: u8) -> Vec<u8> {
-    let mut values = vec![
-        byte.wrapping_add(1),
-        byte.wrapping_sub(1),
-        byte ^ 0x80,
-        0,
-        255,
-    ];
-    values.extend((0..8).map(|bit| byte ^ (1 << bit)));
-    values.retain(|&value| value != byte);
-    values
 }
 
 /// A changed file is refused, or it is the file of what it was read as.
