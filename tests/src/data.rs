@@ -4,6 +4,10 @@
 use std::fs;
 use std::path::{Path, PathBuf};
 
+use crate::encode::encode_start;
+use crate::file::{Cell, StartFile};
+use crate::sound::{pair, start, symbol};
+
 /// The path of a file or folder of `tests/data`.
 pub fn data(name: &str) -> PathBuf {
     Path::new(env!("CARGO_MANIFEST_DIR"))
@@ -17,7 +21,7 @@ pub fn bytes(name: &str) -> Vec<u8> {
     fs::read(&path).unwrap_or_else(|error| panic!("{}: {error}", path.display()))
 }
 
-/// A line of vectors.txt, or a larger file with its listing.
+/// A line of vectors.txt.
 pub struct Vector {
     pub name: String,
     pub case: Vec<u8>,
@@ -40,26 +44,48 @@ pub fn vectors() -> Vec<Vector> {
     text.lines().map(vector).collect()
 }
 
-/// The larger files that came with starts and a listing.
-pub fn larger_files() -> Vec<Vector> {
-    let names = [
-        "copy-1008338",
-        "copy-1031611",
-        "deep-1002280",
-        "large-880",
-        "mid-1013239",
-        "mid-1021568",
-    ];
-    let vector = |name: &str| {
-        let file = |part: &str| bytes(&format!("bench/{name}/{part}"));
-        Vector {
+/// A folder of `tests/data/bench`.
+pub struct Larger {
+    pub name: String,
+    pub case: Vec<u8>,
+    /// The starts that came with the case, or the one that it is given.
+    pub start: Vec<u8>,
+    /// The listing, of a case that came with one.
+    pub printed: Option<String>,
+}
+
+impl Larger {
+    /// The folder of this name.
+    pub fn named(name: &str) -> Larger {
+        let file = |part: &str| format!("bench/{name}/{part}");
+        let found = |part: &str| data(&file(part)).exists().then(|| bytes(&file(part)));
+        let text = |printed| String::from_utf8(printed).expect("text");
+        Larger {
             name: name.to_string(),
-            case: file("case.bin"),
-            start: file("start.bin"),
-            printed: String::from_utf8(file("expected.txt")).expect("text"),
+            case: bytes(&file("case.bin")),
+            start: found("start.bin").unwrap_or_else(one_start),
+            printed: found("expected.txt").map(text),
         }
-    };
-    names.map(vector).into()
+    }
+}
+
+/// The folders of `tests/data/bench`, by name.
+pub fn larger_files() -> Vec<Larger> {
+    let folders = fs::read_dir(data("bench")).expect("the folder tests/data/bench");
+    let name = |folder: fs::DirEntry| folder.file_name().to_string_lossy().into_owned();
+    let names = folders.map(|folder| name(folder.expect("a folder")));
+    let mut names: Vec<String> = names.collect();
+    names.sort();
+    names.iter().map(|name| Larger::named(name)).collect()
+}
+
+/// A start file for a case that came without one: [[0]] from control 0, the symbol
+/// annotated by the empty order-1 stack.
+pub fn one_start() -> Vec<u8> {
+    encode_start(&StartFile {
+        starts: vec![start(0, 3)],
+        cells: vec![Cell::EmptyOne, Cell::EmptyTwo, symbol(0, 0, 0), pair(2, 1)],
+    })
 }
 
 /// A listing in document 01's form, and the round of each start marked yes,

@@ -15,7 +15,7 @@ pub type Refusal = u64;
 pub const ORDER_ONE_STATES: usize = 64;
 
 /// A rule (p, a, operation, b, p').
-#[derive(Clone, Copy, Debug, PartialEq, Eq)]
+#[derive(Clone, Copy, Debug, PartialEq, Eq, Hash)]
 pub struct Rule {
     pub from: u8,
     pub symbol: u8,

@@ -60,7 +60,7 @@ pub struct Reading {
 }
 
 /// What a line chooses before its reading.
-#[derive(Clone, Copy, Debug, PartialEq, Eq)]
+#[derive(Clone, Copy, Debug, PartialEq, Eq, Hash)]
 pub enum First {
     /// Lines 6 and 8.
     Nothing,

@@ -2,6 +2,7 @@
 //! nested stacks, cells counted, the guide's answer by document 01's sentence,
 //! replay's by document 02's.
 
+use crate::gather::gathered;
 use crate::generate::{Pair, pair};
 use crate::lent::Lent;
 use crate::random::seeds;
@@ -25,6 +26,11 @@ pub fn pairs(count: u64) -> impl Iterator<Item = (String, Pair)> {
 /// Generated pairs whose starts are won in many rounds, for many reasons.
 pub fn late_pairs() -> impl Iterator<Item = (String, Pair)> {
     seeds(350).map(|seed| (format!("late {seed}"), pair(seed, &LATE)))
+}
+
+/// Generated pairs whose rounds read sets of several entries.
+pub fn gathered_pairs(count: u64) -> impl Iterator<Item = (String, Pair)> {
+    seeds(count).map(|seed| (format!("gathered {seed}"), gathered(seed)))
 }
 
 impl Pair {

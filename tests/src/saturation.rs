@@ -57,12 +57,18 @@ fn new_results(case: &Case, table: &Table, most: usize) -> Option<BTreeSet<Found
         seen: HashSet::new(),
         found: BTreeSet::new(),
     };
-    for rule in &case.rules {
+    for rule in without_repeats(&case.rules) {
         for (_, reading) in first_choices(rule, table.whole()) {
             round.read(rule, reading)?;
         }
     }
     Some(round.found)
+}
+
+/// "Repeats are allowed": a rule that repeats another gives the same results.
+fn without_repeats(rules: &[Rule]) -> Vec<&Rule> {
+    let mut met = HashSet::new();
+    rules.iter().filter(|&rule| met.insert(rule)).collect()
 }
 
 /// "New entries are numbered by (p, S)." False if there are more than `most`.

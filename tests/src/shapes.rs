@@ -164,6 +164,22 @@ pub const LATE: Shape = Shape {
     ..SMALL
 };
 
+/// The numbers of the pairs that `src/gather.rs` makes; their rules are not chosen
+/// by the shape.
+pub const GATHERED: Shape = Shape {
+    name: "gathered",
+    controls: 8,
+    inner_two: 0,
+    inner_one: 3,
+    symbols: 9,
+    moves: 4,
+    members: 40,
+    finished: 10,
+    starts: 32,
+    cells: 60,
+    ..SMALL
+};
+
 /// Files near the limits of document 01, with runs to a planted target. It is no
 /// part of `SHAPES`: a pair takes longer.
 pub const WIDE: Shape = Shape {

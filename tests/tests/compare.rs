@@ -5,7 +5,7 @@
 use second::compare::Both;
 use second::generate::{Pair, pair};
 use second::lent::Lent;
-use second::pairs::{Searched, late_pairs, pairs};
+use second::pairs::{Searched, gathered_pairs, late_pairs, pairs};
 use second::proved;
 use second::random::{Random, seeds};
 use second::search::Bounds;
@@ -26,39 +26,69 @@ fn rounds(both: &mut Both, pair: &Pair) -> Option<Vec<Option<usize>>> {
     (code == 0).then(|| both.lent.rounds(pair.start.starts.len()))
 }
 
-/// Saturate, judge and guide on every pair. What the guide answers is checked on
-/// nested stacks. Each operation and each kind of answer occurs.
-#[test]
-fn generated_files() {
-    let mut both = ample();
-    let (mut taken, mut too_large, mut no_run) = ([0; 9], 0, 0);
-    for (name, pair) in pairs(250) {
+/// What was met on pairs.
+#[derive(Debug, Default)]
+struct Met {
+    /// Steps of runs by code.
+    taken: [usize; 9],
+    too_large: usize,
+    yes: usize,
+    no: usize,
+}
+
+impl Met {
+    /// Saturate, judge and guide on a pair. What the guide answers is checked on
+    /// nested stacks.
+    fn compare(&mut self, both: &mut Both, pair: &Pair, name: &str) {
         both.saturate(&pair.case_file);
-        let Some(rounds) = rounds(&mut both, &pair) else {
+        let Some(rounds) = rounds(both, pair) else {
             assert_eq!(both.guide(&pair.case_file, &pair.start_file, 0), Refused(9));
-            too_large += 1;
-            continue;
+            self.too_large += 1;
+            return;
         };
         for (number, round) in rounds.iter().enumerate() {
             let reply = both.guide(&pair.case_file, &pair.start_file, number as u64);
             assert_eq!(reply != NoRun, round.is_some(), "{name} start {number}");
             if round.is_none() {
-                no_run += 1;
+                self.no += 1;
                 continue;
             }
-            pair.check_run(number, reply, &both.lent.trace, &name);
+            self.yes += 1;
+            pair.check_run(number, reply, &both.lent.trace, name);
             for &rule in &both.lent.trace[..reply.steps()] {
-                taken[usize::from(pair.case.rules[usize::from(rule)].code)] += 1;
+                self.taken[usize::from(pair.case.rules[usize::from(rule)].code)] += 1;
             }
         }
         let after = rounds.len() as u64;
         let reply = both.guide(&pair.case_file, &pair.start_file, after);
         assert_eq!(reply, Refused(7), "{name}");
     }
-    println!("steps by code 1 to 8: {:?}", &taken[1..]);
-    println!("{too_large} tables too large, {no_run} starts marked no");
-    assert!(taken[1..].iter().all(|&steps| steps >= 20), "{taken:?}");
-    assert!(too_large >= 5 && no_run >= 500);
+}
+
+/// Each operation and each kind of answer occurs.
+#[test]
+fn generated_files() {
+    let mut both = ample();
+    let mut met = Met::default();
+    for (name, pair) in pairs(250) {
+        met.compare(&mut both, &pair, &name);
+    }
+    println!("{met:?}");
+    assert!(met.taken[1..].iter().all(|&steps| steps >= 20));
+    assert!(met.too_large >= 5 && met.no >= 500);
+}
+
+/// Rounds that read sets of several entries.
+#[test]
+fn gathered_files() {
+    let mut both = ample();
+    let mut met = Met::default();
+    for (name, pair) in gathered_pairs(250) {
+        met.compare(&mut both, &pair, &name);
+    }
+    println!("{met:?}");
+    assert!(met.taken[1..5].iter().all(|&steps| steps >= 20));
+    assert!(met.yes >= 200 && met.no >= 200);
 }
 
 /// Judge and the listing on starts won in many rounds.
@@ -126,7 +156,7 @@ fn marks_agree_with_the_search() {
     };
     let mut both = ample();
     let mut searched = Searched::default();
-    for (name, pair) in pairs(120) {
+    for (name, pair) in pairs(120).chain(gathered_pairs(60)) {
         let Some(rounds) = rounds(&mut both, &pair) else {
             continue;
         };

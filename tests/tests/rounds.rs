@@ -5,12 +5,10 @@ use std::collections::BTreeSet;
 
 use second::derivation::{Derivation, first_derivation};
 use second::file::{Case, Edge, Entry, Move, Rule};
-use second::generate::pair;
 use second::lines::First;
-use second::random::seeds;
+use second::pairs::{gathered_pairs, pairs};
 use second::saturation::saturate;
 use second::sets::{Set, has, members, only};
-use second::shapes::SHAPES;
 use second::table::{Size, Table};
 
 /// Tables above these sizes are left to the other tests.
@@ -325,22 +323,17 @@ fn derivations_agree(case: &Case, table: &Table, name: &str) -> usize {
 
 #[test]
 fn rounds_and_derivations_agree_with_the_literal_reading() {
-    let seeds = seeds(300);
     let (mut tables, mut left_out, mut derived, mut joined) = (0, 0, 0, 0);
-    for shape in &SHAPES {
-        for seed in seeds.clone() {
-            let name = format!("{} {seed}", shape.name);
-            let case = pair(seed, shape).case;
-            let Some(table) = saturate(&case, SMALL) else {
-                continue;
-            };
-            if rounds_agree(&case, &table, &name) {
-                tables += 1;
-                derived += derivations_agree(&case, &table, &name);
-                joined += several_members(&case, &table);
-            } else {
-                left_out += 1;
-            }
+    for (name, pair) in pairs(300).chain(gathered_pairs(300)) {
+        let Some(table) = saturate(&pair.case, SMALL) else {
+            continue;
+        };
+        if rounds_agree(&pair.case, &table, &name) {
+            tables += 1;
+            derived += derivations_agree(&pair.case, &table, &name);
+            joined += several_members(&pair.case, &table);
+        } else {
+            left_out += 1;
         }
     }
     println!("{tables} tables, {left_out} left out, {derived} derivations");

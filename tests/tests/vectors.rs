@@ -2,7 +2,7 @@
 //! of document 02's requests.
 
 use second::automaton::accepts;
-use second::data::{Vector, bytes, larger_files, vectors, without_rounds};
+use second::data::{Vector, bytes, larger_files, one_start, vectors, without_rounds};
 use second::file::decode_case;
 use second::lent::{Lent, replayed};
 use second::replay::ReplayReply::{Accepted, Refused};
@@ -106,13 +106,33 @@ fn more_cells_than_count() {
 
 #[test]
 fn every_larger_file_with_an_expected_listing() {
+    let mut listed = 0;
     for file in larger_files() {
-        let (printed, _) = without_rounds(&listing(&file.case, &file.start));
-        assert_eq!(printed, file.printed, "{}", file.name);
+        if let Some(expected) = file.printed {
+            let (printed, _) = without_rounds(&listing(&file.case, &file.start));
+            assert_eq!(printed, expected, "{}", file.name);
+            listed += 1;
+        }
     }
+    assert_eq!(listed, 6);
 }
 
-/// The table sizes that the vectors' README gives: moves, entries, rounds.
+/// The start that a case without starts is given is the one of these files.
+#[test]
+fn the_start_given() {
+    assert_eq!(one_start(), bytes("bench/dead-10/start.bin"));
+}
+
+/// The table sizes of the larger files: moves, entries, rounds. The vectors' README
+/// gives those of the first eleven; the others follow from their records.
+///
+/// - dead-10: a push whose set has a member without a move gives no result.
+/// - flat: a chain of 40 rules adds a move a round, by a push that 13 inner states
+///   let begin anew 12 times, to an entry of the file and to a new one.
+/// - guide-12-4: a push whose members have the rest sets that two states make up,
+///   each of the four, beside a third state, and a push of an annotation.
+/// - swallow-10, thrash-12: a push whose last member has one move, and the sets of
+///   that move hold those of all others.
 #[test]
 fn every_larger_table() {
     let sizes = [
@@ -127,14 +147,23 @@ fn every_larger_table() {
         ("mid-1021568", 801, 22, 9),
         ("power-2", 69, 1, 1),
         ("power-5", 545, 1, 1),
+        ("dead-10", 41, 1, 0),
+        ("flat", 493 + 13 * 40 - 1, 3, 13 * 40 - 1),
+        ("guide-12-4", 51 + 4 + 1, 1, 1),
+        ("swallow-10", 42 + 1, 1, 1),
+        ("thrash-12", 182 + 1, 1, 1),
     ];
     let lent = Size {
         moves: LISTING_MOVES,
         entries: LISTING_ENTRIES,
     };
-    for (name, moves, entries, rounds) in sizes {
-        let file = bytes(&format!("bench/{name}/case.bin"));
-        let case = decode_case(&file).expect("a sound case");
+    let files = larger_files();
+    assert_eq!(files.len(), sizes.len());
+    for file in files {
+        let name = &file.name;
+        let expected = sizes.iter().find(|size| size.0 == name);
+        let &(_, moves, entries, rounds) = expected.expect(name);
+        let case = decode_case(&file.case).expect("a sound case");
         let table = saturate(&case, lent).expect("a table that fits");
         let size = (table.moves().len(), table.entries().len());
         assert_eq!(size, (moves, entries), "{name}");

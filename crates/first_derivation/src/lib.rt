@@ -56,7 +56,7 @@ fn by_push(
     requires { ⌜ (n * 5 ≤ length (now moves)) × (n ≤ 1024) × (length (now chosen) ≡ 64) ⌝ }
     ensures { λ t. ⌜ Answer (pushed (movesIn n (now (moves .entry))) a (asResult x) k s r (asMove m)) (readsMoves (members (m .r))) t (now (chosen .entry)) (now (chosen .exit)) ⌝ }
 {
-    if !results::order_fits(k, m.order) {
+    if !premises::order_fits(k, m.order) {
         return false;
     }
     if s != x.s {

@@ -1,5 +1,5 @@
 // The first reading, and the first choice of edges with a reading, whose joined sets are those of a known result. Each is found by recursion
-// over the states left, with the joins carried along.
+// over the states left, with the joins carried along. A reading is searched no further where the states left can not reach the result.
 ghost use mathlib.Core.Path.{_≡_};
 ghost use mathlib.Core.List.{_∷_};
 ghost use Prim.Native.Nat.{_<_, _≤_, _+_, _*_};
@@ -7,13 +7,15 @@ ghost use lib.ListN.{length};
 ghost use Rattle.words.specs.Sets.{members};
 ghost use Rattle.words.specs.Order.{same};
 ghost use Rattle.tables.specs.Held.{automatonOf};
-ghost use Rattle.tables.specs.Records.{asResult};
+ghost use Rattle.tables.specs.Records.{asMove, asResult};
 ghost use Rattle.joins.specs.Joining.{theJoins, asJoins, asJoined};
 ghost use Rattle.first_reading.specs.Search.{joinsKey, wanted, within, firstReading, firstEdges};
 ghost use Rattle.first_reading.specs.Words.{movesIn, tried, followed, writesEdges, writesMoves, TablesWithin};
 ghost use Rattle.first_reading.specs.Answer.{writtenAll, Answer, Answers};
+ghost use Rattle.first_reading.specs.Reach.{reachWith, canFill};
 use joins::Joined;
 use joins::Joins;
+use tables::Move;
 use tables::Result;
 use tables::Table;
 
@@ -44,6 +46,65 @@ pub fn is_wanted(order: u64, b: u64, r: u64, x: Result) -> bool
         return false;
     }
     r == x.r
+}
+
+// What moves reach together: the states that they are of, and their sets, joined.
+pub struct Reach {
+    pub states: u64,
+    pub b: u64,
+    pub r: u64,
+}
+
+// What z and move m reach, where m is a move on a of a state left that joins to j within the sets of x, and z otherwise.
+fn reach_with(z: Reach, m: Move, a: u64, left: u64, j: Joins, x: Result) -> Reach
+    ensures { λ y. ⌜ y ≡ reachWith a (asResult x) left (asJoins j) z (asMove m) ⌝ }
+{
+    let q = m.state;
+    if 64 <= q {
+        return z;
+    }
+    if !sets::has(left, q) {
+        return z;
+    }
+    let Joined::To(_) = parts_within(joins::candidate(m, q, a, j), x) else {
+        return z;
+    };
+    Reach {
+        states: sets::join(z.states, sets::one_bit(q)),
+        b: sets::join(z.b, m.b),
+        r: sets::join(z.r, m.r),
+    }
+}
+
+// Whether the states left can still reach x: each has a move on a that joins to (order, b, r) within the sets of x, and the sets of all
+// these moves, joined to b and r, fill those of x. If not, there is no reading.
+fn can_fill(
+    moves: &[u64],
+    n: usize,
+    a: u64,
+    left: u64,
+    order: u64,
+    b: u64,
+    r: u64,
+    x: Result,
+) -> bool
+    requires { ⌜ n * 5 ≤ length (now moves) ⌝ }
+    ensures { λ t. ⌜ t ≡ canFill (movesIn n (now (moves .entry))) a (asResult x) left (theJoins order b r) ⌝ }
+{
+    let j = Joins { order, b, r };
+    let mut z = Reach { states: 0, b, r };
+    let mut i: usize = 0;
+    while i < n {
+        z = reach_with(z, tables::move_at(moves, i), a, left, j, x);
+        i += 1;
+    }
+    if !sets::part_of(left, z.states) {
+        return false;
+    }
+    if !sets::part_of(x.b, z.b) {
+        return false;
+    }
+    sets::part_of(x.r, z.r)
 }
 
 // Reads on with move i for state q, the states `others` being left. On success the numbers of the moves stand in `chosen`.
@@ -94,6 +155,9 @@ pub fn first_reading(
 {
     if left == 0 {
         return is_wanted(order, b, r, x);
+    }
+    if !can_fill(moves, n, a, left, order, b, r, x) {
+        return false;
     }
     let d = sets::least_member(left);
     let q = d.member;

@@ -97,7 +97,13 @@ impl Limits {
 
     pub const SIZE_TABLE: usize = (Limits::MOVES + 1) * Limits::SIZE_WORDS;
 
-    pub const MEMO_TABLE: usize = 16384 * Limits::MEMO_WORDS;
+    pub const MEMO_TABLE: usize = 15360 * Limits::MEMO_WORDS;
+
+    // ---- chains of moves by a key: a 16-bit word for each key, and one for each move
+
+    pub const CHAIN_KEYS: usize = 2048;
+
+    pub const CHAIN_WORDS: usize = Limits::CHAIN_KEYS + Limits::MOVES;
 
     // ---- the longest sound files
 

@@ -1,17 +1,25 @@
 -- States of the recursion over readings, also as rows of nine words.
 -- Assumes nothing.
 pub mod Laws
-use Prim.Native.Nat.{ℕ}
+use Prim.Native.Nat.{ℕ, _+_, _*_}
 use mathlib.Core.List.{List, [], _∷_}
 use Rattle.memo_table.specs.declared.State.{State}
 
+-- ---- the kinds of a state in a table of so many moves
+
+abbrev pub readKind : ℕ → ℕ
+readKind moves = moves * 2 + 1
+
+abbrev pub edgesKind : ℕ → ℕ
+edgesKind moves = moves * 2 + 2
+
 -- order-1 states are left
-abbrev pub readState : ℕ → ℕ → ℕ → ℕ → ℕ → ℕ → ℕ → State
-readState p a S left order B R = record { kind = 1; control = p; symbol = a; s = S; left = left; named = 0; order = order; b = B; r = R }
+abbrev pub readState : ℕ → ℕ → ℕ → ℕ → ℕ → ℕ → ℕ → ℕ → State
+readState moves p a S left order B R = record { kind = readKind moves; control = p; symbol = a; s = S; left = left; named = 0; order = order; b = B; r = R }
 
 -- order-2 states are left, and the edges so far name the order-1 states N
-abbrev pub edgesState : ℕ → ℕ → ℕ → ℕ → ℕ → ℕ → ℕ → ℕ → State
-edgesState p a S left N order B R = record { kind = 2; control = p; symbol = a; s = S; left = left; named = N; order = order; b = B; r = R }
+abbrev pub edgesState : ℕ → ℕ → ℕ → ℕ → ℕ → ℕ → ℕ → ℕ → ℕ → State
+edgesState moves p a S left N order B R = record { kind = edgesKind moves; control = p; symbol = a; s = S; left = left; named = N; order = order; b = B; r = R }
 
 -- ---- as rows of words
 

@@ -1,5 +1,6 @@
 // A memo table: states of a recursion that were worked through already, in rows of nine words. A state's words give its place in the table;
-// a state put into a row takes the place of what stood there.
+// a state put into a row takes the place of what stood there. Each round has a table of moves of its own length, which stands in a state's
+// kind: rows of earlier rounds are told by it, and the memo table is never cleared.
 ghost use mathlib.Core.Path.{_≡_};
 ghost use Prim.Native.Nat.{_+_, _*_, _≤_};
 ghost use lib.ListN.{length};
@@ -9,9 +10,9 @@ ghost use Rattle.memo_table.specs.States.{stateWords, readState, edgesSt
 ghost use Rattle.memo_table.specs.Layout.{stateRow};
 use limits::Limits;
 
-// A state of the recursion over readings of a symbol, to entries of a control. Kind 1: the order-1 states `left` are still to be read, for the
-// set s. Kind 2: an edge is still to be chosen for each of the order-2 states `left`; the edges so far name the order-1 states `named` and
-// lead into s. Joined so far: (order, b, r). A row of kind 0 is empty.
+// A state of the recursion over readings of a symbol, to entries of a control, in a table of n moves. Kind 2 * n + 1: the order-1 states
+// `left` are still to be read, for the set s. Kind 2 * n + 2: an edge is still to be chosen for each of the order-2 states `left`; the edges
+// so far name the order-1 states `named` and lead into s. Joined so far: (order, b, r). A row of kind 0 is empty.
 pub struct State {
     pub kind: u64,
     pub control: u64,
@@ -24,12 +25,22 @@ pub struct State {
     pub r: u64,
 }
 
-// The state in which order-1 states are left.
-pub fn read_state(control: u64, symbol: u64, s: u64, left: u64, order: u64, b: u64, r: u64) -> State
-    ensures { λ x. ⌜ x ≡ readState control symbol s left order b r ⌝ }
+// The state in which order-1 states are left, in a table of so many moves.
+pub fn read_state(
+    moves: u64,
+    control: u64,
+    symbol: u64,
+    s: u64,
+    left: u64,
+    order: u64,
+    b: u64,
+    r: u64,
+) -> State
+    requires { ⌜ moves ≤ 1024 ⌝ }
+    ensures { λ x. ⌜ x ≡ readState moves control symbol s left order b r ⌝ }
 {
     State {
-        kind: 1,
+        kind: moves * 2 + 1,
         control: control,
         symbol: symbol,
         s: s,
@@ -41,8 +52,9 @@ pub fn read_state(control: u64, symbol: u64, s: u64, left: u64, order: u64, b: u
     }
 }
 
-// The state in which order-2 states are left.
+// The state in which order-2 states are left, in a table of so many moves.
 pub fn edges_state(
+    moves: u64,
     control: u64,
     symbol: u64,
     s: u64,
@@ -52,10 +64,11 @@ pub fn edges_state(
     b: u64,
     r: u64,
 ) -> State
-    ensures { λ x. ⌜ x ≡ edgesState control symbol s left named order b r ⌝ }
+    requires { ⌜ moves ≤ 1024 ⌝ }
+    ensures { λ x. ⌜ x ≡ edgesState moves control symbol s left named order b r ⌝ }
 {
     State {
-        kind: 2,
+        kind: moves * 2 + 2,
         control: control,
         symbol: symbol,
         s: s,

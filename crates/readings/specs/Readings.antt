@@ -2,6 +2,8 @@
 -- the readings of the definition, in the same order.
 -- Assumes nothing.
 pub mod Laws
+pub mod Order
+pub mod Earlier
 use Prim.Native.Nat.{ℕ}
 use mathlib.Core.Option.{Option, none, some}
 use mathlib.Core.List.{List, [], _∷_}

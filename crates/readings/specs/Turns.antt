@@ -1,26 +1,32 @@
--- The turns of the loops over candidates.
+-- The loop over the moves of a state, newest first along the chain of its key.
 -- Assumes nothing.
 pub mod Laws
-use Prim.Native.Nat.{ℕ}
-use mathlib.Core.Bool.{Bool, _&&_}
-use mathlib.Core.List.{List}
-use lib.Dec.{eqb}
-use Rattle.automata.specs.Automaton.{Automaton, Move, noMove, moveAt}
-use Rattle.automata.specs.Derivation.{Result, Joins, joinMove}
-use Rattle.readings.specs.Offers.Laws.{OfferedBelow}
+use Prim.Native.Nat.{ℕ, suc, _≤_, _<_}
+use mathlib.Core.Path.{_≡_}
+use mathlib.Core.List.{List, _∷_}
+use lib.ListN.{length}
+use Rattle.automata.specs.Automaton.{Automaton, moveAt}
+use Rattle.automata.specs.Derivation.{Result, Joins}
+use Rattle.tables.specs.Rows.{rowAt}
+use Rattle.tables.specs.Layouts.{moveRow}
+use Rattle.move_index.specs.Keys.{stateKeyAt}
+use Rattle.joins.specs.Joining.{candidateOf}
+use Rattle.offers.specs.Offers.Alike.{Gathered}
 use Rattle.readings.specs.Readings.{fromJoins, readResults}
 
--- ---- moves of one state
+-- The move before number c, where there is one, has this key.
+abbrev pub OnChain : List ℕ → ℕ → ℕ → Type 0
+OnChain moves key c = (i : ℕ) → c ≡ suc i → stateKeyAt moves i ≡ key
 
--- a move of state r on symbol a
-abbrev pub movesTest : ℕ → ℕ → Move → Bool
-movesTest r a m = eqb (m .state) r && eqb (m .symbol) a
-
-module _ (A : Automaton) (p a S : ℕ) (j : Joins) (r : ℕ) (rs : List ℕ) where
-  -- what move i gives
+module _ (A : Automaton) (p a S : ℕ) (j : Joins) (q : ℕ) (rs : List ℕ) where
+  -- what move i gives, where it is one of state q on symbol a
   unfoldable pub moveResults : ℕ → List Result
-  moveResults i = fromJoins (joinMove j (moveAt A i)) (λ k. readResults A p a S rs k)
+  moveResults i = fromJoins (candidateOf q a j (moveAt A i)) (λ k. readResults A p a S rs k)
 
-  -- The results by the first i moves of state r were offered.
-  abbrev pub ReadUpTo : ℕ → ℕ → List ℕ → ℕ → ℕ → List ℕ → Type 0
-  ReadUpTo room n t i k t′ = OfferedBelow A room (movesTest r a) (A .moves) noMove moveResults n t i k t′
+  -- what a move from number c on gives
+  abbrev pub FromOn : ℕ → List Result → Type 0
+  FromOn c xs = (i : ℕ) × (c ≤ i) × (i < length (A .moves)) × (xs ≡ moveResults i)
+
+  -- The results by the moves of state q from number c on were offered.
+  abbrev pub ReadDownTo : ℕ → ℕ → List ℕ → ℕ → ℕ → List ℕ → Type 0
+  ReadDownTo room n t c k t′ = Gathered A room n t (readResults A p a S (q ∷ rs) j) (FromOn c) k t′

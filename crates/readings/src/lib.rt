@@ -1,14 +1,18 @@
-// The results of a round: what each rule gives from the table of the earlier rounds, by one choice of a move for each state of a set. Results
-// that are not yet held are collected in a table of their own, sorted, each once; the automaton's tables are only read.
+// The results of readings, from the table of the earlier rounds: by one choice of a move for each state of a set. The automaton's tables are
+// only read. Moves are found by an index, and what the table of the round before gives is passed over: it is held.
 ghost use mathlib.Core.Path.{_≡_};
-ghost use mathlib.Core.List.{[], _∷_};
-ghost use Rattle.words.specs.Sets.{members};
-ghost use Rattle.automata.specs.Saturation.{isResult, held};
-ghost use Rattle.tables.specs.Records.{asMove, asResult};
-ghost use Rattle.tables.specs.Held.{automatonOf, tableOf, EdgesStand, EntriesStand, MovesStand};
-ghost use Rattle.joins.specs.Joining.{theJoins, asJoins};
-ghost use Rattle.readings.specs.Offers.{Collects, Room};
+ghost use mathlib.Core.Bool.{_||_, _&&_, not};
+ghost use mathlib.Core.List.{_∷_};
+ghost use Prim.Native.Nat.{_<_};
+ghost use lib.Dec.{leb};
+ghost use Rattle.words.specs.Sets.{partOf, members};
+ghost use Rattle.tables.specs.Held.{automatonOf};
+ghost use Rattle.joins.specs.Joining.{asJoins};
+ghost use Rattle.readings.specs.Indexed.{Indexed};
+ghost use Rattle.offers.specs.Offers.{Collects, Room};
 ghost use Rattle.readings.specs.Readings.{theResult, readResults, edgeResults};
+ghost use Rattle.readings.specs.Naming.{namedWith};
+ghost use Rattle.readings.specs.Earlier.{earlierOf, Settles, Known};
 ghost use Rattle.readings.specs.Memo.{MemoHolds};
 use joins::Joined;
 use joins::Joins;
@@ -19,66 +23,11 @@ pub struct Goal {
     pub symbol: u64,
 }
 
-// Whether a move is this result.
-fn is_result(z: tables::Table, entries: &[u64], m: tables::Move, x: tables::Result) -> bool
-    requires { ⌜ EntriesStand z (now entries) ⌝ }
-    ensures { λ r. ⌜ r ≡ isResult (tableOf z (now (entries .entry)) []) (asResult x) (asMove m) ⌝ }
-{
-    if m.symbol != x.symbol {
-        return false;
-    }
-    if m.order != x.order {
-        return false;
-    }
-    if m.b != x.b {
-        return false;
-    }
-    if m.r != x.r {
-        return false;
-    }
-    if !tables::entry_of(z, entries, x.control, m.state) {
-        return false;
-    }
-    tables::entry_set(z, entries, m.state) == x.s
-}
-
-// Whether the automaton holds this result.
-fn is_held(z: tables::Table, entries: &[u64], moves: &[u64], x: tables::Result) -> bool
-    requires { ⌜ EntriesStand z (now entries) × MovesStand z (now moves) ⌝ }
-    ensures { λ r. ⌜ r ≡ held (tableOf z (now (entries .entry)) (now (moves .entry))) (asResult x) ⌝ }
-{
-    let count = z.moves;
-    let mut i: usize = 0;
-    while i < count {
-        if is_result(z, entries, tables::move_at(moves, i), x) {
-            return true;
-        }
-        i += 1;
-    }
-    false
-}
-
-// Collects a result: unless it is held, it is inserted among the first n rows of `out`. Answers the number of rows then, as
-// `tables::insert_result` does.
-pub fn offer(
-    z: tables::Table,
-    entries: &[u64],
-    moves: &[u64],
-    x: tables::Result,
-    out: &mut [u64],
-    n: usize,
-    room: usize,
-) -> usize
-    requires { ⌜ EntriesStand z (now entries) × MovesStand z (now moves) × Room room n (now out) ⌝ }
-    ensures { λ r. ⌜ Collects (tableOf z (now (entries .entry)) (now (moves .entry))) room n (now (out .entry)) (asResult x ∷ []) r (now (out .exit)) ⌝ }
-{
-    if room < n {
-        return n;
-    }
-    if is_held(z, entries, moves, x) {
-        return n;
-    }
-    tables::insert_result(out, n, room, x)
+// The table of the round before: so many moves and entries. No move on the goal's symbol of a state of `settled` is newer.
+pub struct Earlier {
+    pub moves: usize,
+    pub entries: usize,
+    pub settled: u64,
 }
 
 // The result (order, b, r) to the goal's symbol of the goal's entry with the set s.
@@ -95,49 +44,94 @@ pub fn result(to: Goal, s: u64, order: u64, b: u64, r: u64) -> tables::Result
     }
 }
 
-// Collects the results of the readings of the goal's symbol from the order-1 states left, joined to (order, b, r), for the set s: one choice
-// of a move for each state. The rows of `memo` hold states of this recursion that were worked through: all their results are held or
-// collected, so such a state is passed over. Which states stand there at the end is left open. `inner` serves the contract alone: the states
-// are those of the automaton with these edges.
+// ---- readings
+
+// Whether nothing is new: nothing was so far, and none of the order-1 states left has a newer move.
+fn is_settled(new: bool, left: u64, w: Earlier) -> bool
+    ensures { λ r. ⌜ r ≡ not new && partOf left (w .settled) ⌝ }
+{
+    if new {
+        return false;
+    }
+    sets::part_of(left, w.settled)
+}
+
+// Whether something is new: it was so far, or number i is one of the newer ones, which begin with number `first`.
+pub fn is_newer(new: bool, first: usize, i: usize) -> bool
+    ensures { λ r. ⌜ r ≡ new || leb first i ⌝ }
+{
+    if new {
+        return true;
+    }
+    first <= i
+}
+
+// Collects the results of the readings of the goal's symbol from the order-1 states left, joined to j, for the set s: one choice of a move for
+// each state, beginning with a state that has few. Where nothing new was used so far, what the earlier table gives is held, and readings
+// without a newer move are passed over. The rows of `memo` hold states of this recursion that were worked through: all their results are
+// held or collected, so such a state is passed over too. Which states stand there at the end is left open. `inner` serves the contract
+// alone: the states are those of the automaton with these edges.
 pub fn read_from(
     z: tables::Table,
     inner: &[u64],
     entries: &[u64],
     moves: &[u64],
+    states: &[u16],
+    words: &[u16],
     to: Goal,
+    w: Earlier,
     s: u64,
     left: u64,
-    order: u64,
-    b: u64,
-    r: u64,
+    j: Joins,
+    new: bool,
     memo: &mut [u64],
     out: &mut [u64],
     n: usize,
     room: usize,
 ) -> usize
-    requires { ⌜ EntriesStand z (now entries) × MovesStand z (now moves) × Room room n (now out) × MemoHolds (automatonOf z (now inner) (now entries) (now moves)) room n (now out) (now memo) ⌝ }
-    ensures { λ k. ⌜ Collects (automatonOf z (now (inner .entry)) (now (entries .entry)) (now (moves .entry))) room n (now (out .entry)) (readResults (automatonOf z (now (inner .entry)) (now (entries .entry)) (now (moves .entry))) (to .control) (to .symbol) s (members left) (theJoins order b r)) k (now (out .exit)) ⌝ }
+    requires { ⌜ Indexed z (now inner) (now entries) (now moves) (now states) (now words) × Settles (automatonOf z (now inner) (now entries) (now moves)) w (to .symbol) × Known (automatonOf z (now inner) (now entries) (now moves)) new (readResults (earlierOf w (automatonOf z (now inner) (now entries) (now moves))) (to .control) (to .symbol) s (members left) (asJoins j)) × Room room n (now out) × MemoHolds (automatonOf z (now inner) (now entries) (now moves)) room n (now out) (now memo) ⌝ }
+    ensures { λ k. ⌜ Collects (automatonOf z (now (inner .entry)) (now (entries .entry)) (now (moves .entry))) room n (now (out .entry)) (readResults (automatonOf z (now (inner .entry)) (now (entries .entry)) (now (moves .entry))) (to .control) (to .symbol) s (members left) (asJoins j)) k (now (out .exit)) ⌝ }
     ensures { λ k. ⌜ MemoHolds (automatonOf z (now (inner .entry)) (now (entries .entry)) (now (moves .entry))) room k (now (out .exit)) (now (memo .exit)) ⌝ }
 {
     if room < n {
         return n;
     }
-    if left == 0 {
-        let x = result(to, s, order, b, r);
-        return offer(z, entries, moves, x, out, n, room);
+    if is_settled(new, left, w) {
+        return n;
     }
-    let x = memo_table::read_state(to.control, to.symbol, s, left, order, b, r);
+    if left == 0 {
+        let x = result(to, s, j.order, j.b, j.r);
+        return offers::offer(z, entries, moves, words, x, out, n, room);
+    }
+    let count = z.moves as u64;
+    let x = memo_table::read_state(count, to.control, to.symbol, s, left, j.order, j.b, j.r);
     let row = memo_table::place(memo, x);
     if memo_table::holds(memo, row, x) {
         return n;
     }
-    let part = sets::least_member(left);
-    let j = Joins {
-        order: order,
-        b: b,
-        r: r,
+    let q = choices::fewest(z, moves, states, left, to.symbol, j);
+    let part = sets::Split {
+        member: q,
+        others: sets::without(left, q),
     };
-    let k = read_moves(z, inner, entries, moves, to, s, part, j, memo, out, n, room);
+    let k = read_moves(
+        z,
+        inner,
+        entries,
+        moves,
+        states,
+        words,
+        to,
+        w,
+        s,
+        part,
+        j,
+        new,
+        memo,
+        out,
+        n,
+        room,
+    );
     memo_table::put(memo, row, x);
     k
 }
@@ -149,23 +143,27 @@ fn read_moves(
     inner: &[u64],
     entries: &[u64],
     moves: &[u64],
+    states: &[u16],
+    words: &[u16],
     to: Goal,
+    w: Earlier,
     s: u64,
     part: sets::Split,
     j: Joins,
+    new: bool,
     memo: &mut [u64],
     out: &mut [u64],
     n: usize,
     room: usize,
 ) -> usize
-    requires { ⌜ EntriesStand z (now entries) × MovesStand z (now moves) × Room room n (now out) × MemoHolds (automatonOf z (now inner) (now entries) (now moves)) room n (now out) (now memo) ⌝ }
+    requires { ⌜ Indexed z (now inner) (now entries) (now moves) (now states) (now words) × Settles (automatonOf z (now inner) (now entries) (now moves)) w (to .symbol) × Known (automatonOf z (now inner) (now entries) (now moves)) new (readResults (earlierOf w (automatonOf z (now inner) (now entries) (now moves))) (to .control) (to .symbol) s (part .member ∷ members (part .others)) (asJoins j)) × Room room n (now out) × MemoHolds (automatonOf z (now inner) (now entries) (now moves)) room n (now out) (now memo) ⌝ }
     ensures { λ k. ⌜ Collects (automatonOf z (now (inner .entry)) (now (entries .entry)) (now (moves .entry))) room n (now (out .entry)) (readResults (automatonOf z (now (inner .entry)) (now (entries .entry)) (now (moves .entry))) (to .control) (to .symbol) s (part .member ∷ members (part .others)) (asJoins j)) k (now (out .exit)) ⌝ }
     ensures { λ k. ⌜ MemoHolds (automatonOf z (now (inner .entry)) (now (entries .entry)) (now (moves .entry))) room k (now (out .exit)) (now (memo .exit)) ⌝ }
 {
-    let count = z.moves;
     let mut k = n;
-    let mut i: usize = 0;
-    while i < count {
+    let mut c = chains::last(states, move_index::state_key(part.member, to.symbol));
+    while 0 < c {
+        let i = c - 1;
         let m = tables::move_at(moves, i);
         if let Joined::To(more) = joins::candidate(m, part.member, to.symbol, j) {
             k = read_from(
@@ -173,21 +171,37 @@ fn read_moves(
                 inner,
                 entries,
                 moves,
+                states,
+                words,
                 to,
+                w,
                 s,
                 part.others,
-                more.order,
-                more.b,
-                more.r,
+                more,
+                is_newer(new, w.moves, i),
                 memo,
                 out,
                 k,
                 room,
             );
         }
-        i += 1;
+        c = chains::before(states, i);
     }
     k
+}
+
+// ---- choices of edges
+
+// The order-1 states named with one more, unless its choices all leave the joins as they are, which c tells (see `choices::unchanged`): its
+// reading would add nothing.
+fn name(named: u64, first: u64, c: usize) -> u64
+    requires { ⌜ first < 64 ⌝ }
+    ensures { λ r. ⌜ r ≡ namedWith named first c ⌝ }
+{
+    if 0 < c {
+        return named;
+    }
+    sets::join(named, sets::one_bit(first))
 }
 
 // Collects the results of the readings of the goal's symbol from the order-2 states left, joined to j: one choice of an edge for each state,
@@ -198,17 +212,21 @@ pub fn read_edges(
     inner: &[u64],
     entries: &[u64],
     moves: &[u64],
+    states: &[u16],
+    words: &[u16],
     to: Goal,
+    w: Earlier,
     j: Joins,
     left: u64,
     named: u64,
     s: u64,
+    new: bool,
     memo: &mut [u64],
     out: &mut [u64],
     n: usize,
     room: usize,
 ) -> usize
-    requires { ⌜ EdgesStand z (now inner) × EntriesStand z (now entries) × MovesStand z (now moves) × Room room n (now out) × MemoHolds (automatonOf z (now inner) (now entries) (now moves)) room n (now out) (now memo) ⌝ }
+    requires { ⌜ Indexed z (now inner) (now entries) (now moves) (now states) (now words) × Settles (automatonOf z (now inner) (now entries) (now moves)) w (to .symbol) × Known (automatonOf z (now inner) (now entries) (now moves)) new (edgeResults (earlierOf w (automatonOf z (now inner) (now entries) (now moves))) (to .control) (to .symbol) (asJoins j) (members left) named s) × Room room n (now out) × MemoHolds (automatonOf z (now inner) (now entries) (now moves)) room n (now out) (now memo) ⌝ }
     ensures { λ r. ⌜ Collects (automatonOf z (now (inner .entry)) (now (entries .entry)) (now (moves .entry))) room n (now (out .entry)) (edgeResults (automatonOf z (now (inner .entry)) (now (entries .entry)) (now (moves .entry))) (to .control) (to .symbol) (asJoins j) (members left) named s) r (now (out .exit)) ⌝ }
     ensures { λ r. ⌜ MemoHolds (automatonOf z (now (inner .entry)) (now (entries .entry)) (now (moves .entry))) room r (now (out .exit)) (now (memo .exit)) ⌝ }
 {
@@ -221,19 +239,32 @@ pub fn read_edges(
             inner,
             entries,
             moves,
+            states,
+            words,
             to,
+            w,
             s,
             named,
-            j.order,
-            j.b,
-            j.r,
+            j,
+            new,
             memo,
             out,
             n,
             room,
         );
     }
-    let x = memo_table::edges_state(to.control, to.symbol, s, left, named, j.order, j.b, j.r);
+    let count = z.moves as u64;
+    let x = memo_table::edges_state(
+        count,
+        to.control,
+        to.symbol,
+        s,
+        left,
+        named,
+        j.order,
+        j.b,
+        j.r,
+    );
     let row = memo_table::place(memo, x);
     if memo_table::holds(memo, row, x) {
         return n;
@@ -244,11 +275,15 @@ pub fn read_edges(
         inner,
         entries,
         moves,
+        states,
+        words,
         to,
+        w,
         j,
         part,
         named,
         s,
+        new,
         memo,
         out,
         n,
@@ -265,17 +300,21 @@ fn read_choices(
     inner: &[u64],
     entries: &[u64],
     moves: &[u64],
+    states: &[u16],
+    words: &[u16],
     to: Goal,
+    w: Earlier,
     j: Joins,
     part: sets::Split,
     named: u64,
     s: u64,
+    new: bool,
     memo: &mut [u64],
     out: &mut [u64],
     n: usize,
     room: usize,
 ) -> usize
-    requires { ⌜ EdgesStand z (now inner) × EntriesStand z (now entries) × MovesStand z (now moves) × Room room n (now out) × MemoHolds (automatonOf z (now inner) (now entries) (now moves)) room n (now out) (now memo) ⌝ }
+    requires { ⌜ Indexed z (now inner) (now entries) (now moves) (now states) (now words) × Settles (automatonOf z (now inner) (now entries) (now moves)) w (to .symbol) × Known (automatonOf z (now inner) (now entries) (now moves)) new (edgeResults (earlierOf w (automatonOf z (now inner) (now entries) (now moves))) (to .control) (to .symbol) (asJoins j) (part .member ∷ members (part .others)) named s) × Room room n (now out) × MemoHolds (automatonOf z (now inner) (now entries) (now moves)) room n (now out) (now memo) ⌝ }
     ensures { λ r. ⌜ Collects (automatonOf z (now (inner .entry)) (now (entries .entry)) (now (moves .entry))) room n (now (out .entry)) (edgeResults (automatonOf z (now (inner .entry)) (now (entries .entry)) (now (moves .entry))) (to .control) (to .symbol) (asJoins j) (part .member ∷ members (part .others)) named s) r (now (out .exit)) ⌝ }
     ensures { λ r. ⌜ MemoHolds (automatonOf z (now (inner .entry)) (now (entries .entry)) (now (moves .entry))) room r (now (out .exit)) (now (memo .exit)) ⌝ }
 {
@@ -285,18 +324,22 @@ fn read_choices(
     while i < count {
         let e = tables::edge_of(z, inner, entries, i);
         if e.state == part.member {
-            let more = sets::join(named, sets::one_bit(e.first));
-            let all = sets::join(s, e.s);
+            let c = choices::unchanged(z, moves, states, e.first, to.symbol, j);
+            let newer = is_newer(new, z.edges + w.entries, i);
             k = read_edges(
                 z,
                 inner,
                 entries,
                 moves,
+                states,
+                words,
                 to,
+                w,
                 j,
                 part.others,
-                more,
-                all,
+                name(named, e.first, c),
+                sets::join(s, e.s),
+                is_newer(newer, w.moves + 1, c),
                 memo,
                 out,
                 k,

@@ -9,11 +9,12 @@ use Rattle.automata.specs.Automaton.{Automaton}
 use Rattle.automata.specs.Derivation.{Result}
 use Rattle.tables.specs.Records.{asResult}
 use Rattle.readings.specs.Readings.{theResult}
-use Rattle.results.specs.declared.MoveUse.the-variants.{Rewritten, Pushed1, Pushed2, Copied}
+use Rattle.premises.specs.declared.MoveUse.the-variants.{Rewritten, Pushed1, Pushed2, Copied}
 use Rattle.results.specs.declared.EntryUse.the-variants.{Popped, Collapsed}
 use Rattle.results.specs.declared.Use.{Use}
 use Rattle.results.specs.declared.Use.the-variants.{Moves, Entries, Nothing}
-use Rattle.results.specs.Rules.{movesResults, entriesResults}
+use Rattle.premises.specs.Premises.{movesResults}
+use Rattle.results.specs.Rules.{entriesResults}
 
 -- what an operation uses, in a rule of control p and symbol a that goes to control q
 unfoldable pub useOf : ℕ → ℕ → ℕ → Operation → Use

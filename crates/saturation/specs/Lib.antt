@@ -1,4 +1,5 @@
 pub mod Adding
+pub mod Prepared
 pub mod Rounding
 pub mod Running
 pub mod Layout

@@ -16,6 +16,7 @@ use Rattle.tables.specs.Rows.{rowsIn}
 use Rattle.tables.specs.Layouts.{entryRow, moveRow}
 use Rattle.tables.specs.Held.{automatonOf, EdgesStand, EntriesStand, MovesStand}
 use Rattle.tables.specs.Laws.Filled.{Filled}
+use Rattle.saturation.specs.Prepared.{StatesExist}
 use Rattle.saturation.specs.Rounding.{Standing}
 use Rattle.saturation.specs.Layout.{sizeRow}
 
@@ -29,12 +30,13 @@ mostEntries words states = min (words / 2) (64 - states)
 
 -- ---- the loop
 
--- The tables of round 0, with at most 1,024 moves.
+-- The tables of round 0, with at most 1,024 moves, each of a state that exists.
 pub record Given (z : Table) (inner entries moves : List ℕ) : Type 0 where
   pub edges : EdgesStand z inner
   pub entries-stand : EntriesStand z entries
   pub moves-stand : MovesStand z moves
   pub moves-few : z .moves ≤ 1024
+  pub states-exist : StatesExist (automatonOf z inner entries moves)
 
 -- the saturated table with its sizes, or none
 unfoldable pub ended : Bool → Automaton → List Size → Option Saturated

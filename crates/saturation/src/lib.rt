@@ -7,6 +7,11 @@ ghost use lib.ListN.{length};
 ghost use Rattle.tables.specs.Rows.{rowAt, rowsIn, putRow};
 ghost use Rattle.tables.specs.Records.{asEntry, asResult};
 ghost use Rattle.tables.specs.Layouts.{resultRow};
+ghost use Rattle.automata.specs.Saturation.{results};
+ghost use Rattle.tables.specs.Held.{automatonOf};
+ghost use Rattle.move_index.specs.Keys.{ByState, ByWords};
+ghost use Rattle.readings.specs.Memo.{MemoBefore, MemoUpTo};
+ghost use Rattle.premises.specs.Before.{tableBefore, SettledBy};
 ghost use Rattle.results.specs.Collecting.{RulesStand, rulesIn};
 ghost use Rattle.saturation.specs.Adding.{Entered, Growing, Added};
 ghost use Rattle.saturation.specs.Rounding.{Standing, Rounded};
@@ -14,6 +19,7 @@ ghost use Rattle.saturation.specs.Running.{mostMoves, mostEntries, Given
 ghost use Rattle.saturation.specs.Sizes.{theSize, asSize};
 ghost use Rattle.saturation.specs.Layout.{sizeRow};
 use limits::Limits;
+use premises::Before;
 
 // A table with results added, or, where `fits` is false, the table before there was no room for an entry.
 pub struct Grown {
@@ -115,22 +121,41 @@ pub struct Capacity {
     pub entries: usize,
 }
 
-// One round: the results of the first `count` rules of a body that are not yet held are added. `fits` is false where that passes a limit.
+// One round: the results of the first `count` rules of a body that are not yet held are added. `fits` is false where that passes a limit. The
+// index of the moves, the table of the round before and the memo table are those of `results::collect`.
 fn add_round(
     z: tables::Table,
     inner: &[u64],
     entries: &mut [u64],
     moves: &mut [u64],
+    states: &[u16],
+    words: &[u16],
+    t: Before,
     body: &[u8],
     count: usize,
+    memo: &mut [u64],
     pending: &mut [u64],
     most: Capacity,
 ) -> Grown
-    requires { ⌜ Standing z (most .moves) (most .entries) (now inner) (now entries) (now moves) × RulesStand count (now body) × (most .moves * 6 ≤ length (now pending)) ⌝ }
+    requires { ⌜ Standing z (most .moves) (most .entries) (now inner) (now entries) (now moves) × RulesStand count (now body) × (most .moves * 6 ≤ length (now pending)) × ByState (z .moves) (now moves) (now states) × ByWords (z .moves) (now moves) (now words) × SettledBy (automatonOf z (now inner) (now entries) (now moves)) t (results (rulesIn count (now body)) (tableBefore t (automatonOf z (now inner) (now entries) (now moves)))) × MemoBefore (z .moves) (now memo) ⌝ }
     ensures { λ g. ⌜ Rounded (rulesIn count (now (body .entry))) (now (inner .entry)) z (most .moves) (most .entries) (now (entries .entry)) (now (moves .entry)) (g .fits) (g .table) (now (entries .exit)) (now (moves .exit)) ⌝ }
+    ensures memo { λ g. ⌜ MemoUpTo (z .moves) (now (memo .exit)) ⌝ }
 {
     let room = most.moves - z.moves;
-    let n = results::collect(z, inner, entries, moves, body, count, pending, room);
+    let n = results::collect(
+        z,
+        inner,
+        entries,
+        moves,
+        states,
+        words,
+        t,
+        body,
+        count,
+        memo,
+        pending,
+        room,
+    );
     if room < n {
         return Grown {
             fits: false,
@@ -190,9 +215,9 @@ pub struct Saturated {
     pub sizes: usize,
 }
 
-// Saturates the tables by the first `count` rules of a body: rounds until one adds no move. The numbers of moves and entries after round 0, 1
-// and so on are left in the first rows of `sizes`.
-pub fn saturate_tables(
+// Rounds until one adds no move, by the first `count` rules of a body. The numbers of moves and entries after round 0, 1 and so on are left in the
+// first rows of `sizes`. `states` and `words` index the moves of the rounds before the last.
+fn run_rounds(
     z: tables::Table,
     inner: &[u64],
     entries: &mut [u64],
@@ -201,17 +226,39 @@ pub fn saturate_tables(
     count: usize,
     pending: &mut [u64],
     sizes: &mut [u64],
+    states: &mut [u16],
+    words: &mut [u16],
+    memo: &mut [u64],
 ) -> Saturated
-    requires { ⌜ Given z (now inner) (now entries) (now moves) × RulesStand count (now body) × (6144 ≤ length (now pending)) × (2050 ≤ length (now sizes)) ⌝ }
+    requires { ⌜ Given z (now inner) (now entries) (now moves) × RulesStand count (now body) × (6144 ≤ length (now pending)) × (2050 ≤ length (now sizes)) × ByState 0 (now moves) (now states) × ByWords 0 (now moves) (now words) × MemoBefore (z .moves) (now memo) ⌝ }
     ensures { λ r. ⌜ Ends (rulesIn count (now (body .entry))) (now (inner .entry)) z (now (entries .entry)) (now (moves .entry)) (r .fits) (r .table) (r .sizes) (now (entries .exit)) (now (moves .exit)) (now (sizes .exit)) ⌝ }
 {
     let most = limits_of(moves.len(), entries.len(), z.inner1);
+    let mut before = Before {
+        any: false,
+        moves: 0,
+        entries: 0,
+    };
     let mut table = z;
     let mut k: usize = 0;
     loop {
         put_sizes(sizes, k, table.moves, table.entries);
         k += 1;
-        let g = add_round(table, inner, entries, moves, body, count, pending, most);
+        move_index::extend(moves, before.moves, table.moves, states, words);
+        let g = add_round(
+            table,
+            inner,
+            entries,
+            moves,
+            states,
+            words,
+            before,
+            body,
+            count,
+            memo,
+            pending,
+            most,
+        );
         let next = g.table;
         if !g.fits {
             return Saturated {
@@ -227,6 +274,44 @@ pub fn saturate_tables(
                 sizes: k,
             };
         }
+        before = Before {
+            any: true,
+            moves: table.moves,
+            entries: table.entries,
+        };
         table = next;
     }
+}
+
+// Saturates the tables by the first `count` rules of a body: rounds until one adds no move. The numbers of moves and entries after round 0, 1
+// and so on are left in the first rows of `sizes`. The index of the moves and the memo table, of 15,360 rows, are this call's own.
+pub fn saturate_tables(
+    z: tables::Table,
+    inner: &[u64],
+    entries: &mut [u64],
+    moves: &mut [u64],
+    body: &[u8],
+    count: usize,
+    pending: &mut [u64],
+    sizes: &mut [u64],
+) -> Saturated
+    requires { ⌜ Given z (now inner) (now entries) (now moves) × RulesStand count (now body) × (6144 ≤ length (now pending)) × (2050 ≤ length (now sizes)) ⌝ }
+    ensures { λ r. ⌜ Ends (rulesIn count (now (body .entry))) (now (inner .entry)) z (now (entries .entry)) (now (moves .entry)) (r .fits) (r .table) (r .sizes) (now (entries .exit)) (now (moves .exit)) (now (sizes .exit)) ⌝ }
+{
+    let mut states = [0u16; Limits::CHAIN_WORDS];
+    let mut words = [0u16; Limits::CHAIN_WORDS];
+    let mut memo = [0u64; Limits::MEMO_TABLE];
+    run_rounds(
+        z,
+        inner,
+        entries,
+        moves,
+        body,
+        count,
+        pending,
+        sizes,
+        &mut states,
+        &mut words,
+        &mut memo,
+    )
 }

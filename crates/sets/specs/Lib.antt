@@ -1,2 +1,3 @@
 pub mod Halving
 pub mod Laws
+pub mod Without

@@ -1,8 +1,10 @@
 // Sets of states as words of 64 bits: state n is a member exactly if bit n of the word is 1.
 ghost use mathlib.Core.Path.{_≡_};
+ghost use mathlib.Core.Bool.{true};
 ghost use mathlib.Core.List.{_∷_};
 ghost use Prim.Native.Nat.{_<_, _^_};
 ghost use lib.Dec.{ltb, leb};
+ghost use Rattle.sets.specs.Without.{without};
 ghost use Rattle.words.specs.Lists.{every};
 ghost use Rattle.words.specs.Sets.{member, single, join, partOf, members};
 
@@ -51,6 +53,14 @@ pub fn none_below(s: u64, n: u64) -> bool
     ensures { λ r. ⌜ r ≡ every (λ m. leb n m) (members s) ⌝ }
 {
     s % one_bit(n) == 0
+}
+
+// The set of the members of s other than n, which is one.
+pub fn without(s: u64, n: u64) -> u64
+    requires { ⌜ (n < 64) × (member s n ≡ true) ⌝ }
+    ensures { λ r. ⌜ r ≡ without s n ⌝ }
+{
+    s - one_bit(n)
 }
 
 // A member of a set, and the set of the others.

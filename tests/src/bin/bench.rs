@@ -1,14 +1,16 @@
-//! Times of the services on the larger files, by the proved library and by the
-//! second implementation. Prints only.
+//! Times of the services on the larger files and on the family of `flat`, by the
+//! proved library and by the second implementation. Prints only.
 //!
 //! `cargo run --release --bin bench [NAME...]`: the folders of `tests/data/bench`
-//! with these names, or all of them.
+//! with these names, `family` for the family; or all of them.
 
-use std::time::Instant;
-use std::{env, fs};
+use std::env;
+use std::ffi::c_long;
 
-use second::data::{bytes, data};
+use second::data::{Larger, larger_files, one_start};
+use second::encode::encode_case;
 use second::file::decode_case;
+use second::flat::{FLAT, Flat};
 use second::lent::Lent;
 use second::replay::{self, ReplayReply};
 use second::services::{self, GuideReply, LISTING_ENTRIES, LISTING_MOVES};
@@ -17,14 +19,21 @@ use second::traces::recorded;
 use second::{proved, saturation};
 
 /// The second implementation is left out where it would take longer.
-const MOST_SECONDS: f64 = 20.0;
+const MOST_MILLISECONDS: f64 = 20_000.0;
+
+/// A call is made again until all its times together are as long.
+const LEAST_MILLISECONDS: f64 = 500.0;
 
 /// A replay is short: each is made so often.
 const REPLAYS: usize = 100;
 
+/// The name that stands for the family.
+const FAMILY: &str = "family";
+
 type Saturate = fn(&[u8], &mut [u64], &mut [u64]) -> (u64, u64, u64);
 type Judge = fn(&[u8], &[u8], &mut [u64], &mut [u64], &mut [u16]) -> u64;
 type Guide = fn(&[u8], &[u8], u64, &mut [u64], &mut [u64], &mut [u16], &mut [u16]) -> GuideReply;
+type Listing = fn(&[u8], &[u8]) -> String;
 type Replay = fn(&[u8], &[u8], u64, &[u8], &mut [u8]) -> ReplayReply;
 
 /// The services of one of the two.
@@ -32,6 +41,7 @@ struct Services {
     saturate: Saturate,
     judge: Judge,
     guide: Guide,
+    listing: Listing,
     replay: Replay,
 }
 
@@ -39,6 +49,7 @@ const PROVED: Services = Services {
     saturate: proved::saturate,
     judge: proved::judge,
     guide: proved::guide,
+    listing: proved::listing,
     replay: proved::replay,
 };
 
@@ -46,6 +57,7 @@ const SECOND: Services = Services {
     saturate: services::saturate,
     judge: services::judge,
     guide: services::guide,
+    listing: services::listing,
     replay: replay::replay,
 };
 
@@ -87,6 +99,12 @@ impl Services {
         })
     }
 
+    fn listing(&self, case: &[u8], start: &[u8]) -> f64 {
+        timed(|| {
+            (self.listing)(case, start);
+        })
+    }
+
     /// Replays the runs, each of which is accepted.
     fn replay(&self, case: &[u8], start: &[u8], runs: &[(u64, Vec<u8>)]) -> f64 {
         let mut cells = Lent::as_listing().replay_cells;
@@ -125,11 +143,23 @@ fn runs(case: &[u8], start: &[u8]) -> Vec<(u64, Vec<u8>)> {
     (0..starts(start)).filter_map(run).collect()
 }
 
-/// The seconds that the calls take.
-fn timed(calls: impl FnOnce()) -> f64 {
-    let before = Instant::now();
-    calls();
-    before.elapsed().as_secs_f64()
+unsafe extern "C" {
+    /// The processor time of this process, in millionths of a second (POSIX).
+    safe fn clock() -> c_long;
+}
+
+/// The milliseconds of processor time that a call takes: the least of some.
+fn timed(mut call: impl FnMut()) -> f64 {
+    let (mut least, mut all) = (f64::INFINITY, 0.0);
+    while all < LEAST_MILLISECONDS {
+        let before = clock();
+        call();
+        let milliseconds = (clock() - before) as f64 / 1000.0;
+        least = least.min(milliseconds);
+        // The clock may be too coarse for a short call.
+        all += milliseconds.max(0.001);
+    }
+    least
 }
 
 /// A sound start file has the number of its starts at byte 3.
@@ -138,72 +168,92 @@ fn starts(start: &[u8]) -> u64 {
 }
 
 fn main() {
-    let mut names: Vec<String> = env::args().skip(1).collect();
+    let names: Vec<String> = env::args().skip(1).collect();
+    println!("milliseconds of processor time by the proved library, by the second");
+    println!("implementation, and their ratio");
     if names.is_empty() {
-        names = all_names();
+        larger_files().iter().for_each(bench);
+        bench_family();
     }
-    println!("seconds by the proved library, by the second implementation, and their ratio");
-    for name in names {
-        bench(&name);
+    for name in &names {
+        if name == FAMILY {
+            bench_family();
+        } else {
+            bench(&Larger::named(name));
+        }
     }
 }
 
-fn all_names() -> Vec<String> {
-    let folders = fs::read_dir(data("bench")).expect("the folder tests/data/bench");
-    let name = |folder: fs::DirEntry| folder.file_name().to_string_lossy().into_owned();
-    let mut names: Vec<String> = folders
-        .map(|folder| name(folder.expect("a folder")))
-        .collect();
-    names.sort();
-    names
-}
-
-fn bench(name: &str) {
-    let case = bytes(&format!("bench/{name}/case.bin"));
-    print_table(name, &case);
-    let second = SECOND.saturate(&case);
-    print_line("saturate", PROVED.saturate(&case), Some(second));
-    let start = format!("bench/{name}/start.bin");
-    if !data(&start).exists() {
-        return;
-    }
-    let start = bytes(&start);
-    let starts = starts(&start);
+fn bench(file: &Larger) {
+    let Larger {
+        name, case, start, ..
+    } = file;
+    let (moves, entries, rounds) = table(case);
+    println!("{name}: moves {moves} entries {entries} rounds {rounds}");
+    let second = SECOND.saturate(case);
+    print_line("saturate", PROVED.saturate(case), Some(second));
+    let starts = starts(start);
     // Each call of the other services saturates once.
-    let soon = |calls: u64| second * calls as f64 <= MOST_SECONDS;
-    let judged = soon(1).then(|| SECOND.judge(&case, &start));
-    print_line("judge", PROVED.judge(&case, &start), judged);
-    let guided = soon(starts).then(|| SECOND.guide(&case, &start));
-    let proved = PROVED.guide(&case, &start);
+    let soon = |calls: u64| second * calls as f64 <= MOST_MILLISECONDS;
+    let judged = soon(1).then(|| SECOND.judge(case, start));
+    print_line("judge", PROVED.judge(case, start), judged);
+    let guided = soon(starts).then(|| SECOND.guide(case, start));
+    let proved = PROVED.guide(case, start);
     print_line(&format!("guide, {starts} starts"), proved, guided);
-    let runs = runs(&case, &start);
+    let listed = soon(1).then(|| SECOND.listing(case, start));
+    print_line("listing", PROVED.listing(case, start), listed);
+    let runs = runs(case, start);
     if !runs.is_empty() {
-        let proved = PROVED.replay(&case, &start, &runs);
-        let replayed = SECOND.replay(&case, &start, &runs);
+        let proved = PROVED.replay(case, start, &runs);
+        let replayed = SECOND.replay(case, start, &runs);
         let what = format!("replay, {} runs, {REPLAYS} times", runs.len());
         print_line(&what, proved, Some(replayed));
     }
 }
 
-/// The table's moves, entries and rounds.
-fn print_table(name: &str, case: &[u8]) {
+/// The numbers of moves, entries and rounds of the case's table.
+fn table(case: &[u8]) -> (usize, usize, usize) {
     let lent = Size {
         moves: LISTING_MOVES,
         entries: LISTING_ENTRIES,
     };
     let case = decode_case(case).expect("a sound case");
     let table = saturation::saturate(&case, lent).expect("a table that fits");
-    let (moves, entries) = (table.moves().len(), table.entries().len());
-    let rounds = table.rounds();
-    println!("{name}: moves {moves} entries {entries} rounds {rounds}");
+    (table.moves().len(), table.entries().len(), table.rounds())
+}
+
+/// The whole of `flat`, then a quarter and a half of its repeated rules, of its
+/// rounds and of its wide entry's moves, the others whole.
+fn bench_family() {
+    println!("the family of flat, by the results that have to be looked at");
+    bench_flat("whole", &FLAT);
+    for (part, share) in [("a quarter", 4), ("a half", 2)] {
+        let repeats = FLAT.repeats / share;
+        let chain = FLAT.chain / share;
+        let wide = FLAT.wide / share;
+        bench_flat(&format!("{part} of the rules"), &Flat { repeats, ..FLAT });
+        bench_flat(&format!("{part} of the rounds"), &Flat { chain, ..FLAT });
+        bench_flat(&format!("{part} of the wide moves"), &Flat { wide, ..FLAT });
+    }
+}
+
+fn bench_flat(what: &str, flat: &Flat) {
+    let Flat { repeats, wide, .. } = flat;
+    let (rounds, results) = (flat.rounds(), flat.results());
+    println!("{what}: rules {repeats} rounds {rounds} wide moves {wide} results {results}");
+    let (case, start) = (encode_case(&flat.case()), one_start());
+    let second = SECOND.saturate(&case);
+    print_line("saturate", PROVED.saturate(&case), Some(second));
+    let second = SECOND.listing(&case, &start);
+    print_line("listing", PROVED.listing(&case, &start), Some(second));
 }
 
 fn print_line(what: &str, proved: f64, second: Option<f64>) {
     match second {
         Some(second) => {
             let ratio = proved / second;
-            println!("    {what}: {proved:.4} {second:.4} {ratio:.2}");
+            println!("    {what}: {proved:.3} {second:.3} {ratio:.2}");
         }
-        None => println!("    {what}: {proved:.4}, second left out: over {MOST_SECONDS} s"),
+        None => println!("    {what}: {proved:.3}, second left out: over {MOST_MILLISECONDS} ms"),
     }
 }

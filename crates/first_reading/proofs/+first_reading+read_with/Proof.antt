@@ -2,6 +2,7 @@
 -- states left, doubled, so that it falls with each call.
 -- Assumes nothing.
 use borrow.Author.Needs.{needs}
+use borrow.Author.Tests.{not-true}
 use Prim.Native.Nat.{_-_, _+_, _*_, ℕ, _<_}
 use mathlib.Core.Path.{ap, sym, _∙_}
 use lib.ListN.{length}
@@ -14,6 +15,7 @@ use Rattle.joins.specs.Joining.{theJoins, asJoined}
 use Rattle.first_reading.specs.Words.{movesIn, tried}
 use Rattle.words.specs.Lists.Laws.{fewer-left}
 use Rattle.first_reading.specs.Words.Reading.{answer-base, reading-below, tried-nothing, tried-yes, tried-no}
+use Rattle.first_reading.specs.Reach.Laws.{reading-cut}
 use borrow.Fn.Kinds.{In}
 use borrow.Fn.PlainCycle.{Measures, is, falls, and}
 use Rattle.first_reading.proofs.first_reading.Reads as first-reading
@@ -24,6 +26,7 @@ use Rattle.first_reading.proofs.read_with.Kinds as read-with-kinds
 use Rattle.first_reading.proofs.+first_reading+read_with.Lts-read_with as read-with-lts
 use Rattle.first_reading.proofs.parts_within.Reads as parts-within-reads
 use Rattle.first_reading.proofs.is_wanted.Reads as is-wanted-reads
+use Rattle.first_reading.proofs.can_fill.Reads as can-fill-reads
 use Rattle.joins.proofs.candidate.Reads as candidate-reads
 use Rattle.sets.proofs.least_member.Reads as least-member-reads
 use Rattle.tables.proofs.move_at.Reads as move-at-reads
@@ -60,6 +63,8 @@ abbrev first-reading-claims : ℕ → first-reading-lts.Claims
 first-reading-claims t = (
   is-wanted-reads.Asked,
   is-wanted-reads.Learnt,
+  can-fill-reads.Asked,
+  can-fill-reads.Learnt,
   least-member-reads.Asked,
   least-member-reads.Learnt,
   read-with-below t,
@@ -91,6 +96,12 @@ first-reading-is-wanted-requires t c κs = search needs
 first-reading-returns : (t : ℕ) → first-reading-lts.Need-returns (first-reading-claims t) (first-reading-at t) first-reading.Post first-reading-Inv-loop first-reading-μ-loop
 first-reading-returns t c = answer-base _ _ _ _ _ _ _ (c .before .if1 .taken) (c .is-wanted .ensures)
 
+first-reading-can-fill-requires : (t : ℕ) → first-reading-lts.Need-can-fill-requires (first-reading-claims t) (first-reading-at t) first-reading.Post first-reading-Inv-loop first-reading-μ-loop
+first-reading-can-fill-requires t c κs = search needs
+
+first-reading-returns-2 : (t : ℕ) → first-reading-lts.Need-returns-2 (first-reading-claims t) (first-reading-at t) first-reading.Post first-reading-Inv-loop first-reading-μ-loop
+first-reading-returns-2 t c = answer-none _ (reading-cut _ _ _ _ _ (sym (c .before .can-fill .ensures) ∙ not-true _ (c .if2 .taken)))
+
 first-reading-least-member-requires : (t : ℕ) → first-reading-lts.Need-least-member-requires (first-reading-claims t) (first-reading-at t) first-reading.Post first-reading-Inv-loop first-reading-μ-loop
 first-reading-least-member-requires t c κs = search needs
 
@@ -98,13 +109,13 @@ first-reading-loop-holds : (t : ℕ) → first-reading-lts.Need-loop-holds (firs
 first-reading-loop-holds t c = (passed-none, same-refl _)
 
 first-reading-read-with-requires : (t : ℕ) → first-reading-lts.Need-read-with-requires (first-reading-claims t) (first-reading-at t) first-reading.Post first-reading-Inv-loop first-reading-μ-loop
-first-reading-read-with-requires t c κs = (fewer-left _ _ _ _ (c .before .before .before .least-member .ensures .0) (c .before .before .before .before .before .before .before .pre .0), search needs)
+first-reading-read-with-requires t c κs = (fewer-left _ _ _ _ (c .before .before .before .least-member .ensures .0) (c .before .before .before .before .before .before .before .before .before .pre .0), search needs)
 
 first-reading-same-length : (t : ℕ) → first-reading-lts.Need-same-length (first-reading-claims t) (first-reading-at t) first-reading.Post first-reading-Inv-loop first-reading-μ-loop
 first-reading-same-length t c = search needs
 
-first-reading-returns-2 : (t : ℕ) → first-reading-lts.Need-returns-2 (first-reading-claims t) (first-reading-at t) first-reading.Post first-reading-Inv-loop first-reading-μ-loop
-first-reading-returns-2 t c = answer-from (c .before .before .before .before .before .before .loop .inv .1) (answer-states (c .before .before .before .before .before .before .before .least-member .ensures .0) (answer-eq (reading-below _ _ _ _ _ _ _ _ (c .before .before .before .before .before .before .before .least-member .ensures .0) ∙ passed-hit (c .before .before .before .before .before .before .loop .inv .0) (c .before .before .before .before .before .loop-test .taken) (sym (c .before .before .before .read-with .ensures .success) ∙ c .if2 .taken)) (answer-is (c .if2 .taken) (c .before .before .before .read-with .ensures))))
+first-reading-returns-3 : (t : ℕ) → first-reading-lts.Need-returns-3 (first-reading-claims t) (first-reading-at t) first-reading.Post first-reading-Inv-loop first-reading-μ-loop
+first-reading-returns-3 t c = answer-from (c .before .before .before .before .before .before .loop .inv .1) (answer-states (c .before .before .before .before .before .before .before .least-member .ensures .0) (answer-eq (reading-below _ _ _ _ _ _ _ _ (c .before .before .before .before .before .before .before .least-member .ensures .0) ∙ passed-hit (c .before .before .before .before .before .before .loop .inv .0) (c .before .before .before .before .before .loop-test .taken) (sym (c .before .before .before .read-with .ensures .success) ∙ c .if3 .taken)) (answer-is (c .if3 .taken) (c .before .before .before .read-with .ensures))))
 
 first-reading-add-i : (t : ℕ) → first-reading-lts.Need-add-i (first-reading-claims t) (first-reading-at t) first-reading.Post first-reading-Inv-loop first-reading-μ-loop
 first-reading-add-i t c = search needs
@@ -113,13 +124,13 @@ first-reading-loop-less : (t : ℕ) → first-reading-lts.Need-loop-less (first-
 first-reading-loop-less t c = search needs
 
 first-reading-loop-again : (t : ℕ) → first-reading-lts.Need-loop-again (first-reading-claims t) (first-reading-at t) first-reading.Post first-reading-Inv-loop first-reading-μ-loop
-first-reading-loop-again t c = let f = answer-fails (answer-is (c .if2 .left) (c .before .before .before .read-with .ensures)) in (passed-more (c .before .before .before .before .before .before .loop .inv .0) (c .before .before .before .before .before .loop-test .taken) (f .0), same-after (c .before .before .before .before .before .before .loop .inv .1) (f .1))
+first-reading-loop-again t c = let f = answer-fails (answer-is (c .if3 .left) (c .before .before .before .read-with .ensures)) in (passed-more (c .before .before .before .before .before .before .loop .inv .0) (c .before .before .before .before .before .loop-test .taken) (f .0), same-after (c .before .before .before .before .before .before .loop .inv .1) (f .1))
 
 first-reading-same-length-2 : (t : ℕ) → first-reading-lts.Need-same-length-2 (first-reading-claims t) (first-reading-at t) first-reading.Post first-reading-Inv-loop first-reading-μ-loop
 first-reading-same-length-2 t c = search needs
 
-first-reading-returns-3 : (t : ℕ) → first-reading-lts.Need-returns-3 (first-reading-claims t) (first-reading-at t) first-reading.Post first-reading-Inv-loop first-reading-μ-loop
-first-reading-returns-3 t c = answer-from (c .before .loop .inv .1) (answer-none _ (reading-below _ _ _ _ _ _ _ _ (c .before .before .least-member .ensures .0) ∙ passed-all (c .before .loop .inv .0) (c .loop-test .left)))
+first-reading-returns-4 : (t : ℕ) → first-reading-lts.Need-returns-4 (first-reading-claims t) (first-reading-at t) first-reading.Post first-reading-Inv-loop first-reading-μ-loop
+first-reading-returns-4 t c = answer-from (c .before .loop .inv .1) (answer-none _ (reading-below _ _ _ _ _ _ _ _ (c .before .before .least-member .ensures .0) ∙ passed-all (c .before .loop .inv .0) (c .loop-test .left)))
 
 read-with-move-at-requires : (t : ℕ) → read-with-lts.Need-move-at-requires (read-with-claims t) (read-with-at t) read-with.Post
 read-with-move-at-requires t c κs = search needs
@@ -179,16 +190,18 @@ pub +first-reading+read-with-spec : {M : Type 1} → statement M
     first-reading-μ-loop
     (first-reading-is-wanted-requires t)
     (first-reading-returns t)
+    (first-reading-can-fill-requires t)
+    (first-reading-returns-2 t)
     (first-reading-least-member-requires t)
     (first-reading-loop-holds t)
     (first-reading-read-with-requires t)
     (first-reading-same-length t)
-    (first-reading-returns-2 t)
+    (first-reading-returns-3 t)
     (first-reading-add-i t)
     (first-reading-loop-less t)
     (first-reading-loop-again t)
     (first-reading-same-length-2 t)
-    (first-reading-returns-3 t))
+    (first-reading-returns-4 t))
     λ t. read-with-lts.spec
     (read-with-claims t)
     (read-with-at t)

@@ -24,7 +24,7 @@ use Rattle.first_reading.specs.Search.Laws.{reached, readOn, reading-fir
 
 -- ---- readings
 
-reached-some : (goal : List ℕ) (o : Option Joins) → reached goal o ≡ true → (k : Joins) × (o ≡ some k) × (joinsKey k ≡ goal)
+pub reached-some : (goal : List ℕ) (o : Option Joins) → reached goal o ≡ true → (k : Joins) × (o ≡ some k) × (joinsKey k ≡ goal)
 unfolding reached
 reached-some goal none h = absurd (false≢true h)
 reached-some goal (some k) h = (k, refl, same-eq (joinsKey k) goal h)

@@ -1,25 +1,36 @@
 -- The turns of the loop over edges, and what does not depend on the inner edges.
 -- Assumes nothing.
 use Prim.Native.Nat.{ℕ, _+_, _≤_, _<_}
-use mathlib.Core.Bool.{Bool}
-use mathlib.Core.Path.{_≡_, refl, ap, ap₂, sym, _∙_}
-use mathlib.Core.List.{List, _∷_}
+use mathlib.Core.Bool.{Bool, _||_}
+use mathlib.Core.Path.{_≡_, refl, ap, ap₂, sym, _∙_, subst}
+use mathlib.Core.List.{List, _∷_, List·Memᴰ}
 use native.Mathlib.Omega.{arith}
 use lib.ListN.{length, getD}
 use borrow.Author.Tests.{eq-eqb, ne-eqb}
+use lib.Dec.{leb}
 use Rattle.words.specs.Sets.{join, single, members}
 use Rattle.words.specs.Sets.Laws.{members-empty}
 use Rattle.words.specs.Lists.{when}
 use Rattle.automata.specs.Automaton.{Automaton, Edge, noEdge, edges, edgeAt, edgesOf, entryAt, entryOf, entryControl, entrySet}
+use Rattle.automata.specs.Automaton.Laws.{edgesOf-in}
 use Rattle.automata.specs.Derivation.{Result, Joins, resultOf}
 use Rattle.automata.specs.Saturation.{isResult, held}
 use Rattle.tables.specs.declared.Table.{Table}
 use Rattle.tables.specs.Held.{automatonOf, tableOf, edgesIn}
 use Rattle.tables.specs.Pending.{pendingIn}
-use Rattle.readings.specs.Offers.{Collects, offerAll}
-use Rattle.readings.specs.Offers.Laws.{OfferedBelow, passed-none, passed-more, passed-all, collects-same, collects-none}
+use Rattle.offers.specs.Offers.{AllHeld, Collects, offerAll}
+use Rattle.offers.specs.Offers.Laws.{OfferedBelow, passed-none, passed-more, passed-all, collects-same, collects-none}
 use Rattle.readings.specs.Readings.{readResults, edgeResults}
+use Rattle.offers.specs.Offers.Alike.{covered-in, collects-alike}
+use Rattle.tables.specs.Rows.{rowsIn}
+use Rattle.tables.specs.Rows.Laws.{length-rowsIn}
+use Rattle.tables.specs.Layouts.{edgeRow}
 use Rattle.tables.specs.Held.Laws.{length-edgesIn}
+use Rattle.choices.specs.Unchanged.{Unchanged}
+use Rattle.readings.specs.declared.Earlier.{Earlier}
+use Rattle.readings.specs.Earlier.{earlierOf, Known}
+use Rattle.readings.specs.Naming.{namedWith}
+use Rattle.readings.specs.Naming.Laws.{named-less, named-more, known-edge}
 use Rattle.readings.specs.Edges.{edgesTest}
 
 -- ---- what does not depend on the inner edges
@@ -28,6 +39,9 @@ module _ (z : Table) (inner entries moves : List ℕ) where
   held-edges : held (tableOf z entries moves) ≡ held (automatonOf z inner entries moves)
   unfolding held isResult entryOf entryAt resultOf entryControl entrySet
   held-edges = refl
+
+  pub all-held-edges : (xs : List Result) → AllHeld (automatonOf z inner entries moves) xs → AllHeld (tableOf z entries moves) xs
+  all-held-edges xs h = record { all-held = λ x m. ap (λ (f : Result → Bool). f x) held-edges ∙ h .all-held x m }
 
   pub collects-edges : {room n r : ℕ} {t t′ : List ℕ} {xs : List Result} → Collects (tableOf z entries moves) room n t xs r t′ → Collects (automatonOf z inner entries moves) room n t xs r t′
   collects-edges {room} {n} {t = t} {xs = xs} c =
@@ -62,16 +76,18 @@ module _ (z : Table) (inner entries moves : List ℕ) (p a : ℕ) (j : Joins) (q
           let len : length (edgesIn z inner entries) ≡ z .edges + z .entries = length-edgesIn z inner entries in
           passed-more (automatonOf z inner entries moves) room (edgesTest q) (edgesIn z inner entries) noEdge edgeStep h (omega arith) (collects-same edges-list c) l
 
-      pub edges-yes : (bit N′ S′ k′ k″ : ℕ) (t″ t‴ : List ℕ) → e .state ≡ q → bit ≡ single (e .first) → N′ ≡ join N bit → S′ ≡ join S (e .S)
+      pub edges-yes : (c N′ S′ k′ k″ : ℕ) (t″ t‴ : List ℕ) → e .state ≡ q → Unchanged (automatonOf z inner entries moves) (e .first) a j c → N′ ≡ namedWith N (e .first) c → S′ ≡ join S (e .S)
           → Collects (automatonOf z inner entries moves) room k t′ (edgeResults (automatonOf z inner entries moves) p a j qs N′ S′) k′ t″
           → length t″ ≡ length t′ → t‴ ≡ t″ → k″ ≡ k′ → EdgesUpTo room n t (i + 1) k″ t‴
       unfolding when
-      edges-yes bit N′ S′ k′ k″ t″ t‴ y eb en es c l et ek =
+      edges-yes c N′ S′ k′ k″ t″ t‴ y u en es d l et ek =
           rw (et, ek)
           (edges-more k′ t″
-          (collects-same
-          (ap₂ (λ (x y : ℕ). edgeResults (automatonOf z inner entries moves) p a j qs x y) (en ∙ ap (join N) eb) es
-          ∙ ap (λ (b : Bool). when b (resultsBy e)) (sym (eq-eqb (e .state) q y))) c) l)
+          (collects-same (ap (λ (b : Bool). when b (resultsBy e)) (sym (eq-eqb (e .state) q y)))
+          (collects-alike
+          (covered-in (λ x m. named-more (automatonOf z inner entries moves) p a j qs N (e .first) c (join S (e .S)) u m))
+          (covered-in (λ x m. named-less (automatonOf z inner entries moves) p a j qs N (e .first) c (join S (e .S)) u m))
+          (collects-same (ap₂ (λ (x y : ℕ). edgeResults (automatonOf z inner entries moves) p a j qs x y) en es) d))) l)
 
       pub edges-no : (k′ : ℕ) (t″ : List ℕ) → (e .state ≡ q → ⊥) → t″ ≡ t′ → k′ ≡ k → EdgesUpTo room n t (i + 1) k′ t″
       unfolding when
@@ -86,6 +102,23 @@ module _ (z : Table) (inner entries moves : List ℕ) (p a : ℕ) (j : Joins) (q
         let len : length (edgesIn z inner entries) ≡ z .edges + z .entries = length-edgesIn z inner entries in
         passed-all (automatonOf z inner entries moves) room (edgesTest q) (edgesIn z inner entries) noEdge edgeStep h (omega arith)
 
+-- what is known of the choices that follow edge i of state q
+pub known-by : (z : Table) (inner entries moves : List ℕ) (w : Earlier) (p a : ℕ) (j : Joins) (q : ℕ) (qs : List ℕ) (N S i c N′ S′ : ℕ) (e : Edge) (new newer newest : Bool)
+    → i < z .edges + z .entries → e ≡ getD (edgesIn z inner entries) i noEdge → e .state ≡ q → Unchanged (automatonOf z inner entries moves) (e .first) a j c
+    → newer ≡ new || leb (z .edges + w .entries) i → newest ≡ newer || leb (w .moves + 1) c → N′ ≡ namedWith N (e .first) c → S′ ≡ join S (e .S)
+    → Known (automatonOf z inner entries moves) new (edgeResults (earlierOf w (automatonOf z inner entries moves)) p a j (q ∷ qs) N S)
+    → Known (automatonOf z inner entries moves) newest (edgeResults (earlierOf w (automatonOf z inner entries moves)) p a j qs N′ S′)
+unfolding edgeAt edges
+known-by z inner entries moves w p a j q qs N S i c N′ S′ e new newer newest b f y u d g en es k =
+    let A : Automaton = automatonOf z inner entries moves in
+    let len : length (edgesIn z inner entries) ≡ z .edges + z .entries = length-edgesIn z inner entries in
+    let rows : length (rowsIn edgeRow (z .edges) inner) ≡ z .edges = length-rowsIn edgeRow (z .edges) inner in
+    let there : List·Memᴰ i (edgesOf A q) = edgesOf-in A (record { below = omega arith; state-is = ap (λ (x : Edge). x .state) (sym f) ∙ y }) in
+    rw (en, es, f)
+    (known-edge A w p a j q qs N S i c new newer newest there
+    (subst (λ (x : Edge). Unchanged A (x .first) a j c) f u)
+    (d ∙ ap (λ (x : ℕ). new || leb (x + w .entries) i) (sym rows)) g k)
+
 -- the first of the states left, and the others
 pub edges-left : (A : Automaton) (p a : ℕ) (j : Joins) (N S left q : ℕ) (qs : List ℕ) {room n k : ℕ} {t t′ : List ℕ} → members left ≡ q ∷ qs
     → Collects A room n t (edgeResults A p a j (q ∷ qs) N S) k t′ → Collects A room n t (edgeResults A p a j (members left) N S) k t′
@@ -97,3 +130,13 @@ pub edges-end : (A : Automaton) (p a : ℕ) (j : Joins) (N S left room n k : ℕ
 unfolding edgeResults
 edges-end A p a j N S left room n k t t′ e c =
     collects-same (ap (λ (l : List ℕ). edgeResults A p a j l N S) (sym (ap members e ∙ members-empty))) c
+
+module _ (A E : Automaton) (p a : ℕ) (j : Joins) (N S left : ℕ) (new : Bool) where
+  -- what is known, by the first of the states left
+  pub known-left : (q : ℕ) (qs : List ℕ) → members left ≡ q ∷ qs → Known A new (edgeResults E p a j (members left) N S) → Known A new (edgeResults E p a j (q ∷ qs) N S)
+  known-left q qs e k = subst (λ (l : List ℕ). Known A new (edgeResults E p a j l N S)) e k
+
+  -- what is known where no state is left
+  pub known-end : left ≡ 0 → Known A new (edgeResults E p a j (members left) N S) → Known A new (readResults E p a S (members N) j)
+  unfolding edgeResults
+  known-end e k = subst (λ (l : List ℕ). Known A new (edgeResults E p a j l N S)) (ap members e ∙ members-empty) k

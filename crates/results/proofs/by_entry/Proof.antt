@@ -7,25 +7,25 @@ use Rattle.results.proofs.by_entry.Statement.{statement}
 use Rattle.results.proofs.by_entry.Tie as tie
 
 entry-at-requires : tie.Need-entry-at-requires
-entry-at-requires c κs = omega (arith, (c .before .before .before .pre .0 .entries-lent))
+entry-at-requires c κs = omega (arith, c .before .before .before .before .pre .0 .entries-lent)
 
 returns : tie.Need-returns
-returns c = entry-other (c .before .before .before .before .before .before .args .z) _ _ _ _ _ _ _ _ _ _ _ (c .before .before .entry-at .ensures) (c .before .before .before .before .before .before .pre .2 .number) (c .if1 .taken)
+returns c = entry-other (c .before .before .before .before .before .before .before .args .z) _ _ _ _ _ _ _ _ _ _ _ (c .before .before .entry-at .ensures) (c .before .before .before .before .before .before .before .pre .3 .number) (c .if1 .taken)
 
 add-entry-result : tie.Need-add-entry-result
 add-entry-result c = search needs
 
 entry-result-requires : tie.Need-entry-result-requires
-entry-result-requires c κs = omega (arith, (c .before .before .before .before .before .before .before .pre .0 .states-few))
+entry-result-requires c κs = omega (arith, c .before .before .before .before .before .before .before .before .pre .0 .states-few)
 
 offer-requires : tie.Need-offer-requires
-offer-requires c κs = ((c .before .before .before .before .before .before .before .before .before .pre .0), (c .before .before .before .before .before .before .before .before .before .pre .1), (c .before .before .before .before .before .before .before .before .before .pre .2))
+offer-requires c κs = (c .before .before .before .before .before .before .before .before .before .before .pre .0, c .before .before .before .before .before .before .before .before .before .before .pre .1, c .before .before .before .before .before .before .before .before .before .before .pre .2, c .before .before .before .before .before .before .before .before .before .before .pre .3)
 
 same-length : tie.Need-same-length
 same-length c = search needs
 
 returns-2 : tie.Need-returns-2
-returns-2 c = entry-premise (c .before .before .before .before .before .before .before .before .before .before .before .before .args .z) _ _ _ _ _ _ _ _ _ _ _ (c .before .before .before .before .before .before .before .before .entry-at .ensures) _ _ _ (c .before .before .before .before .before .before .if1 .left) (c .before .before .before .before .entry-result .ensures) (c .before .before .offer .ensures)
+returns-2 c = entry-premise (c .before .before .before .before .before .before .before .before .before .before .before .before .before .args .z) _ _ _ _ _ _ _ _ _ _ _ (c .before .before .before .before .before .before .before .before .entry-at .ensures) _ _ _ (c .before .before .before .before .before .before .if1 .left) (c .before .before .before .before .entry-result .ensures) (c .before .before .offer .ensures)
 
 pub by-entry-spec : {M : Type 1} → statement M
 by-entry-spec =

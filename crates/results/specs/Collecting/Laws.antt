@@ -4,11 +4,11 @@ use Prim.Native.Nat.{ℕ, _+_, _≤_, _<_}
 use mathlib.Core.Bool.{not}
 use mathlib.Core.Path.{_≡_, refl, ap, sym, _∙_, subst}
 use mathlib.Core.Option.{Option}
-use mathlib.Core.List.{List, [], _∷_, _++_}
+use mathlib.Core.List.{List, [], _∷_, _++_, List·Memᴰ}
 use native.Mathlib.Omega.{arith}
 use lib.ListN.{length}
 use Rattle.words.specs.Lists.{each, only}
-use Rattle.words.specs.Lists.Laws.{each-append, each-one}
+use Rattle.words.specs.Lists.Laws.{each-append, each-one, each-in, getD-in}
 use Rattle.words.specs.Order.{sorted}
 use Rattle.stacks.specs.System.{Rule}
 use Rattle.automata.specs.Automaton.{Automaton}
@@ -17,11 +17,14 @@ use Rattle.automata.specs.Saturation.{held, results}
 use Rattle.files.specs.Case.{ruleOf, ruleBytes}
 use Rattle.bytes_in.specs.Records.{recordAt}
 use Rattle.tables.specs.Rows.{firstOf, rowsIn}
-use Rattle.tables.specs.Rows.Laws.{firstOf-more}
+use Rattle.tables.specs.Rows.Laws.{firstOf-more, length-firstOf, getD-firstOf}
 use Rattle.tables.specs.Pending.{limited, pendingIn}
 use Rattle.tables.specs.Pending.Laws.{pending-fits}
-use Rattle.readings.specs.Offers.{Collects, offerAll}
-use Rattle.readings.specs.Offers.Laws.{offered-all, collects-none, collects-then, collects-same}
+use Rattle.offers.specs.Offers.{Collects, offerAll}
+use Rattle.offers.specs.Offers.Laws.{offered-all, collects-none, collects-then, collects-same}
+use Rattle.premises.specs.declared.Before.{Before}
+use Rattle.premises.specs.Before.{tableBefore, SettledBy}
+use Rattle.premises.specs.Before.Laws.{settled-within}
 use Rattle.results.specs.Rules.{ruleResults}
 use Rattle.results.specs.Rules.Laws.{results-are}
 use Rattle.results.specs.Collecting.{ruleIn, rulesIn, RulesStand, newResults}
@@ -63,3 +66,14 @@ module _ (A : Automaton) (room : ℕ) (body t : List ℕ) where
 pub next-small : (count i : ℕ) (body : List ℕ) (ρ : Rule) → RulesStand count body → i < count → ρ ≡ ruleOf (ruleBytes (recordAt 5 i body)) → ρ .next < 64
 unfolding ruleIn
 next-small count i body ρ h l e = subst (λ (k : ℕ). k < 64) (ap (λ (x : Rule). x .next) (sym e)) (h .nexts-small i l)
+
+-- what the table of the round before gives by one rule
+pub settled-rule : (A : Automaton) (t : Before) (count i : ℕ) (body : List ℕ) (ρ : Rule) → i < count → ρ ≡ ruleOf (ruleBytes (recordAt 5 i body))
+    → SettledBy A t (results (rulesIn count body) (tableBefore t A)) → SettledBy A t (ruleResults (tableBefore t A) ρ)
+unfolding rulesIn ruleIn
+settled-rule A t count i body ρ l e s =
+    settled-within A t (results (rulesIn count body) (tableBefore t A)) (ruleResults (tableBefore t A) ρ)
+    (λ x m. subst (List·Memᴰ x) (sym (results-are (rulesIn count body) (tableBefore t A)))
+    (each-in (ruleResults (tableBefore t A))
+    (subst (λ (y : Rule). List·Memᴰ y (firstOf count (ruleIn body))) (getD-firstOf count (ruleIn body) i (ruleIn body i) l ∙ sym e)
+    (getD-in (firstOf count (ruleIn body)) i (ruleIn body i) (let n = length-firstOf count (ruleIn body) in omega (arith, n)))) m)) s

@@ -19,13 +19,14 @@ use Rattle.tables.specs.Layouts.{entryRow}
 use Rattle.tables.specs.Held.{tableOf}
 use Rattle.tables.specs.Held.Laws.{entryAt-there}
 use Rattle.readings.specs.Readings.{resultTo}
-use Rattle.readings.specs.Offers.{Collects}
-use Rattle.readings.specs.Offers.Laws.{OfferedBelow, passed-none, passed-more, passed-all, collects-same, collects-none}
+use Rattle.offers.specs.Offers.{Collects}
+use Rattle.offers.specs.Offers.Alike.{passed-past}
+use Rattle.offers.specs.Offers.Laws.{OfferedBelow, passed-more, passed-all, collects-same, collects-none}
 use Rattle.results.specs.declared.EntryUse.{EntryUse}
 use Rattle.results.specs.declared.EntryUse.the-variants.{Popped, Collapsed}
 use Rattle.results.specs.Rules.{entryResult, entriesResults}
 use Rattle.results.specs.Steps.{entryStep}
-use Rattle.results.specs.Entries.{entryTest}
+use Rattle.results.specs.Entries.{entryTest, EntriesKnown}
 
 pub is-popped : (p a : ℕ) (k : EntryUse) (S r bit : ℕ) → k ≡ Popped → bit ≡ single r
     → resultTo p a S (record { order = 0; B = 0; R = bit }) ≡ entryResult p a k S r
@@ -59,8 +60,13 @@ module _ (z : Table) (entries moves : List ℕ) (p a : ℕ) (k : EntryUse) (q : 
       (sym (getD-rowsIn entryRow (z .entries) entries i noEntry h)) (sym set)
 
   module _ (room n : ℕ) (t : List ℕ) where
-    pub entries-none : n ≤ room + 1 → EntriesUpTo room n t 0 n t
-    entries-none h = passed-none (tableOf z entries moves) room (entryTest q) (rowsIn entryRow (z .entries) entries) noEntry entryOffers n t h
+    -- what the entries below number `first` give is held
+    pub entries-past : (first : ℕ) → n ≤ room + 1 → EntriesKnown (tableOf z entries moves) p a k q first → (first ≤ z .entries) × EntriesUpTo room n t first n t
+    unfolding entryOffers
+    entries-past first h known =
+        let len : length (rowsIn entryRow (z .entries) entries) ≡ z .entries = length-rowsIn entryRow (z .entries) entries in
+        let b = known .within in
+        (omega (arith, b), passed-past (tableOf z entries moves) room (entryTest q) (rowsIn entryRow (z .entries) entries) noEntry entryOffers n t first h b (known .known))
 
     pub entries-more : (i r : ℕ) (t′ : List ℕ) (r′ : ℕ) (t″ : List ℕ) → EntriesUpTo room n t i r t′ → i < z .entries
         → Collects (tableOf z entries moves) room r t′ (entryStep (tableOf z entries moves) p a k q i (rowAt entryRow entries i)) r′ t″

@@ -16,7 +16,8 @@ use Rattle.automata.specs.Derivation.{byRewrite, byPush1, byPush2, byCopy, byPo
 use Rattle.automata.specs.Saturation.{results}
 use Rattle.readings.specs.Readings.{resultTo, fromJoins, readResults, edgeResults}
 use Rattle.readings.specs.Readings.Laws.{readings-read, edges-read}
-use Rattle.results.specs.Rules.{orderFits, premiseResults, movesResults, entryResult, entriesResults, operationResults, ruleResults}
+use Rattle.premises.specs.Premises.{orderFits, premiseResults, movesResults}
+use Rattle.results.specs.Rules.{entryResult, entriesResults, operationResults, ruleResults}
 
 -- ---- maps
 

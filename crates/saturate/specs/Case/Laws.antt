@@ -22,7 +22,8 @@ use Rattle.rounds.specs.Limits.{KeepsLimits, within-keeps, keeps-within, satura
 use Rattle.files.specs.Bytes.{placed, countOf, offsetOf, recordsOf}
 use Rattle.files.specs.Bytes.Laws.{numbered, unrefused, records-at, length-recordsOf}
 use Rattle.files.specs.Case.{caseBodies, caseTests, caseRefusal, Head, head, entriesOf, ownOf, rulesOf, ruleOf, ruleBytes, ruleRecords, EdgeBytes, innerEdges, edgeRecords, moveOf, moveRecords}
-use Rattle.files.specs.Case.Laws.{CasePlaces, case-placed, case-head, case-rules, case-inner, case-moves-few, case-states-few, case-edges-few}
+use Rattle.files.specs.Case.Laws.{CasePlaces, case-placed, case-head, case-rules, case-inner, case-moves-few, case-states-few, case-edges-few, case-table}
+use Rattle.automata.specs.Facts.Laws.{moveAt-facts}
 use Rattle.bytes_in.specs.Records.{recordAt, bodyOf}
 use Rattle.bytes_in.specs.Records.Laws.{body-fits, records-here}
 use Rattle.services.specs.Memory.{lent}
@@ -36,6 +37,7 @@ use Rattle.case_tables.specs.WrittenRows.{written}
 use Rattle.case_tables.specs.Own.{RoomForOwn}
 use Rattle.results.specs.Collecting.{ruleIn, rulesIn, RulesStand}
 use Rattle.saturation.specs.Rounding.{Standing}
+use Rattle.saturation.specs.Prepared.{StatesExist}
 use Rattle.saturation.specs.Running.{mostMoves, mostEntries, Given, ended, Ends}
 use Rattle.saturation.specs.Layout.{sizeRow}
 use Rattle.saturate.specs.Case.{CaseSaturated}
@@ -235,6 +237,7 @@ module _ (file : List ℕ) (sound : caseRefusal file ≡ 0) where
             entries-stand = record { entries-lent = omega arith; states-few = omega arith };
             moves-stand = record { moves-lent = omega arith };
             moves-few = omega arith;
+            states-exist = subst StatesExist (sym own) (record { exists = λ i b. moveAt-facts (case-table file sound) i b .state-exists });
           }
 
       -- ---- the end

@@ -7,10 +7,23 @@ use Rattle.saturation.proofs.add_round.Statement.{statement}
 use Rattle.saturation.proofs.add_round.Tie as tie
 
 sub-room : tie.Need-sub-room
-sub-room c = omega (arith, (c .before .before .before .before .before .before .before .pre .0 .moves-few))
+sub-room c = omega (arith, c .before .before .before .before .before .before .before .before .before .before .pre .0 .moves-few)
 
 collect-requires : tie.Need-collect-requires
-collect-requires c κs = ((c .before .before .before .before .before .before .before .before .before .before .pre .0 .edges), standing-entries (c .before .before .before .before .before .before .before .before .before .before .args .z) _ _ _ _ _ (c .before .before .before .before .before .before .before .before .before .before .pre .0), standing-moves (c .before .before .before .before .before .before .before .before .before .before .args .z) _ _ _ _ _ (c .before .before .before .before .before .before .before .before .before .before .pre .0), (c .before .before .before .before .before .before .before .before .before .before .pre .1), omega (arith, (c .before .before .before .before .before .before .before .before .before .before .pre .2)))
+collect-requires c κs =
+    let start = c .before .before .before .before .before .before .before .before .before .before .before .before .before .before in (
+      record {
+        edges-stand = start .pre .0 .edges;
+        entries-stand = standing-entries (start .args .z) _ _ _ _ _ (start .pre .0);
+        moves-stand = standing-moves (start .args .z) _ _ _ _ _ (start .pre .0);
+        by-state = start .pre .3;
+        by-words = start .pre .4;
+      },
+      start .pre .1,
+      start .pre .5,
+      start .pre .6,
+      omega (arith, start .pre .2),
+    )
 
 same-length : tie.Need-same-length
 same-length c = search needs
@@ -21,14 +34,14 @@ same-length-2 c = search needs
 same-length-3 : tie.Need-same-length-3
 same-length-3 c = search needs
 
-returns : tie.Need-returns
-returns c = rounded-over _ _ (c .before .before .before .before .before .before .before .before .before .before .before .before .before .before .args .z) _ _ _ _ (c .before .before .before .before .before .before .before .before .before .before .before .before .before .before .pre .0) _ _ (c .before .before .before .collect .ensures .0) (c .if1 .taken)
-
-add-results-requires : tie.Need-add-results-requires
-add-results-requires c κs = ((c .before .before .before .before .before .before .before .before .before .before .before .before .before .before .before .before .before .pre .0 .growing), omega (arith, (c .before .before .before .before .before .before .before .before .before .before .before .before .before .before .before .before .before .pre .0 .moves-few), (c .before .before .before .before .before .before .before .before .before .before .before .before .before .before .before .before .before .pre .0 .moves-lent), (c .before .before .before .if1 .left)), omega (arith, (c .before .before .before .before .before .before .before .before .before .before .before .before .before .before .before .before .before .pre .2), (c .before .before .before .if1 .left), (c .before .before .before .before .before .before .collect .kept .1 .1 .1 .1 .1 .1 .0)))
-
 same-length-4 : tie.Need-same-length-4
 same-length-4 c = search needs
+
+returns : tie.Need-returns
+returns c = (rounded-over _ _ (c .before .before .before .before .before .before .before .before .before .before .before .before .before .before .before .before .before .before .before .before .args .z) _ _ _ _ (c .before .before .before .before .before .before .before .before .before .before .before .before .before .before .before .before .before .before .before .before .pre .0) _ _ (c .before .before .before .before .before .collect .ensures .0) (c .if1 .taken), c .before .before .before .before .before .collect .ensures .1 .1)
+
+add-results-requires : tie.Need-add-results-requires
+add-results-requires c κs = (c .before .before .before .before .before .before .before .before .before .before .before .before .before .before .before .before .before .before .before .before .before .before .before .pre .0 .growing, omega (arith, c .before .before .before .before .before .before .before .before .before .before .before .before .before .before .before .before .before .before .before .before .before .before .before .pre .0 .moves-few, c .before .before .before .before .before .before .before .before .before .before .before .before .before .before .before .before .before .before .before .before .before .before .before .pre .0 .moves-lent, c .before .before .before .if1 .left), omega (arith, c .before .before .before .before .before .before .before .before .before .before .before .before .before .before .before .before .before .before .before .before .before .before .before .pre .2, c .before .before .before .if1 .left, c .before .before .before .before .before .before .before .before .collect .kept .1 .1 .1 .1 .1 .1 .1 .1 .1 .1 .0))
 
 same-length-5 : tie.Need-same-length-5
 same-length-5 c = search needs
@@ -36,8 +49,14 @@ same-length-5 c = search needs
 same-length-6 : tie.Need-same-length-6
 same-length-6 c = search needs
 
+same-length-7 : tie.Need-same-length-7
+same-length-7 c = search needs
+
+same-length-8 : tie.Need-same-length-8
+same-length-8 c = search needs
+
 returns-2 : tie.Need-returns-2
-returns-2 c = rounded-added _ _ (c .before .before .before .before .before .before .before .before .before .before .before .before .before .before .before .before .before .before .before .before .before .before .args .z) _ _ _ _ (c .before .before .before .before .before .before .before .before .before .before .before .before .before .before .before .before .before .before .before .before .before .before .pre .0) _ _ (c .before .before .before .before .before .before .before .before .before .before .before .collect .ensures .0) _ _ _ _ (c .before .before .before .before .before .before .before .before .if1 .left) (c .before .before .before .before .add-results .ensures)
+returns-2 c = (rounded-added _ _ (c .before .before .before .before .before .before .before .before .before .before .before .before .before .before .before .before .before .before .before .before .before .before .before .before .before .before .before .before .args .z) _ _ _ _ (c .before .before .before .before .before .before .before .before .before .before .before .before .before .before .before .before .before .before .before .before .before .before .before .before .before .before .before .before .pre .0) _ _ (c .before .before .before .before .before .before .before .before .before .before .before .before .before .collect .ensures .0) _ _ _ _ (c .before .before .before .before .before .before .before .before .if1 .left) (c .before .before .before .before .add-results .ensures), c .before .before .before .before .before .before .before .before .before .before .before .before .before .collect .ensures .1 .1)
 
 pub add-round-spec : {M : Type 1} → statement M
 add-round-spec =
@@ -48,9 +67,11 @@ add-round-spec =
     same-length
     same-length-2
     same-length-3
+    same-length-4
     returns
     add-results-requires
-    same-length-4
     same-length-5
     same-length-6
+    same-length-7
+    same-length-8
     returns-2)

@@ -1,0 +1,14 @@
+-- `premises::order_fits` meets its contract.
+-- Assumes nothing.
+use borrow.Author.Tests.{eq-eqb, ne-eqb}
+use Rattle.premises.proofs.order_fits.Statement.{statement}
+use Rattle.premises.proofs.order_fits.Tie as tie
+
+returns : tie.Need-returns
+returns c = rw (eq-eqb _ _ (c .if1 .taken))
+
+returns-2 : tie.Need-returns-2
+returns-2 c = rw (ne-eqb _ _ (c .if1 .left))
+
+pub order-fits-spec : {M : Type 1} → statement M
+order-fits-spec = tie.close (tie.spec returns returns-2)

@@ -1,0 +1,26 @@
+-- What is known of the table of the round before: what it gives is held.
+-- Assumes nothing.
+pub mod Laws
+use Prim.Native.Nat.{ℕ, _+_, _≤_, _<_}
+use mathlib.Core.Bool.{true, false}
+use mathlib.Core.Path.{_≡_}
+use mathlib.Core.List.{List}
+use lib.ListN.{length}
+use Rattle.automata.specs.Automaton.{Automaton, moveAt}
+use Rattle.automata.specs.Derivation.{Result}
+use Rattle.automata.specs.Saturation.{upTo}
+use Rattle.offers.specs.Offers.{AllHeld}
+use Rattle.premises.specs.declared.Before.{Before}
+
+-- the table of the round before
+abbrev pub tableBefore : Before → Automaton → Automaton
+tableBefore t A = upTo (record { moves = t .moves; entries = t .entries }) A
+
+-- The table of the round before is a part of this one, and its moves are of states that it had; before round 1 there was none. These
+-- results, which it gives, are held.
+pub record SettledBy (A : Automaton) (t : Before) (xs : List Result) : Type 0 where
+  pub moves-before : t .moves ≤ length (A .moves)
+  pub entries-before : t .entries ≤ length (A .entries)
+  pub states-before : (i : ℕ) → i < t .moves → moveAt A i .state < A .J + t .entries
+  pub none-before : t .any ≡ false → (t .moves ≡ 0) × (t .entries ≡ 0)
+  pub held-before : t .any ≡ true → AllHeld A xs

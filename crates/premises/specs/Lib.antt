@@ -1,0 +1,4 @@
+pub mod Premises
+pub mod Steps
+pub mod Before
+pub mod First

@@ -1,3 +1,0 @@
--- Laws about definitions of the crates below.
--- Assumes nothing.
-pub mod Holding

@@ -1,0 +1,131 @@
+-- What is prepared for the first round, and for the next one.
+-- Assumes nothing.
+use Prim.Native.Nat.{ℕ, _+_, _≤_, _<_}
+use mathlib.Core.Bool.{true, false, false≢true}
+use mathlib.Core.Path.{_≡_, refl, ap₂, sym, _∙_, subst}
+use mathlib.Core.Logic.{_⊎_, ⊎-elim}
+use mathlib.Core.List.{List, [], _∷_, List·Memᴰ}
+use native.Mathlib.Omega.{arith}
+use lib.ListN.{length}
+use Rattle.words.specs.Lists.Laws.{last-or-before}
+use Rattle.stacks.specs.System.{Rule}
+use Rattle.automata.specs.Automaton.{Automaton, Move, noMove, moveAt}
+use Rattle.automata.specs.Facts.{states, Extends}
+use Rattle.automata.specs.Facts.Laws.{moveAt-kept, entries-grow}
+use Rattle.automata.specs.Derivation.{Result}
+use Rattle.automata.specs.Saturation.{add, addAll, extend, results, upTo, sizeOf, withEntry, held}
+use Rattle.automata.specs.Saturation.Laws.{extends-upTo}
+use Rattle.rounds.specs.Entries.{entryNumber-below, withEntry-grows}
+use Rattle.rounds.specs.Added.{newMove, addAll-extends, extend-holds}
+use Rattle.tables.specs.declared.Table.{Table}
+use Rattle.tables.specs.Rows.{rowAt, rowsIn}
+use Rattle.tables.specs.Rows.Laws.{length-rowsIn, getD-rowsIn}
+use Rattle.tables.specs.Layouts.{moveRow, entryRow}
+use Rattle.tables.specs.Held.{automatonOf}
+use Rattle.move_index.specs.Keys.{ByState, ByWords}
+use Rattle.move_index.specs.Keys.Laws.{by-state-same, by-words-same}
+use Rattle.readings.specs.Memo.{MemoBefore, MemoUpTo}
+use Rattle.readings.specs.Memo.Laws.{memo-next}
+use Rattle.premises.specs.Before.{tableBefore, SettledBy}
+use Rattle.results.specs.Collecting.{newResults}
+use Rattle.saturation.specs.Adding.{Grows}
+use Rattle.saturation.specs.Prepared.{StatesExist, Prepared}
+
+-- ---- states that exist
+
+add-exist : (A : Automaton) (x : Result) → StatesExist A → StatesExist (add A x)
+unfolding add moveAt newMove
+add-exist A x h =
+    record {
+      exists = λ i b.
+          let grow = withEntry-grows (x .control) (x .S) (A .entries) in
+          let new = entryNumber-below (x .control) (x .S) (A .entries) in
+          ⊎-elim
+          (λ w. let old = h .exists i (w .0) in
+          subst (λ (m : Move). m .state < A .J + length (withEntry (x .control) (x .S) (A .entries))) (sym (w .1)) (omega (arith, old, grow)))
+          (λ w. subst (λ (m : Move). m .state < A .J + length (withEntry (x .control) (x .S) (A .entries))) (sym (w .1)) (omega (arith, new)))
+          (last-or-before (A .moves) (newMove A x) i noMove b);
+    }
+
+pub addAll-exist : (A : Automaton) (xs : List Result) → StatesExist A → StatesExist (addAll A xs)
+unfolding addAll
+addAll-exist A [] h = h
+addAll-exist A (x ∷ xs) h = addAll-exist (add A x) xs (add-exist A x h)
+
+-- ---- round 1
+
+pub prepared-first : (rules : List Rule) (inner : List ℕ) (z : Table) (entries moves states words memo : List ℕ) → StatesExist (automatonOf z inner entries moves)
+    → ByState 0 moves states → ByWords 0 moves words → MemoBefore (z .moves) memo → Prepared rules inner z entries moves (record { any = false; moves = 0; entries = 0 }) states words memo
+prepared-first rules inner z entries moves states words memo h bs bw m =
+    record {
+      states-exist = h;
+      settled = record {
+        moves-before = omega arith;
+        entries-before = omega arith;
+        states-before = λ i b. absurd (omega arith);
+        none-before = λ e. (refl, refl);
+        held-before = λ e. absurd (false≢true e);
+      };
+      by-state = bs;
+      by-words = bw;
+      memo-before = m;
+    }
+
+-- ---- the next round
+
+module _ (rules : List Rule) (inner : List ℕ) (z : Table) (entries moves : List ℕ) (z′ : Table) (entries′ moves′ : List ℕ)
+    (g : Grows z entries moves (newResults rules (automatonOf z inner entries moves)) z′ entries′ moves′) where
+  grown : Extends (automatonOf z inner entries moves) (automatonOf z′ inner entries′ moves′)
+  grown = subst (Extends (automatonOf z inner entries moves)) (sym (g .table-is inner)) (addAll-extends (automatonOf z inner entries moves) (newResults rules (automatonOf z inner entries moves)))
+
+  -- the rows of the moves so far stay
+  same-rows : (i : ℕ) → i < z .moves → rowAt moveRow moves i ≡ rowAt moveRow moves′ i
+  unfolding moveAt
+  same-rows i b =
+      let len : length (rowsIn moveRow (z .moves) moves) ≡ z .moves = length-rowsIn moveRow (z .moves) moves in
+      let more = g .moves-more in
+      sym (getD-rowsIn moveRow (z .moves) moves i noMove b)
+      ∙ sym (moveAt-kept grown i (omega arith))
+      ∙ getD-rowsIn moveRow (z′ .moves) moves′ i noMove (omega (arith, more))
+
+  settled-next : StatesExist (automatonOf z inner entries moves)
+      → SettledBy (automatonOf z′ inner entries′ moves′) (record { any = true; moves = z .moves; entries = z .entries })
+      (results rules (tableBefore (record { any = true; moves = z .moves; entries = z .entries }) (automatonOf z′ inner entries′ moves′)))
+  unfolding extend newResults sizeOf
+  settled-next h =
+      let A : Automaton = automatonOf z inner entries moves in
+      let A′ : Automaton = automatonOf z′ inner entries′ moves′ in
+      let nm : length (A .moves) ≡ z .moves = length-rowsIn moveRow (z .moves) moves in
+      let ne : length (A .entries) ≡ z .entries = length-rowsIn entryRow (z .entries) entries in
+      let nm′ : length (A′ .moves) ≡ z′ .moves = length-rowsIn moveRow (z′ .moves) moves′ in
+      let more = g .moves-more in
+      let eg : length (A .entries) ≤ length (A′ .entries) = entries-grow grown in
+      let back : upTo (record { moves = z .moves; entries = z .entries }) A′ ≡ A =
+      ap₂ (λ (m e : ℕ). upTo (record { moves = m; entries = e }) A′) (sym nm) (sym ne) ∙ extends-upTo grown in
+      record {
+        moves-before = omega arith;
+        entries-before = omega arith;
+        states-before = λ i b.
+            let old = h .exists i (omega arith) in
+            let same = moveAt-kept grown i (omega arith) in
+            let J : A′ .J ≡ A .J = grown .same-J in
+            subst (λ (m : Move). m .state < A′ .J + z .entries) (sym same) (omega (arith, old, J, ne));
+        none-before = λ e. absurd (false≢true (sym e));
+        held-before = λ e.
+            record {
+              all-held = λ x m.
+                  subst (λ (C : Automaton). held C x ≡ true) (sym (g .table-is inner))
+                  (extend-holds A {xs = results rules A} (subst (λ (C : Automaton). List·Memᴰ x (results rules C)) back m));
+            };
+      }
+
+  pub prepared-next : (states words memo : List ℕ) → StatesExist (automatonOf z inner entries moves) → ByState (z .moves) moves states → ByWords (z .moves) moves words → MemoUpTo (z .moves) memo
+      → z .moves < z′ .moves → Prepared rules inner z′ entries′ moves′ (record { any = true; moves = z .moves; entries = z .entries }) states words memo
+  prepared-next states words memo h bs bw m l =
+      record {
+        states-exist = subst StatesExist (sym (g .table-is inner)) (addAll-exist (automatonOf z inner entries moves) (newResults rules (automatonOf z inner entries moves)) h);
+        settled = settled-next h;
+        by-state = by-state-same (z .moves) moves moves′ states same-rows bs;
+        by-words = by-words-same (z .moves) moves moves′ words same-rows bw;
+        memo-before = memo-next m l;
+      }
