@@ -14,7 +14,7 @@
  * pointer or allocates, as the language has neither, and each returns, as the
  * checker asks of every loop and recursion.
  *
- * A call runs on the caller's stack and takes up to 1.29 MB of it, the listing 1.40
+ * A call runs on the caller's stack and takes up to 1.24 MB of it, the listing 1.35
  * MB. This is measured (host/stack.c) and not proved: call from a thread that has
  * 2 MB.
  *
