@@ -1,6 +1,7 @@
 -- What is known of the table of the round before: what it gives is held.
 -- Assumes nothing.
 pub mod Laws
+pub mod Known
 use Prim.Native.Nat.{ℕ, _+_, _≤_, _<_}
 use mathlib.Core.Bool.{true, false}
 use mathlib.Core.Path.{_≡_}

@@ -1,4 +1,3 @@
 pub mod Premises
 pub mod Steps
 pub mod Before
-pub mod First

@@ -1,26 +1,23 @@
-// What moves of entries give as premises of a rule, collected. What an old premise gave in the round before is held, so it is looked at again
-// only where something is new for its reading.
+// What a move of an entry gives as the premise of a rule, collected. What an old premise gave in the round before is held.
 ghost use mathlib.Core.Path.{_≡_};
 ghost use mathlib.Core.Bool.{_||_};
-ghost use Prim.Native.Nat.{_<_, _%_};
-ghost use lib.Dec.{eqb, ltb};
-ghost use Rattle.words.specs.Sets.{member, members};
+ghost use Prim.Native.Nat.{_<_};
+ghost use lib.Dec.{eqb};
+ghost use Rattle.words.specs.Sets.{members};
 ghost use Rattle.words.specs.Lists.{when};
 ghost use Rattle.tables.specs.Rows.{rowAt};
 ghost use Rattle.tables.specs.Records.{asMove};
 ghost use Rattle.tables.specs.Layouts.{moveRow};
-ghost use Rattle.tables.specs.Held.{automatonOf, MovesStand};
+ghost use Rattle.tables.specs.Held.{automatonOf};
 ghost use Rattle.joins.specs.Joining.{theJoins};
 ghost use Rattle.offers.specs.Offers.{Collects, Room};
 ghost use Rattle.readings.specs.Indexed.{Indexed};
 ghost use Rattle.readings.specs.Readings.{readResults};
 ghost use Rattle.readings.specs.Earlier.{earlierOf, Settles, Known};
 ghost use Rattle.readings.specs.Memo.{MemoHolds};
-ghost use Rattle.round_news.specs.News.{HasSymbols, NoneHas};
 ghost use Rattle.premises.specs.Premises.{orderFits, premiseResults, movesResults};
 ghost use Rattle.premises.specs.Steps.{moveStep};
 ghost use Rattle.premises.specs.Before.{tableBefore, SettledBy};
-ghost use Rattle.premises.specs.First.{readsNew, firstMove};
 use readings::Earlier;
 
 // How an operation uses a move of an entry.
@@ -212,7 +209,7 @@ fn by_premise(
 }
 
 // Collects what move number i gives, where it is one on b of an entry of control q.
-fn by_move(
+pub fn by_move(
     z: tables::Table,
     inner: &[u64],
     entries: &[u64],
@@ -262,102 +259,4 @@ fn by_move(
         n,
         room,
     )
-}
-
-// Whether an old premise can give something new, where the symbols of the newer moves are given.
-fn reads_new(kind: MoveUse, z: tables::Table, t: Before, symbols: u64, a: u64) -> bool
-    ensures { λ r. ⌜ r ≡ readsNew kind (member symbols (a % 64)) (ltb (t .entries) (z .entries)) ⌝ }
-{
-    match kind {
-        MoveUse::Rewritten => false,
-        MoveUse::Pushed1 => round_news::has_symbol(symbols, a),
-        MoveUse::Pushed2 => round_news::has_symbol(symbols, a),
-        MoveUse::Copied => {
-            if round_news::has_symbol(symbols, a) {
-                return true;
-            }
-            t.entries < z.entries
-        }
-    }
-}
-
-// The first move that has to be looked at as a premise on b.
-fn first_move(reads: bool, z: tables::Table, t: Before, symbols: u64, b: u64) -> usize
-    ensures { λ i. ⌜ i ≡ firstMove reads (member symbols (b % 64)) (t .moves) (z .moves) ⌝ }
-{
-    if reads {
-        return 0;
-    }
-    if round_news::has_symbol(symbols, b) {
-        return t.moves;
-    }
-    z.moves
-}
-
-// States without a newer move on symbol a; where this is not asked for, no state.
-fn settled(z: tables::Table, moves: &[u64], t: Before, reads: bool, a: u64) -> u64
-    requires { ⌜ MovesStand z (now moves) ⌝ }
-    ensures { λ s. ⌜ NoneHas (now (moves .entry)) (t .moves) (z .moves) a s ⌝ }
-{
-    if !reads {
-        return 0;
-    }
-    round_news::settled_states(moves, t.moves, z.moves, a)
-}
-
-// Collects what the moves on b of the entries of control q give. The symbols of the newer moves are given.
-pub fn by_moves(
-    z: tables::Table,
-    inner: &[u64],
-    entries: &[u64],
-    moves: &[u64],
-    states: &[u16],
-    words: &[u16],
-    to: readings::Goal,
-    t: Before,
-    symbols: u64,
-    kind: MoveUse,
-    b: u64,
-    q: u64,
-    memo: &mut [u64],
-    out: &mut [u64],
-    n: usize,
-    room: usize,
-) -> usize
-    requires { ⌜ Indexed z (now inner) (now entries) (now moves) (now states) (now words) × SettledBy (automatonOf z (now inner) (now entries) (now moves)) t (movesResults (tableBefore t (automatonOf z (now inner) (now entries) (now moves))) (to .control) (to .symbol) kind b q) × HasSymbols (now moves) (t .moves) (z .moves) symbols × Room room n (now out) × MemoHolds (automatonOf z (now inner) (now entries) (now moves)) room n (now out) (now memo) ⌝ }
-    ensures { λ r. ⌜ Collects (automatonOf z (now (inner .entry)) (now (entries .entry)) (now (moves .entry))) room n (now (out .entry)) (movesResults (automatonOf z (now (inner .entry)) (now (entries .entry)) (now (moves .entry))) (to .control) (to .symbol) kind b q) r (now (out .exit)) ⌝ }
-    ensures { λ r. ⌜ MemoHolds (automatonOf z (now (inner .entry)) (now (entries .entry)) (now (moves .entry))) room r (now (out .exit)) (now (memo .exit)) ⌝ }
-{
-    let reads = reads_new(kind, z, t, symbols, to.symbol);
-    let w = Earlier {
-        moves: t.moves,
-        entries: t.entries,
-        settled: settled(z, moves, t, reads, to.symbol),
-    };
-    let count = z.moves;
-    let mut k = n;
-    let mut i = first_move(reads, z, t, symbols, b);
-    while i < count {
-        k = by_move(
-            z,
-            inner,
-            entries,
-            moves,
-            states,
-            words,
-            to,
-            w,
-            t,
-            kind,
-            b,
-            q,
-            i,
-            memo,
-            out,
-            k,
-            room,
-        );
-        i += 1;
-    }
-    k
 }

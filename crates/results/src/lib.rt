@@ -148,7 +148,7 @@ fn use_of(rule: case_records::Rule) -> Use
 }
 
 // Collects what an operation gives that uses this and goes to control q. The table of the round before, t, and the symbols of the newer moves
-// are those of `premises::by_moves`, here and in the functions that follow; so are the index and `memo`.
+// are those of `control_moves::by_moves`, here and in the functions that follow; so are the index and `memo`.
 fn by_use(
     z: tables::Table,
     inner: &[u64],
@@ -171,7 +171,7 @@ fn by_use(
     ensures { λ r. ⌜ MemoHolds (automatonOf z (now (inner .entry)) (now (entries .entry)) (now (moves .entry))) room r (now (out .exit)) (now (memo .exit)) ⌝ }
 {
     match used {
-        Use::Moves(k, b) => premises::by_moves(
+        Use::Moves(k, b) => control_moves::by_moves(
             z,
             inner,
             entries,

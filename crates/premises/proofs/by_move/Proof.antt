@@ -4,7 +4,7 @@ use mathlib.Core.Path.{refl}
 use native.Mathlib.Omega.{arith}
 use borrow.Author.Tests.{not-true, not-false}
 use Rattle.premises.specs.Steps.Laws.{step-other, step-control, step-premise}
-use Rattle.premises.specs.First.Laws.{known-premise}
+use Rattle.premises.specs.Before.Known.{known-premise}
 use borrow.Author.Needs.{needs}
 use Rattle.premises.proofs.by_move.Statement.{statement}
 use Rattle.premises.proofs.by_move.Tie as tie

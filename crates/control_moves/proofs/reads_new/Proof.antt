@@ -1,9 +1,9 @@
--- `premises::reads_new` meets its contract.
+-- `control_moves::reads_new` meets its contract.
 -- Assumes nothing.
-use Rattle.premises.specs.First.Laws.{reads-rewritten, reads-pushed1, reads-pushed2, reads-moves, reads-entries}
+use Rattle.control_moves.specs.First.Laws.{reads-rewritten, reads-pushed1, reads-pushed2, reads-moves, reads-entries}
 use borrow.Author.Needs.{needs}
-use Rattle.premises.proofs.reads_new.Statement.{statement}
-use Rattle.premises.proofs.reads_new.Tie as tie
+use Rattle.control_moves.proofs.reads_new.Statement.{statement}
+use Rattle.control_moves.proofs.reads_new.Tie as tie
 
 enum-told : tie.Need-enum-told
 enum-told c = search needs

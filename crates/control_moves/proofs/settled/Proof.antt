@@ -1,8 +1,8 @@
--- `premises::settled` meets its contract.
+-- `control_moves::settled` meets its contract.
 -- Assumes nothing.
-use Rattle.premises.specs.First.Laws.{none-settled}
-use Rattle.premises.proofs.settled.Statement.{statement}
-use Rattle.premises.proofs.settled.Tie as tie
+use Rattle.control_moves.specs.First.Laws.{none-settled}
+use Rattle.control_moves.proofs.settled.Statement.{statement}
+use Rattle.control_moves.proofs.settled.Tie as tie
 
 returns : tie.Need-returns
 returns c = none-settled _ _ _ _

@@ -1,59 +1,45 @@
 -- What the premises that are passed over give is held.
 -- Assumes nothing.
 use Prim.Native.Nat.{ℕ, _%_, _^_, _≤_, _<_}
-use mathlib.Core.Bool.{Bool, true, false, _&&_, _||_, false≢true}
-use mathlib.Core.Path.{_≡_, refl, ap, ap₂, sym, _∙_, subst}
+use mathlib.Core.Bool.{Bool, true, false, _||_, false≢true}
+use mathlib.Core.Path.{_≡_, refl, ap, sym, _∙_, subst}
 use mathlib.Core.Logic.{_⊎_, inl, inr, ⊎-elim}
-use mathlib.Core.List.{List, [], List·Memᴰ}
+use mathlib.Core.List.{List, List·Memᴰ}
 use native.Mathlib.Omega.{arith}
 use lib.ListN.{length, getD}
 use lib.Dec.{eqb, leb, ltb}
-use borrow.Author.Tests.{eqb-true, eq-eqb, leb-true, leb-false, ltb-false}
+use borrow.Author.Tests.{eqb-true, leb-true, leb-false, ltb-false}
 use Rattle.words.specs.Sets.{member}
 use Rattle.words.specs.Sets.Laws.{Has, has-empty, has-below}
-use Rattle.words.specs.Lists.Laws.{each-in, places-in}
 use Rattle.words.specs.Laws.Tests.{by-test, and-left}
-use Rattle.automata.specs.Automaton.{Automaton, Move, noMove, moveAt, entryAt, entryOf, entrySet}
+use Rattle.automata.specs.Automaton.{Automaton, Move, noMove, moveAt, entrySet}
 use Rattle.automata.specs.Automaton.Laws.{length-edges}
 use Rattle.automata.specs.Derivation.{controlMoves}
 use Rattle.automata.specs.Saturation.{upTo}
 use Rattle.automata.specs.Saturation.Laws.{upTo-extends}
 use Rattle.tables.specs.declared.Table.{Table}
 use Rattle.tables.specs.Rows.{rowAt, rowsIn}
-use Rattle.tables.specs.Rows.Laws.{length-rowsIn, getD-rowsIn}
+use Rattle.tables.specs.Rows.Laws.{length-rowsIn}
 use Rattle.tables.specs.Layouts.{moveRow, entryRow}
-use Rattle.tables.specs.Held.{automatonOf, tableOf}
+use Rattle.tables.specs.Held.{automatonOf}
 use Rattle.tables.specs.Held.Laws.{row-move}
 use Rattle.offers.specs.Offers.{AllHeld}
 use Rattle.readings.specs.declared.Earlier.{Earlier}
-use Rattle.readings.specs.Earlier.{earlierOf, Settles, Known}
+use Rattle.readings.specs.Earlier.{Settles}
 use Rattle.round_news.specs.News.{HasSymbols, NoneHas}
 use Rattle.premises.specs.declared.MoveUse.{MoveUse}
 use Rattle.premises.specs.declared.MoveUse.the-variants.{Rewritten, Pushed1, Pushed2, Copied}
 use Rattle.premises.specs.declared.Before.{Before}
 use Rattle.premises.specs.Premises.{premiseResults, movesResults}
 use Rattle.premises.specs.Steps.Laws.{controlTest, moveOffers}
 use Rattle.premises.specs.Before.{tableBefore, SettledBy}
-use Rattle.premises.specs.Before.Laws.{premise-same, length-moves, length-entries, old-any, old-premise}
-use Rattle.premises.specs.First.{readsNew, firstMove}
+use Rattle.premises.specs.Before.Laws.{premise-same, length-moves, length-entries}
+use Rattle.premises.specs.Before.Known.{premise-known, there}
+use Rattle.control_moves.specs.First.{readsNew, firstMove}
 
 -- ---- an old premise
 
 module _ (A : Automaton) (t : Before) (p a : ℕ) (k : MoveUse) (b q : ℕ) (s : SettledBy A t (movesResults (tableBefore t A) p a k b q)) where
-  -- what an old premise gave in the round before
-  pub premise-known : (i : ℕ) → i < t .moves → List·Memᴰ i (controlMoves A q b)
-      → AllHeld A (premiseResults (tableBefore t A) p a k (entrySet A (moveAt A i .state)) (moveAt A i))
-  unfolding movesResults
-  premise-known i l m =
-      let E : Automaton = tableBefore t A in
-      let (there, same, set) = old-premise A t s q b i l m in
-      record {
-        all-held = λ x h. s .held-before (old-any A t s i l) .all-held x
-            (each-in (λ n. premiseResults E p a k (entrySet E (moveAt E n .state)) (moveAt E n)) there
-            (subst (λ (y : Move). List·Memᴰ x (premiseResults E p a k (entrySet E (y .state)) y)) same
-            (subst (λ (S : ℕ). List·Memᴰ x (premiseResults E p a k S (moveAt A i))) set h)));
-      }
-
   -- what an old premise gives now, where nothing is new for its reading
   premise-held : (i : ℕ) → i < t .moves → List·Memᴰ i (controlMoves A q b)
       → ((n : ℕ) → n < length (A .moves) → moveAt A n .symbol ≡ a → n < t .moves) → (k ≡ Copied → length (A .entries) ≤ t .entries)
@@ -61,53 +47,15 @@ module _ (A : Automaton) (t : Before) (p a : ℕ) (k : MoveUse) (b q : ℕ) (s :
   unfolding upTo
   premise-held i l m old few =
       record {
-        all-held = λ x h. premise-known i l m .all-held x
+        all-held = λ x h. premise-known A t p a k b q s i l m .all-held x
             (premise-same (upTo-extends (record { moves = t .moves; entries = t .entries }) A) p a (λ n c d. let e = length-moves A t s in let o = old n c d in omega arith) k
             (entrySet A (moveAt A i .state)) (moveAt A i)
             (λ c. let f = few c in let e = length-entries A t s in let u = s .entries-before in
             let v = length-edges A in let w = length-edges (tableBefore t A) in omega (arith, f, e, u, v, w)) h);
       }
 
--- nothing is new for the reading of an old premise
-quiet-cases : (k : MoveUse) (moves entries : Bool) → readsNew k moves entries ≡ false → (k ≡ Rewritten) ⊎ ((moves ≡ false) × (k ≡ Copied → entries ≡ false))
-unfolding readsNew
-quiet-cases Rewritten moves entries f = inl refl
-quiet-cases Pushed1 moves entries f = inr (f, λ c. let z : _≡_ {A = ℕ} 0 1 = cc in absurd (omega arith))
-quiet-cases Pushed2 moves entries f = inr (f, λ c. let z : _≡_ {A = ℕ} 0 1 = cc in absurd (omega arith))
-quiet-cases Copied true entries f = absurd (false≢true (sym f))
-quiet-cases Copied false entries f = inr (refl, λ c. f)
-
--- ---- in the tables
-
-module _ (z : Table) (inner entries moves : List ℕ) (p a : ℕ) (k : MoveUse) (b q : ℕ) where
-  -- a premise of the code's loop
-  there : (i : ℕ) → i < z .moves → controlTest z inner entries moves p a k b q (getD (rowsIn moveRow (z .moves) moves) i noMove) ≡ true
-      → List·Memᴰ i (controlMoves (automatonOf z inner entries moves) q b)
-  unfolding controlMoves
-  there i l h =
-      let len : length (rowsIn moveRow (z .moves) moves) ≡ z .moves = length-rowsIn moveRow (z .moves) moves in
-      places-in (λ m. eqb (m .symbol) b && entryOf (automatonOf z inner entries moves) q (m .state)) (rowsIn moveRow (z .moves) moves) noMove i (omega arith) h
-
 module _ (z : Table) (inner entries moves : List ℕ) (t : Before) (p a : ℕ) (k : MoveUse) (b q : ℕ)
     (s : SettledBy (automatonOf z inner entries moves) t (movesResults (tableBefore t (automatonOf z inner entries moves)) p a k b q)) where
-  -- move i as a premise, where it passes the code's tests
-  pub known-premise : (w : Earlier) (i : ℕ) (m : Move) (of new : Bool) (S : ℕ) → w .moves ≡ t .moves → w .entries ≡ t .entries → i < z .moves → m ≡ rowAt moveRow moves i
-      → m .symbol ≡ b → of ≡ entryOf (tableOf z entries []) q (m .state) → of ≡ true → S ≡ entrySet (tableOf z entries []) (m .state) → new ≡ leb (w .moves) i
-      → Known (automatonOf z inner entries moves) new (premiseResults (earlierOf w (automatonOf z inner entries moves)) p a k S m)
-  unfolding entryOf entrySet entryAt
-  known-premise w i m of new S em ee l r y g o d c =
-      let A : Automaton = automatonOf z inner entries moves in
-      let same : m ≡ moveAt A i = row-move z inner entries moves i m l r in
-      let test : controlTest z inner entries moves p a k b q m ≡ true = ap₂ _&&_ (eq-eqb (m .symbol) b y) (sym g ∙ o) in
-      record {
-        known = λ f.
-            let old : i < t .moves = let v = leb-false (w .moves) i (sym c ∙ f) in omega (arith, v, em) in
-            let row : controlTest z inner entries moves p a k b q (getD (rowsIn moveRow (z .moves) moves) i noMove) ≡ true =
-            ap (controlTest z inner entries moves p a k b q) (getD-rowsIn moveRow (z .moves) moves i noMove l ∙ sym r) ∙ test in
-            rw (em, ee, d)
-            (subst (λ (n : Move). AllHeld A (premiseResults (tableBefore t A) p a k (entrySet A (n .state)) n)) (sym same) (premise-known A t p a k b q s i old (there z inner entries moves p a k b q i l row)));
-      }
-
   -- the states that have no newer move on the symbol
   pub settles : (w : Earlier) → w .moves ≡ t .moves → w .entries ≡ t .entries → NoneHas moves (t .moves) (z .moves) a (w .settled) → w .settled < 2 ^ 64
       → Settles (automatonOf z inner entries moves) w a
@@ -122,6 +70,15 @@ module _ (z : Table) (inner entries moves : List ℕ) (t : Before) (p a : ℕ) (
             let st : Has (w .settled) (rowAt moveRow moves i .state) = subst (λ (n : Move). Has (w .settled) (n .state)) r d in
             h .none-has i (omega (arith, em)) l′ (ap (λ (n : Move). n .symbol) (sym r) ∙ y) (has-below 64 small st) st;
       }
+
+-- nothing is new for the reading of an old premise
+quiet-cases : (k : MoveUse) (moves entries : Bool) → readsNew k moves entries ≡ false → (k ≡ Rewritten) ⊎ ((moves ≡ false) × (k ≡ Copied → entries ≡ false))
+unfolding readsNew
+quiet-cases Rewritten moves entries f = inl refl
+quiet-cases Pushed1 moves entries f = inr (f, λ c. let z : _≡_ {A = ℕ} 0 1 = cc in absurd (omega arith))
+quiet-cases Pushed2 moves entries f = inr (f, λ c. let z : _≡_ {A = ℕ} 0 1 = cc in absurd (omega arith))
+quiet-cases Copied true entries f = absurd (false≢true (sym f))
+quiet-cases Copied false entries f = inr (refl, λ c. f)
 
 -- ---- the premises that are passed over
 
@@ -161,31 +118,27 @@ module _ (z : Table) (inner entries moves : List ℕ) (t : Before) (p a : ℕ) (
       (λ v. let g : z .entries ≤ t .entries = ltb-false (t .entries) (z .entries) v in omega arith)))
       (quiet-cases k (member symbols (a % 64)) (ltb (t .entries) (z .entries)) f)
 
-  pub passed-held : (reads : Bool) (first : ℕ) → reads ≡ readsNew k (member symbols (a % 64)) (ltb (t .entries) (z .entries)) → first ≡ firstMove reads (member symbols (b % 64)) (t .moves) (z .moves)
+  pub passed-held : (reads : Bool) (first : ℕ) → reads ≡ readsNew k (member symbols (a % 64)) (ltb (t .entries) (z .entries)) → reads ≡ false → first ≡ firstMove (member symbols (b % 64)) (t .moves) (z .moves)
       → (i : ℕ) → i < first → controlTest z inner entries moves p a k b q (getD (rowsIn moveRow (z .moves) moves) i noMove) ≡ true
       → AllHeld (automatonOf z inner entries moves) (moveOffers z inner entries moves p a k b q i)
   unfolding firstMove moveOffers moveAt
-  passed-held reads first e f i l h = by-test reads
-      (λ v. let n : first ≡ 0 = f ∙ rw (firstMove, v) refl in absurd (omega arith))
-      (λ v. by-test (member symbols (b % 64))
-      (λ u. let n : first ≡ t .moves = f ∙ rw (firstMove, v, u) refl in
+  passed-held reads first e v f i l h = by-test (member symbols (b % 64))
+      (λ u. let n : first ≡ t .moves = f ∙ rw (firstMove, u) refl in
       let c = s .moves-before in
       let len : length (rowsIn moveRow (z .moves) moves) ≡ z .moves = length-rowsIn moveRow (z .moves) moves in
       quiet-held (sym e ∙ v) i (omega arith) (there z inner entries moves p a k b q i (omega (arith, c)) h))
-      (λ u. let n : first ≡ z .moves = f ∙ rw (firstMove, v, u) refl in
+      (λ u. let n : first ≡ z .moves = f ∙ rw (firstMove, u) refl in
       let len : length (rowsIn moveRow (z .moves) moves) ≡ z .moves = length-rowsIn moveRow (z .moves) moves in
       let y : moveAt (automatonOf z inner entries moves) i .symbol ≡ b = eqb-true _ _ (and-left (eqb (moveAt (automatonOf z inner entries moves) i .symbol) b) _ h) in
-      quiet-held (sym e ∙ v) i (old-symbol b u i (omega arith) y) (there z inner entries moves p a k b q i (omega arith) h)))
+      quiet-held (sym e ∙ v) i (old-symbol b u i (omega arith) y) (there z inner entries moves p a k b q i (omega arith) h))
 
-  pub first-within : (reads : Bool) (first : ℕ) → first ≡ firstMove reads (member symbols (b % 64)) (t .moves) (z .moves) → first ≤ z .moves
+  pub first-within : (first : ℕ) → first ≡ firstMove (member symbols (b % 64)) (t .moves) (z .moves) → first ≤ z .moves
   unfolding firstMove
-  first-within reads first f = by-test reads
-      (λ v. let n : first ≡ 0 = f ∙ rw (firstMove, v) refl in omega arith)
-      (λ v. by-test (member symbols (b % 64))
-      (λ u. let n : first ≡ t .moves = f ∙ rw (firstMove, v, u) refl in
+  first-within first f = by-test (member symbols (b % 64))
+      (λ u. let n : first ≡ t .moves = f ∙ rw (firstMove, u) refl in
       let c = s .moves-before in
       let len : length (rowsIn moveRow (z .moves) moves) ≡ z .moves = length-rowsIn moveRow (z .moves) moves in omega (arith, c))
-      (λ u. let n : first ≡ z .moves = f ∙ rw (firstMove, v, u) refl in omega arith))
+      (λ u. let n : first ≡ z .moves = f ∙ rw (firstMove, u) refl in omega arith)
 
 -- no state is settled
 pub none-settled : (moves : List ℕ) (from to a : ℕ) → NoneHas moves from to a 0
@@ -214,15 +167,11 @@ module _ (k : MoveUse) (moves entries r : Bool) where
   unfolding readsNew
   reads-entries e f t = sym (ap (λ (u : MoveUse). readsNew u moves entries) e ∙ ap (λ (b : Bool). b || entries) (sym f ∙ t))
 
-module _ (reads premises : Bool) (old n : ℕ) where
-  pub first-all : reads ≡ true → 0 ≡ firstMove reads premises old n
+module _ (premises : Bool) (old n : ℕ) (r : Bool) where
+  pub first-newer : r ≡ premises → r ≡ true → old ≡ firstMove premises old n
   unfolding firstMove
-  first-all e = rw (firstMove, e) refl
+  first-newer f t = rw (firstMove, sym f ∙ t) refl
 
-  pub first-newer : (r : Bool) → reads ≡ false → r ≡ premises → r ≡ true → old ≡ firstMove reads premises old n
+  pub first-none : r ≡ premises → r ≡ false → n ≡ firstMove premises old n
   unfolding firstMove
-  first-newer r e f t = rw (firstMove, e, sym f ∙ t) refl
-
-  pub first-none : (r : Bool) → reads ≡ false → r ≡ premises → r ≡ false → n ≡ firstMove reads premises old n
-  unfolding firstMove
-  first-none r e f t = rw (firstMove, e, sym f ∙ t) refl
+  first-none f t = rw (firstMove, sym f ∙ t) refl
