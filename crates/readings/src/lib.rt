@@ -57,7 +57,7 @@ fn is_settled(new: bool, left: u64, w: Earlier) -> bool
 }
 
 // Whether something is new: it was so far, or number i is one of the newer ones, which begin with number `first`.
-pub fn is_newer(new: bool, first: usize, i: usize) -> bool
+fn is_newer(new: bool, first: usize, i: usize) -> bool
     ensures { λ r. ⌜ r ≡ new || leb first i ⌝ }
 {
     if new {

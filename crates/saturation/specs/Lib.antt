@@ -1,4 +1,3 @@
-pub mod Adding
 pub mod Prepared
 pub mod Rounding
 pub mod Running

@@ -12,7 +12,7 @@ use Rattle.automata.specs.Saturation.{round}
 use Rattle.tables.specs.declared.Table.{Table}
 use Rattle.tables.specs.Held.{automatonOf, EdgesStand}
 use Rattle.results.specs.Collecting.{newResults}
-use Rattle.saturation.specs.Adding.{Growing, Grows}
+use Rattle.added_results.specs.Adding.{Growing, Grows}
 
 -- The tables stand in their slices, with room for so many moves and entries.
 pub record Standing (z : Table) (mostMoves mostEntries : ℕ) (inner entries moves : List ℕ) : Type 0 where

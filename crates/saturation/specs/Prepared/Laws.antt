@@ -28,7 +28,7 @@ use Rattle.readings.specs.Memo.{MemoBefore, MemoUpTo}
 use Rattle.readings.specs.Memo.Laws.{memo-next}
 use Rattle.premises.specs.Before.{tableBefore, SettledBy}
 use Rattle.results.specs.Collecting.{newResults}
-use Rattle.saturation.specs.Adding.{Grows}
+use Rattle.added_results.specs.Adding.{Grows}
 use Rattle.saturation.specs.Prepared.{StatesExist, Prepared}
 
 -- ---- states that exist

@@ -24,7 +24,7 @@ use Rattle.tables.specs.Pending.{limited, pendingIn}
 use Rattle.tables.specs.Pending.Laws.{limited-fits, limited-over, pending-fits, pending-over}
 use Rattle.tables.specs.Held.{automatonOf, EntriesStand, MovesStand}
 use Rattle.results.specs.Collecting.{newResults}
-use Rattle.saturation.specs.Adding.{Grows, Added}
+use Rattle.added_results.specs.Adding.{Grows, Added}
 use Rattle.saturation.specs.Rounding.{Standing, Rounded}
 
 pub standing-entries : (z : Table) (mostMoves mostEntries : ℕ) (inner entries moves : List ℕ) → Standing z mostMoves mostEntries inner entries moves → EntriesStand z entries

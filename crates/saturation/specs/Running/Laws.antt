@@ -22,7 +22,7 @@ use Rattle.tables.specs.Rows.Laws.{length-rowsIn, put-more}
 use Rattle.tables.specs.Layouts.{entryRow, moveRow}
 use Rattle.tables.specs.Held.{automatonOf}
 use Rattle.results.specs.Collecting.{newResults}
-use Rattle.saturation.specs.Adding.{Grows}
+use Rattle.added_results.specs.Adding.{Grows}
 use Rattle.saturation.specs.Rounding.{Standing, Rounded}
 use Rattle.saturation.specs.Rounding.Laws.{round-is}
 use Rattle.saturation.specs.Running.{mostMoves, mostEntries, Given, ended, Ends, RunsRounds}

@@ -1,10 +1,10 @@
--- `saturation::enter` meets its contract.
+-- `added_results::enter` meets its contract.
 -- Assumes nothing.
 use native.Mathlib.Omega.{arith}
-use Rattle.saturation.specs.Adding.Laws.{entered-there, entered-over, entered-new}
+use Rattle.added_results.specs.Adding.Laws.{entered-there, entered-over, entered-new}
 use borrow.Author.Needs.{needs}
-use Rattle.saturation.proofs.enter.Statement.{statement}
-use Rattle.saturation.proofs.enter.Tie as tie
+use Rattle.added_results.proofs.enter.Statement.{statement}
+use Rattle.added_results.proofs.enter.Tie as tie
 
 entry-number-requires : tie.Need-entry-number-requires
 entry-number-requires c κs = omega arith

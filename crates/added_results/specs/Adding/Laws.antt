@@ -22,7 +22,7 @@ use Rattle.tables.specs.Rows.Laws.{length-rowsIn, getD-rowsIn, length-putRow, p
 use Rattle.tables.specs.Layouts.{entryRow, moveRow, edgeRow, resultRow}
 use Rattle.tables.specs.Held.{automatonOf}
 use Rattle.tables.specs.Laws.Filled.{Filled, filled-put}
-use Rattle.saturation.specs.Adding.{Entered, Growing, Grows, Added}
+use Rattle.added_results.specs.Adding.{Entered, Growing, Grows, Added}
 
 -- ---- one entry
 

@@ -1,10 +1,10 @@
--- `saturation::add_result` meets its contract.
+-- `added_results::add_result` meets its contract.
 -- Assumes nothing.
 use native.Mathlib.Omega.{arith}
-use Rattle.saturation.specs.Adding.Laws.{added-over, added-one}
+use Rattle.added_results.specs.Adding.Laws.{added-over, added-one}
 use borrow.Author.Needs.{needs}
-use Rattle.saturation.proofs.add_result.Statement.{statement}
-use Rattle.saturation.proofs.add_result.Tie as tie
+use Rattle.added_results.proofs.add_result.Statement.{statement}
+use Rattle.added_results.proofs.add_result.Tie as tie
 
 enter-requires : tie.Need-enter-requires
 enter-requires c κs = ((c .before .before .before .pre .0 .entries-few), (c .before .before .before .pre .0 .entries-lent))

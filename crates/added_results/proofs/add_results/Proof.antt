@@ -1,14 +1,14 @@
--- `saturation::add_results` meets its contract.
+-- `added_results::add_results` meets its contract.
 -- Assumes nothing.
 use Prim.Native.Nat.{_-_}
 use native.Mathlib.Omega.{arith}
 use borrow.Author.Tests.{not-true, not-false}
 use Rattle.tables.specs.Rows.{rowsIn}
 use Rattle.tables.specs.Layouts.{resultRow}
-use Rattle.saturation.specs.Adding.Laws.{AddedUpTo, up-to-none, still-growing, still-room, rows-more, rows-over, rows-all}
+use Rattle.added_results.specs.Adding.Laws.{AddedUpTo, up-to-none, still-growing, still-room, rows-more, rows-over, rows-all}
 use borrow.Author.Needs.{needs}
-use Rattle.saturation.proofs.add_results.Statement.{statement}
-use Rattle.saturation.proofs.add_results.Tie as tie
+use Rattle.added_results.proofs.add_results.Statement.{statement}
+use Rattle.added_results.proofs.add_results.Tie as tie
 
 abbrev Inv-loop : tie.InvT-loop
 Inv-loop entries₀ moves₀ most pending n table₀ i₀ entries moves table i = AddedUpTo table₀ most entries₀ moves₀ (rowsIn resultRow n pending) i table entries moves
