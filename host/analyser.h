@@ -1,6 +1,6 @@
 /*
  * The script analyser for the bench host: target/staticlib/libexports.a, which
- * `rt staticlib exports` writes. Documents 01 and 02 (requests 1 to 4) say what
+ * `rt staticlib exports` writes. Documents 01 and 02 (requests 1 to 5) say what
  * the four services do; this page says the same for a caller in C. crates/exports
  * proves each call equal to its definition; what this page says of numbers, words,
  * rounds and runs are the theorems of crates/demands about these definitions
@@ -34,10 +34,14 @@
  * Files, and the trace that replay reads, are only read. A set is a word with bit n
  * for state n. A missing file is one of length 0.
  *
+ * A case whose first byte is 5 carries a record of eight bytes, its tool's codes
+ * for our operations 1 to 8; its rules are read by these codes alone. Every call
+ * answers it as the case of first byte 4 with the same bodies and our codes.
+ *
  * A refusal is a number from 1 to 255 (ANALYSER_REFUSALS says what each means);
- * no other answer is. The first of a service's numbers that applies, in rising
- * order, is returned. After a refusal every lent word and byte is zero, and so are
- * the counts and the step.
+ * no other answer is. The first of a service's numbers that applies is returned,
+ * in this order: 1, 2, 12, 3, 4, 5, 6, 7, 8, 10, 11, 9. After a refusal every lent
+ * word and byte is zero, and so are the counts and the step.
  */
 #ifndef ANALYSER_H
 #define ANALYSER_H
@@ -59,12 +63,13 @@ extern "C" {
 /* Bytes of a listing. */
 #define ANALYSER_LISTING_BYTES 4280
 
-/* The documents' sentence for each refusal; 4 is for a second entry too, 8 counts
-   words, and 7 is for replay too, as document 02 asks: REFUSAL(number, sentence). */
+/* The documents' sentence for each refusal; 3 is for a code that is not in the
+   record too, 4 for a second entry, 7 for replay, and 8 counts words, as document
+   02 asks: REFUSAL(number, sentence). */
 #define ANALYSER_REFUSALS(REFUSAL) \
     REFUSAL(1, "the case's first byte, contents table, a count or the length is wrong") \
     REFUSAL(2, "a field of case body 1 is out of range") \
-    REFUSAL(3, "a rule, edge or move breaks a bound of its body (b, or B against its order, included), or entries are too many") \
+    REFUSAL(3, "a rule, edge or move breaks a bound of its body (b, or B against its order, included), a code is not in the record, or entries are too many") \
     REFUSAL(4, "edges or moves are not strictly increasing, or an entry is a second one for its state and S") \
     REFUSAL(5, "the start file's first byte, contents table, a count or the length is wrong") \
     REFUSAL(6, "a start or cell is out of range, refers to a cell of the wrong order, or fills an unused field") \
@@ -72,7 +77,8 @@ extern "C" {
     REFUSAL(8, "judge: fewer answer words than starts") \
     REFUSAL(9, "the saturated table has more moves than lent or than 1,024, more entries than lent, or more than 64 order-1 states") \
     REFUSAL(10, "the trace has an odd number of bytes") \
-    REFUSAL(11, "the replay needs more cells than lent or than 4,096")
+    REFUSAL(11, "the replay needs more cells than lent or than 4,096") \
+    REFUSAL(12, "the eight bytes of the record of operation codes are not all different, or one is zero")
 
 /* Answers of the guide that are no refusals. */
 #define ANALYSER_ARRIVED 0
@@ -87,7 +93,7 @@ extern "C" {
 /*
  * Saturate: computes the saturated table of a case.
  *
- * Returns 0, or the refusal 1, 2, 3, 4 or 9. After 0, moves begins with the
+ * Returns 0, or the refusal 1, 2, 3, 4, 9 or 12. After 0, moves begins with the
  * *moves_used moves of the table and entries with its *entries_used entries, in
  * the order in which the rounds add them, and all words after them are zero.
  * After a refusal both tables are zero, and *moves_used and *entries_used are 0.
@@ -101,7 +107,7 @@ uint64_t analyser_saturate(
 /*
  * Judge: marks each start of the start file.
  *
- * Returns 0, or the refusal 1 to 6, 8 or 9. After 0, answers begins with a word
+ * Returns 0, or the refusal 1 to 6, 8, 9 or 12. After 0, answers begins with a word
  * for each start, in file order: 0 if no finite run of the case's rules leads
  * from the start into the target, otherwise 1 more than the least round whose
  * table accepts the start; the words after them are zero. Round 0 is the case's
@@ -120,7 +126,7 @@ uint64_t analyser_judge(
  * Guide: writes the rules of a run from one start into the target. Starts are
  * numbered from 0 in file order, rules likewise.
  *
- * Returns the refusal 1 to 7 or 9, or one of these:
+ * Returns the refusal 1 to 7, 9 or 12, or one of these:
  *
  *   ANALYSER_ARRIVED      the run is whole: its end is in the target
  *   ANALYSER_TRACE_FULL   the next step needs one more trace word than lent
@@ -158,7 +164,7 @@ uint64_t analyser_guide(
  * whoever recorded them. trace holds rule numbers of two bytes each, low byte
  * first.
  *
- * Returns the refusal 1 to 7, 10 or 11, or one of these:
+ * Returns the refusal 1 to 7, 10, 11 or 12, or one of these:
  *
  *   ANALYSER_ACCEPTED  the trace is a run: its rules exist, apply one after
  *                      another, and lead into the target

@@ -115,6 +115,60 @@ refusals() {
     is_clear
 }
 
+# The bytes of a case for printf, by its name among the examples of document 02, §5.
+coded_case() { # NAME
+    grep -F $'\t'"$1"$'\t' "$repository/tests/tests/data/vectors02/05.txt" | sed -E 's/.*case=([0-9a-f]+) .*/\1/; s/../\\x&/g'
+}
+
+# A number as so many bytes for printf, low byte first.
+low_bytes() { # NUMBER LENGTH
+    local at
+    for ((at = 0; at < $2; at++)); do printf '\\x%02x' $(($1 >> 8 * at & 255)); done
+}
+
+# A record for printf: these bytes, and zeros up to its length.
+record() { # LENGTH BYTE..
+    local length=$1 byte
+    shift
+    for byte; do low_bytes "$byte" 1; done
+    low_bytes 0 $((length - $#))
+}
+
+# The bytes of the longest sound case: 256 rules that give no result, 64 edges, 1,024 moves, the codes 11 to 18.
+longest_case() {
+    local number at=41 counts=(1 256 64 1024 1) lengths=(14 5 4 19 8)
+    low_bytes 5 1
+    for number in 0 1 2 3 4; do
+        low_bytes $((number + 1)) 2
+        low_bytes "${counts[number]}" 2
+        low_bytes "$at" 4
+        at=$((at + counts[number] * lengths[number]))
+    done
+    record 14 8 8 16 32
+    for ((number = 0; number < 256; number++)); do record 5 0 0 11; done
+    for ((number = 0; number < 64; number++)); do record 4 $((8 + number / 8)) $((number % 8)); done
+    for ((number = 0; number < 1024; number++)); do record 19 $((number / 64)) $((number / 2 % 32)) 0 0 0 0 0 0 0 0 0 $((number % 2)); done
+    record 8 11 12 13 14 15 16 17 18
+}
+
+suppliers_codes() {
+    local case=$room/case.bin start=$model/start.bin
+    printf '%b' "$(coded_case "A in a supplier's codes: the guide")" >"$case"
+    gives 0 "$listing" ./analyse "$case" "$start"
+    gives 0 $'start 0 yes 2 2 9\n0 1\n' ./guide "$case" "$start" 0
+    is_silent
+    gives 3 $'refused 7\n' ./guide "$case" "$start" 3
+    printf '%b' "$(coded_case "two equal bytes")" >"$case"
+    gives 3 $'refused 12\n' ./analyse "$case" "$start"
+    says "not all different, or one is zero"
+    gives 3 $'refused 12\n' ./guide "$case" /dev/null 3
+    printf '%b' "$(longest_case)" >"$case"
+    same "bytes of the longest case" 21055 "$(wc -c <"$case")"
+    gives 0 $'moves 1024 entries 0\nstart 0 no\nstart 1 no\nstart 2 no\n' ./analyse "$case" "$start"
+    gives 0 $'start 1 no\n' ./guide "$case" "$start" 1
+    is_clear
+}
+
 wrong_use() {
     local case=$model/case.bin start=$model/start.bin
     gives 2 '' ./analyse
@@ -198,6 +252,7 @@ this_repository() {
     model_a
     guided_runs
     refusals
+    suppliers_codes
     wrong_use
     options
     lost_output

@@ -1,9 +1,8 @@
 //! Writing of case and start files (document 01, "Files"): the inverse of the
 //! decoding, for the generators.
 
-use crate::file::{
-    CASE_BODIES, Case, Cell, ENTRY_MARK, FINAL_ENTRY_MARK, FileEntry, START_BODIES, StartFile,
-};
+use crate::contents::{CASE_BODIES, START_BODIES};
+use crate::file::{Case, Cell, ENTRY_MARK, FINAL_ENTRY_MARK, FileEntry, StartFile};
 use crate::sets::Set;
 
 /// The low `length` bytes of `value`, low byte first.

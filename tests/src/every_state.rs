@@ -1,9 +1,9 @@
 //! Cases with 64 order-1 states, all of them entries: the one-bit word of each
 //! state's number n, "0 to 63", and each state as a member (document 02, §4).
 
+use crate::callers::{Judge, Saturate};
 use crate::encode::{encode_case, encode_start};
 use crate::file::{Case, Cell, FileEntry, StartFile};
-use crate::requests::{Judge, Saturate};
 use crate::services::{ENTRY_WORDS, MOVE_WORDS};
 use crate::sets::{Set, is_part};
 use crate::sound::{pair, rule, start};

@@ -1,11 +1,13 @@
-//! Case files, and what start files share with them (document 01, "Files";
-//! document 02, §3).
+//! Case files, and the types of start files (document 01, "Files"; document 02,
+//! §3 and §5).
 //!
 //! Decoding answers the refusal number of the table under "Three services and
 //! their halts". "The lowest number that applies is returned": the tests of a
 //! file are grouped by number, and all tests of one number come before any of
-//! the next.
+//! the next. 12 comes "after 2" (document 02, §5).
 
+use crate::codes::Codes;
+use crate::contents::{case_bodies, number};
 use crate::sets::{Set, is_part, range};
 
 /// A refusal number of document 01 or 02.
@@ -14,7 +16,7 @@ pub type Refusal = u64;
 /// "At most 64 order-1 states": the inner ones and the entries together.
 pub const ORDER_ONE_STATES: usize = 64;
 
-/// A rule (p, a, operation, b, p').
+/// A rule (p, a, operation, b, p'), the operation by our code.
 #[derive(Clone, Copy, Debug, PartialEq, Eq, Hash)]
 pub struct Rule {
     pub from: u8,
@@ -130,68 +132,9 @@ pub struct StartFile {
     pub cells: Vec<Cell>,
 }
 
-/// What a contents table may say of one body.
-pub struct BodyRule {
-    pub record: usize,
-    pub least: usize,
-    pub most: usize,
-}
-
-const fn body(record: usize, least: usize, most: usize) -> BodyRule {
-    BodyRule {
-        record,
-        least,
-        most,
-    }
-}
-
-/// The bodies of a case file, kinds 1 to 4.
-pub const CASE_BODIES: [BodyRule; 4] = [
-    body(14, 1, 1),
-    body(5, 0, 256),
-    body(4, 0, 64),
-    body(19, 0, 1024),
-];
-
-/// The bodies of a start file, kinds 1 and 2.
-pub const START_BODIES: [BodyRule; 2] = [body(3, 1, 64), body(6, 1, 256)];
-
 /// The second byte of an edge that is an entry, and of one that is a final entry.
 pub const ENTRY_MARK: u8 = 255;
 pub const FINAL_ENTRY_MARK: u8 = 254;
-
-/// "Numbers in files are unsigned, low byte first."
-pub fn number(bytes: &[u8]) -> u64 {
-    bytes
-        .iter()
-        .rev()
-        .fold(0, |value, &byte| value * 256 + u64::from(byte))
-}
-
-/// The bodies of a file, if its first byte, contents table, counts and length
-/// are right. "Each body begins where the one before it ends, and the last ends
-/// at the file's end."
-pub fn bodies<'a>(file: &'a [u8], kinds: &[BodyRule]) -> Option<Vec<&'a [u8]>> {
-    if usize::from(*file.first()?) != kinds.len() {
-        return None;
-    }
-    let mut at = 1 + 8 * kinds.len();
-    let contents = file.get(1..at)?;
-    let mut parts = Vec::new();
-    for ((kind, line), rule) in (1..).zip(contents.chunks(8)).zip(kinds) {
-        let count = number(&line[2..4]) as usize;
-        let sound = number(&line[..2]) == kind
-            && (rule.least..=rule.most).contains(&count)
-            && number(&line[4..]) == at as u64;
-        if !sound {
-            return None;
-        }
-        let end = at + count * rule.record;
-        parts.push(file.get(at..end)?);
-        at = end;
-    }
-    (at == file.len()).then_some(parts)
-}
 
 /// An edge as written, with its second byte.
 #[derive(Clone, Copy)]
@@ -302,7 +245,7 @@ impl Case {
             && is_part(self.final_one, self.inner_one_set())
     }
 
-    /// "From code 4 on b is 0."
+    /// "From code 4 on b is 0", by our code.
     fn rule_in_range(&self, rule: &Rule) -> bool {
         let put = match rule.code {
             1..=3 => rule.put < self.symbols,
@@ -365,14 +308,20 @@ impl Case {
     }
 }
 
-/// The case that the file holds, or the refusal 1, 2, 3 or 4.
+/// The case that the file holds, or the refusal 1, 2, 12, 3 or 4. Its rules have
+/// our codes, whichever the file has.
 pub fn decode_case(file: &[u8]) -> Result<Case, Refusal> {
-    let parts = bodies(file, &CASE_BODIES).ok_or(1u64)?;
+    let parts = case_bodies(file).ok_or(1u64)?;
     let mut case = read_fields(parts[0]);
     if !case.fields_in_range() {
         return Err(2);
     }
-    case.rules = parts[1].chunks(5).map(read_rule).collect();
+    let codes = match parts.get(4) {
+        Some(body) => Codes::read(body).ok_or(12u64)?,
+        None => Codes::ours(),
+    };
+    let rules = parts[1].chunks(5).map(read_rule);
+    case.rules = rules.map(|rule| codes.in_ours(rule)).collect();
     let written: Vec<WrittenEdge> = parts[2].chunks(4).map(read_edge).collect();
     case.moves = parts[3].chunks(19).map(read_move).collect();
     case.take_edges(&written);

@@ -40,7 +40,7 @@ impl Lent {
     }
 
     /// Puts words and bytes other than zero everywhere.
-    fn fill(&mut self) {
+    pub fn fill(&mut self) {
         self.moves.fill(u64::MAX);
         self.entries.fill(u64::MAX);
         self.answers.fill(u16::MAX);

@@ -10,8 +10,13 @@
 
 pub mod attempts;
 pub mod automaton;
+pub mod callers;
+pub mod coded;
+pub mod codes;
 pub mod compare;
+pub mod contents;
 pub mod damage;
+pub mod damage_codes;
 pub mod damage_finals;
 pub mod data;
 pub mod deep;
@@ -36,6 +41,7 @@ pub mod proved;
 pub mod random;
 pub mod replay;
 pub mod requests;
+pub mod rewriting;
 pub mod saturation;
 pub mod search;
 pub mod services;

@@ -1,5 +1,6 @@
 //! The files of document 01's worked models, written by hand from its
-//! sentences, and of model B in document 02, §3.
+//! sentences, of model B in document 02, §3, and of model A in a supplier's codes
+//! (§5).
 
 /// "P 2, I 0, J 0, A 2; rules 0: (0,0,3,1,0), 1: (0,1,8,0,1); edge
 /// (1,255,empty); move (0,1,0,empty,empty). 80 bytes."
@@ -15,6 +16,24 @@ pub const CASE_A: [u8; 80] = [
     0, 1, 8, 0, 1,
     1, 255, 0, 0,
     0, 1, 0, 0, 0, 0, 0, 0, 0, 0, 0, 0, 0, 0, 0, 0, 0, 0, 0,
+];
+
+/// Model A in the codes 20, 10, 30, 40, 50, 60, 70, 80: "the first byte is 5, the
+/// first body starts at byte 41" (document 02, §5).
+#[rustfmt::skip]
+pub const CASE_A_CODED: [u8; 96] = [
+    5,
+    1, 0, 1, 0, 41, 0, 0, 0,
+    2, 0, 2, 0, 55, 0, 0, 0,
+    3, 0, 1, 0, 65, 0, 0, 0,
+    4, 0, 1, 0, 69, 0, 0, 0,
+    5, 0, 1, 0, 88, 0, 0, 0,
+    2, 0, 0, 2, 0, 0, 0, 0, 0, 0, 0, 0, 0, 0,
+    0, 0, 30, 1, 0,
+    0, 1, 80, 0, 1,
+    1, 255, 0, 0,
+    0, 1, 0, 0, 0, 0, 0, 0, 0, 0, 0, 0, 0, 0, 0, 0, 0, 0, 0,
+    20, 10, 30, 40, 50, 60, 70, 80,
 ];
 
 /// "0 empty order-1; 1 symbol 1 on 0 annotated 0; 2 empty order-2; 3 is 1 on 2;

@@ -40,7 +40,7 @@ pub fn replay(
     }
 }
 
-/// The answer with so many cells, or the refusal: 1 to 7, 10, 11.
+/// The answer with so many cells, or the refusal: 1 to 7 and 12, then 10, 11.
 fn answer(
     case: &[u8],
     start: &[u8],

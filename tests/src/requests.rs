@@ -1,5 +1,6 @@
 //! The examples of document 02's requests, in `tests/data/vectors02`.
 
+use crate::callers::Services;
 use crate::data::{bytes, bytes_of};
 use crate::replay::{REPLAY_CELL_BYTES, ReplayReply};
 use crate::services::{
@@ -7,26 +8,10 @@ use crate::services::{
 };
 
 /// The last request that has landed.
-const LANDED: u64 = 4;
+const LANDED: u64 = 5;
 
 /// The requests whose files are here, and how many lines of each hold after it.
-const FILES: [(u64, usize); 4] = [(1, 20), (2, 28), (3, 23), (4, 15)];
-
-pub type Saturate = fn(&[u8], &mut [u64], &mut [u64]) -> (u64, u64, u64);
-pub type Judge = fn(&[u8], &[u8], &mut [u64], &mut [u64], &mut [u16]) -> u64;
-type Guide = fn(&[u8], &[u8], u64, &mut [u64], &mut [u64], &mut [u16], &mut [u16]) -> GuideReply;
-type Listing = fn(&[u8], &[u8]) -> String;
-type Replay = fn(&[u8], &[u8], u64, &[u8], &mut [u8]) -> ReplayReply;
-
-/// The services that the examples call.
-#[derive(Clone, Copy)]
-pub struct Services {
-    pub saturate: Saturate,
-    pub judge: Judge,
-    pub guide: Guide,
-    pub listing: Listing,
-    pub replay: Replay,
-}
+const FILES: [(u64, usize); 5] = [(1, 20), (2, 28), (3, 23), (4, 15), (5, 26)];
 
 /// A line of a request's file.
 struct Example {

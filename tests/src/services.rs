@@ -120,8 +120,8 @@ pub fn round_of_answer(answer: u16) -> Option<usize> {
     answer.checked_sub(1).map(usize::from)
 }
 
-/// The round in which each start was won, or the refusal: 1 to 6, then 8, which
-/// counts answer words, then 9.
+/// The round in which each start was won, or the refusal: 1 to 6 and 12, as the
+/// files are read, then 8, which counts answer words, then 9.
 fn won(case: &[u8], start: &[u8], lent: Size, answers: usize) -> Result<Won, Refusal> {
     let case = decode_case(case)?;
     let file = decode_start(start, &case)?;
@@ -178,7 +178,7 @@ pub fn guide(
     }
 }
 
-/// What the guide works on, or the refusal: 1 to 7, then 9.
+/// What the guide works on, or the refusal: 1 to 7 and 12, then 9.
 fn prepare(
     case: &[u8],
     start: &[u8],
@@ -190,7 +190,7 @@ fn prepare(
     Ok((case, file, table))
 }
 
-/// The files of a call that names a start, or the refusal 1 to 7.
+/// The files of a call that names a start, or the refusal 1 to 7 or 12.
 pub fn with_start(case: &[u8], start: &[u8], number: u64) -> Result<(Case, StartFile), Refusal> {
     let case = decode_case(case)?;
     let file = decode_start(start, &case)?;

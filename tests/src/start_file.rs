@@ -1,6 +1,7 @@
 //! Start files (document 01, "Files").
 
-use crate::file::{Case, Cell, Refusal, START_BODIES, Start, StartFile, bodies, number};
+use crate::contents::{START_BODIES, bodies, number};
+use crate::file::{Case, Cell, Refusal, Start, StartFile};
 
 /// The start file that the file holds, or the refusal 5 or 6.
 pub fn decode_start(file: &[u8], case: &Case) -> Result<StartFile, Refusal> {

@@ -2,6 +2,7 @@
 
 use std::collections::BTreeMap;
 
+use second::coded::{RECORDS, also_coded, coded};
 use second::compare::Both;
 use second::damage::{
     bodies_swapped, changed, counts_off_by_one, cuts, lines_swapped, longer, offsets_off_by_one,
@@ -16,15 +17,14 @@ use second::replay::ReplayReply::{Accepted, Fails, Refused};
 use second::shapes::SHAPES;
 use second::traces::{recorded, wander};
 
-/// Small generated pairs.
+/// Small generated pairs, with and without a record of codes.
 fn small_pairs(count: u64) -> Vec<Pair> {
     let seeds = seeds(count);
     let pairs = SHAPES
         .iter()
         .flat_map(|shape| seeds.clone().map(|seed| pair(seed, shape)));
-    pairs
-        .filter(|pair| pair.case_file.len() < 500 && pair.start_file.len() < 250)
-        .collect()
+    let small = pairs.filter(|pair| pair.case_file.len() < 500 && pair.start_file.len() < 250);
+    also_coded(small).collect()
 }
 
 /// Both implementations on copies of files, with a trace for replay.
@@ -34,6 +34,8 @@ struct Calls {
     /// How often replay gave each answer: a refusal's number, 0 for accepted,
     /// 260 for fails.
     replayed: BTreeMap<u64, usize>,
+    /// How often saturate gave each answer to copies of coded cases.
+    coded: BTreeMap<u64, usize>,
 }
 
 impl Calls {
@@ -42,6 +44,7 @@ impl Calls {
             both: Both::new(Lent::new(200, 64, 64, 20)),
             trace: Vec::new(),
             replayed: BTreeMap::new(),
+            coded: BTreeMap::new(),
         }
     }
 
@@ -55,7 +58,10 @@ impl Calls {
 
     /// The services on a case file that may be damaged.
     fn on_case(&mut self, case: &[u8], start: &[u8]) {
-        self.both.saturate(case);
+        let (answer, ..) = self.both.saturate(case);
+        if case.first() == Some(&5) {
+            *self.coded.entry(answer).or_default() += 1;
+        }
         self.both.judge(case, start);
         self.both.guide(case, start, 0);
         self.replay(case, start, 0);
@@ -85,6 +91,13 @@ impl Calls {
         let often = |answer: &u64| self.replayed.get(answer).is_some_and(|&n| n >= 5);
         assert!(answers.iter().all(often), "{answers:?}");
     }
+
+    /// Each of these answers of saturate to coded cases has occurred.
+    fn assert_coded(&self, answers: &[u64]) {
+        println!("answers to coded cases: {:?}", self.coded);
+        let often = |answer: &u64| self.coded.get(answer).is_some_and(|&n| n >= 10);
+        assert!(answers.iter().all(often), "{answers:?}");
+    }
 }
 
 /// Copies with a wrong length, contents table or order of bodies.
@@ -111,6 +124,7 @@ fn cut_and_misplaced_files() {
         }
     }
     calls.assert_replayed(&[1, 5]);
+    calls.assert_coded(&[1]);
 }
 
 #[test]
@@ -131,7 +145,8 @@ fn every_byte_changed() {
             }
         }
     }
-    calls.assert_replayed(&[0, 1, 2, 3, 4, 5, 6, 7, 260]);
+    calls.assert_replayed(&[0, 1, 2, 3, 4, 5, 6, 7, 12, 260]);
+    calls.assert_coded(&[0, 1, 2, 12, 3, 4]);
 }
 
 /// Final sets, marks of entries, what sets name, and entries that stand twice
@@ -140,9 +155,11 @@ fn every_byte_changed() {
 fn changed_finals_of_cases() {
     let mut calls = Calls::new();
     let mut kinds = Kinds::default();
-    for pair in small_pairs(20) {
-        calls.take_trace(&pair);
+    for (pair, record) in small_pairs(20).iter().zip(RECORDS.iter().cycle()) {
+        calls.take_trace(pair);
         for (kind, copy) in changed_finals(&pair.case) {
+            let is_coded = pair.case_file[0] == 5;
+            let copy = if is_coded { coded(&copy, record) } else { copy };
             calls.on_case(&copy, &pair.start_file);
             kinds.count([kind]);
         }
@@ -150,6 +167,7 @@ fn changed_finals_of_cases() {
     println!("{kinds:?}");
     assert!(kinds.rarest(KINDS) >= 50, "{kinds:?}");
     calls.assert_replayed(&[0, 2, 3, 4, 260]);
+    calls.assert_coded(&[0, 2, 3, 4]);
 }
 
 /// Several bytes changed at once, among them small values that stay in range.
@@ -163,18 +181,20 @@ fn several_bytes_changed() {
             let mut case = pair.case_file.clone();
             let mut start = pair.start_file.clone();
             for _ in 0..random.between(1, 4) {
-                scramble(&mut random, &mut case, 33);
-                scramble(&mut random, &mut start, 17);
+                scramble(&mut random, &mut case);
+                scramble(&mut random, &mut start);
             }
             calls.on_case(&case, &pair.start_file);
             calls.on_start(&pair.case_file, &start);
         }
     }
-    calls.assert_replayed(&[0, 2, 3, 4, 6, 7, 260]);
+    calls.assert_replayed(&[0, 2, 3, 4, 6, 7, 12, 260]);
+    calls.assert_coded(&[0, 2, 12, 3, 4]);
 }
 
-/// Changes a byte from `from` on, most often to a small value.
-fn scramble(random: &mut Random, file: &mut [u8], from: usize) {
+/// Changes a byte of the bodies, most often to a small value.
+fn scramble(random: &mut Random, file: &mut [u8]) {
+    let from = 1 + 8 * usize::from(file[0]);
     if file.len() > from {
         let at = random.between(from, file.len() - 1);
         let most = if random.chance(80) { 8 } else { 255 };

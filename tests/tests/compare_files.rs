@@ -1,6 +1,7 @@
 //! The proved library against the second implementation on files that came with
 //! documents 01 and 02, on the example of `src/won.rs` and on files at the limits.
 
+use second::callers::PROVED;
 use second::compare::Both;
 use second::damage::changed;
 use second::data::{Vector, larger_files, vectors, without_rounds};
@@ -15,7 +16,7 @@ use second::models::{
 use second::proved;
 use second::random::is_long;
 use second::replay::ReplayReply::{Accepted, Fails, Refused};
-use second::requests::{Services, check_examples};
+use second::requests::check_examples;
 use second::services::GuideReply::Arrived;
 use second::services::{LISTING_ENTRIES, LISTING_MOVES, MOST_CELLS, listing, listing_answer};
 use second::traces::recorded;
@@ -70,13 +71,7 @@ fn every_vector() {
 
 #[test]
 fn every_example_of_the_requests() {
-    check_examples(Services {
-        saturate: proved::saturate,
-        judge: proved::judge,
-        guide: proved::guide,
-        listing: proved::listing,
-        replay: proved::replay,
-    });
+    check_examples(PROVED);
 }
 
 /// Rounds that hang on each part of a stack, and on choices that are not least.

@@ -1,6 +1,7 @@
 //! Damaged files: no panic, refusals in range, and all lent memory zero where a
 //! file is refused.
 
+use second::coded::{RECORDS, also_coded, coded, in_our_codes};
 use second::damage::{
     bodies_swapped, changed, counts_off_by_one, cuts, lines_swapped, longer, offsets_off_by_one,
     values_near,
@@ -31,20 +32,20 @@ struct Replies {
 /// Runs the services; checks the range of refusals and the memory they leave.
 fn run(lent: &mut Lent, case: &[u8], start: &[u8]) -> Replies {
     let (saturate, moves, entries) = lent.saturate(case);
-    assert!(matches!(saturate, 0..=4 | 9), "saturate {saturate}");
+    assert!(matches!(saturate, 0..=4 | 9 | 12), "saturate {saturate}");
     if saturate != 0 {
         assert!(lent.tables_are_zero());
         assert_eq!((moves, entries), (0, 0));
     }
     let judge = lent.judge(case, start);
-    assert!(matches!(judge, 0..=6 | 9), "judge {judge}");
+    assert!(matches!(judge, 0..=6 | 9 | 12), "judge {judge}");
     assert!(lent.tables_are_zero());
     assert!(judge == 0 || lent.answers_are_zero());
     let reply = lent.guide(case, start, 0);
     assert!(lent.tables_are_zero() && lent.cells_are_zero());
     let guide = match reply {
         Refused(number) => {
-            assert!(matches!(number, 1..=6 | 9), "guide {number}");
+            assert!(matches!(number, 1..=6 | 9 | 12), "guide {number}");
             assert!(lent.trace_is_zero_from(0));
             number
         }
@@ -72,7 +73,7 @@ fn run_replay(lent: &mut Lent, case: &[u8], start: &[u8]) -> u64 {
     assert!(lent.replay_cells_are_zero());
     match reply {
         ReplayReply::Refused(number) => {
-            assert!(matches!(number, 1..=6 | 11), "replay {number}");
+            assert!(matches!(number, 1..=6 | 11 | 12), "replay {number}");
             number
         }
         _ => 0,
@@ -114,17 +115,17 @@ fn wrong_contents(file: &[u8]) -> Vec<Vec<u8>> {
     copies
 }
 
-/// Small generated pairs whose tables fit.
+/// Small generated pairs whose tables fit, with and without a record of codes.
 fn small_pairs(count: u64) -> Vec<Pair> {
     let seeds = seeds(count);
     let pairs = SHAPES
         .iter()
         .flat_map(|shape| seeds.clone().map(|seed| pair(seed, shape)));
     let mut lent = memory();
-    pairs
+    let small = pairs
         .filter(|pair| pair.case_file.len() < 500 && pair.start_file.len() < 250)
-        .filter(|pair| lent.saturate(&pair.case_file).0 == 0)
-        .collect()
+        .filter(|pair| lent.saturate(&pair.case_file).0 == 0);
+    also_coded(small).collect()
 }
 
 fn memory() -> Lent {
@@ -157,15 +158,18 @@ fn the_case_is_refused_before_the_start_file() {
     }
 }
 
-/// A byte changed anywhere, to values near it and at the ends of the range.
+/// A byte changed anywhere, to values near it and at the ends of the range. Coded
+/// cases are refused with each number.
 #[test]
 fn every_byte_changed() {
     let mut lent = memory();
+    let mut refusals = Kinds::default();
     for pair in small_pairs(4) {
         for at in 0..pair.case_file.len() {
             for value in values_near(pair.case_file[at]) {
                 let copy = changed(&pair.case_file, at, value);
-                check_changed_case(&mut lent, &copy, &pair.start_file);
+                let refusal = check_changed_case(&mut lent, &copy, &pair.start_file);
+                refusals.count(refusal.filter(|_| pair.case_file[0] == 5));
             }
         }
         for at in 0..pair.start_file.len() {
@@ -175,22 +179,27 @@ fn every_byte_changed() {
             }
         }
     }
+    println!("refusals of coded cases: {refusals:?}");
+    assert!(refusals.rarest(5) >= 50, "{refusals:?}");
 }
 
-/// A changed file is refused, or it is the file of what it was read as.
-fn check_changed_case(lent: &mut Lent, copy: &[u8], start: &[u8]) {
+/// A changed file is refused, or in our codes it is the file of what it was read
+/// as. The refusal is answered.
+fn check_changed_case(lent: &mut Lent, copy: &[u8], start: &[u8]) -> Option<u64> {
     let replies = run(lent, copy, start);
     match decode_case(copy) {
         Ok(case) => {
-            assert_eq!(encode_case(&case), copy);
+            assert_eq!(encode_case(&case), in_our_codes(copy));
             assert!(matches!(replies.saturate, 0 | 9));
             assert!(matches!(replies.judge, 0 | 5 | 6 | 9));
             assert!(matches!(replies.replay, 0 | 5 | 6));
+            None
         }
         Err(refusal) => {
-            assert!((1..=4).contains(&refusal));
+            assert!(matches!(refusal, 1..=4 | 12));
             let others = [replies.judge, replies.guide, replies.replay];
             assert_eq!((replies.saturate, others), (refusal, [refusal; 3]));
+            Some(refusal)
         }
     }
 }
@@ -232,15 +241,17 @@ fn swapped_bodies() {
 fn changed_finals_of_cases() {
     let mut lent = memory();
     let mut kinds = Kinds::default();
-    for pair in small_pairs(20) {
+    for (pair, record) in small_pairs(20).iter().zip(RECORDS.iter().cycle()) {
         for (kind, copy) in changed_finals(&pair.case) {
             kinds.count([kind]);
+            let is_coded = pair.case_file[0] == 5;
+            let copy = if is_coded { coded(&copy, record) } else { copy };
             match kind.refusal() {
                 Some(refusal) => assert_case_refused(&mut lent, &copy, &pair.start_file, refusal),
                 None => {
                     let case = decode_case(&copy).expect("a sound case");
                     assert_ne!(case, pair.case);
-                    assert_eq!(encode_case(&case), copy);
+                    assert_eq!(encode_case(&case), in_our_codes(&copy));
                     assert_eq!(run(&mut lent, &copy, &pair.start_file).judge, 0);
                 }
             }

@@ -2,17 +2,15 @@
 //! of document 02's requests.
 
 use second::automaton::accepts;
+use second::callers::SECOND;
 use second::data::{Vector, bytes, larger_files, one_start, vectors, without_rounds};
 use second::file::decode_case;
 use second::lent::{Lent, replayed};
 use second::replay::ReplayReply::{Accepted, Refused};
-use second::replay::replay;
-use second::requests::{Services, check_examples};
+use second::requests::check_examples;
 use second::saturation::saturate;
 use second::services::GuideReply::{Arrived, CellsShort};
-use second::services::{
-    self, LISTING_ENTRIES, LISTING_MOVES, MOST_CELLS, guide, judge, listing, listing_answer,
-};
+use second::services::{LISTING_ENTRIES, LISTING_MOVES, MOST_CELLS, listing, listing_answer};
 use second::stack::{after_rules, configuration};
 use second::start_file::decode_start;
 use second::table::{Size, Table};
@@ -29,13 +27,7 @@ fn every_vector() {
 
 #[test]
 fn every_example_of_the_requests() {
-    check_examples(Services {
-        saturate: services::saturate,
-        judge,
-        guide,
-        listing,
-        replay,
-    });
+    check_examples(SECOND);
 }
 
 /// The services answer as the listing says, and the traces of the vectors are

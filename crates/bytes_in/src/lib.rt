@@ -163,16 +163,13 @@ fn bodies_placed(file: &[u8], table: &[u16], n: usize, first: usize) -> bool
     offset == file.len()
 }
 
-// The first byte is the number of bodies of the table, and the bodies are in place.
+// The bodies of the table are in place, after the first byte and a line of contents for each.
 pub fn placed(file: &[u8], table: &[u16]) -> bool
     ensures { λ r. ⌜ r ≡ Bytes.placed (bodiesIn (now (table .entry))) (now (file .entry)) ⌝ }
 {
     let n = table.len() / 4;
     let contents = 1 + Limits::LINE_BYTES * n;
     if file.len() < contents {
-        return false;
-    }
-    if byte_at(file, 0) != n as u64 {
         return false;
     }
     bodies_placed(file, table, n, contents)

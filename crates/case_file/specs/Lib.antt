@@ -1,2 +1,2 @@
-pub mod Refusal
+pub mod Forms
 pub mod Laws

@@ -6,18 +6,21 @@ ghost use Prim.Native.Nat.{_<_, _≤_, _+_, _*_};
 ghost use lib.ListN.{length};
 ghost use Rattle.words.specs.Lists.{every};
 ghost use Rattle.words.specs.Order.{rising};
-ghost use Rattle.files.specs.Bytes.{placed, records};
+ghost use lib.Seq.{sets};
+ghost use Rattle.files.specs.Bytes.{records};
+ghost use Rattle.files.specs.Codes.{codesRight};
 ghost use Rattle.files.specs.Case;
-ghost use Rattle.files.specs.Case.{caseBodies, headRight, ruleBytes, ruleRight, ruleRecords, edgeBytes, edgeRight, edgeRecords, entriesOf, moveOf, moveRight, moveKey, moveRecords, recordsRight, increasing, caseRefusal};
+ghost use Rattle.files.specs.Case.{formOf, casePlaced, codesOf, headRight, ruleBytes, ruleRight, ruleRecords, edgeBytes, edgeRight, edgeRecords, entriesOf, moveOf, moveRight, moveKey, moveRecords, recordsRight, increasing, caseRefusal};
 ghost use Rattle.bytes_in.specs.Records.{bodyOf};
 ghost use Rattle.case_records.specs.Values.{theHead, theEdge};
 ghost use Rattle.case_records.specs.Keys.{edgeOrder};
+ghost use Rattle.case_file.specs.Forms.{linesOf, codesIn, hasCodes, ourRules};
 use case_records::Edge;
 use case_records::Head;
 use limits::Limits;
 
 // Kind, least and most number of records and bytes of a record of each body.
-const BODIES: [u16; 16] = [
+const BODIES: [u16; 20] = [
     1,
     1,
     1,
@@ -34,13 +37,47 @@ const BODIES: [u16; 16] = [
     0,
     Limits::MOVES as u16,
     Limits::MOVE_BYTES as u16,
+    5,
+    1,
+    1,
+    Limits::OPERATIONS as u16,
 ];
+
+// How a case is written: the lines of its contents, which no case has 0 of, and the codes in its record of operation codes, 0 without one.
+struct Form {
+    lines: usize,
+    codes: usize,
+}
+
+// The form by the first byte.
+fn form_of(first: u64) -> Form
+    ensures { λ r. ⌜ r .lines ≡ linesOf (formOf first) ⌝ }
+    ensures { λ r. ⌜ r .codes ≡ codesIn (formOf first) ⌝ }
+{
+    if first == Limits::CASE_FIRST {
+        return Form { lines: 4, codes: 0 };
+    }
+    if first == Limits::CODED_FIRST {
+        return Form {
+            lines: 5,
+            codes: Limits::OPERATIONS,
+        };
+    }
+    Form { lines: 0, codes: 0 }
+}
 
 // The first byte, the contents, the counts and the length are right.
 fn case_placed(file: &[u8]) -> bool
-    ensures { λ r. ⌜ r ≡ placed caseBodies (now (file .entry)) ⌝ }
+    ensures { λ r. ⌜ r ≡ casePlaced (now (file .entry)) ⌝ }
 {
-    bytes_in::placed(file, &BODIES)
+    if file.len() == 0 {
+        return false;
+    }
+    let lines = form_of(bytes_in::byte_at(file, 0)).lines;
+    if lines == 0 {
+        return false;
+    }
+    bytes_in::placed(file, &BODIES[0..4 * lines])
 }
 
 // Every rule of the body keeps its bounds.
@@ -154,15 +191,15 @@ fn moves_rising(body: &[u8], n: usize) -> bool
 
 // The head of a file whose bodies are in place.
 pub fn head_of(file: &[u8]) -> Head
-    requires { ⌜ placed caseBodies (now file) ≡ true ⌝ }
+    requires { ⌜ casePlaced (now file) ≡ true ⌝ }
     ensures { λ r. ⌜ theHead r ≡ Case.head (now (file .entry)) ⌝ }
 {
     case_records::read_head(bytes_in::body_part(file, Limits::HEAD_BODY, Limits::HEAD_BYTES))
 }
 
-// The body of rules of a file whose bodies are in place.
-pub fn rule_body(file: &[u8]) -> &[u8]
-    requires { ⌜ placed caseBodies (now file) ≡ true ⌝ }
+// The body of rules of a file whose bodies are in place, in its own codes.
+fn rule_body(file: &[u8]) -> &[u8]
+    requires { ⌜ casePlaced (now file) ≡ true ⌝ }
     ensures { λ r. ⌜ now r ≡ bodyOf (now (file .entry)) 1 5 ⌝ }
 {
     bytes_in::body_part(file, Limits::RULE_BODY, Limits::RULE_BYTES)
@@ -170,7 +207,7 @@ pub fn rule_body(file: &[u8]) -> &[u8]
 
 // The body of edges of a file whose bodies are in place.
 pub fn edge_body(file: &[u8]) -> &[u8]
-    requires { ⌜ placed caseBodies (now file) ≡ true ⌝ }
+    requires { ⌜ casePlaced (now file) ≡ true ⌝ }
     ensures { λ r. ⌜ now r ≡ bodyOf (now (file .entry)) 2 4 ⌝ }
 {
     bytes_in::body_part(file, Limits::EDGE_BODY, Limits::EDGE_BYTES)
@@ -178,27 +215,67 @@ pub fn edge_body(file: &[u8]) -> &[u8]
 
 // The body of moves of a file whose bodies are in place.
 pub fn move_body(file: &[u8]) -> &[u8]
-    requires { ⌜ placed caseBodies (now file) ≡ true ⌝ }
+    requires { ⌜ casePlaced (now file) ≡ true ⌝ }
     ensures { λ r. ⌜ now r ≡ bodyOf (now (file .entry)) 3 19 ⌝ }
 {
     bytes_in::body_part(file, Limits::MOVE_BODY, Limits::MOVE_BYTES)
 }
 
+// Whether a file whose bodies are in place has a record of operation codes.
+fn has_codes(file: &[u8]) -> bool
+    requires { ⌜ casePlaced (now file) ≡ true ⌝ }
+    ensures { λ r. ⌜ r ≡ hasCodes (now (file .entry)) ⌝ }
+{
+    form_of(bytes_in::byte_at(file, 0)).codes != 0
+}
+
+// The record of operation codes of a file that has one.
+fn code_record(file: &[u8]) -> &[u8]
+    requires { ⌜ (casePlaced (now file) ≡ true) × (hasCodes (now file) ≡ true) ⌝ }
+    ensures { λ r. ⌜ now r ≡ codesOf (now (file .entry)) ⌝ }
+{
+    bytes_in::body_part(file, Limits::CODE_BODY, Limits::OPERATIONS)
+}
+
+// The file's operation codes are all different, and none is zero.
+fn file_codes_right(file: &[u8]) -> bool
+    requires { ⌜ casePlaced (now file) ≡ true ⌝ }
+    ensures { λ r. ⌜ r ≡ codesRight (codesOf (now (file .entry))) ⌝ }
+{
+    if has_codes(file) {
+        return operations::codes_right(code_record(file));
+    }
+    true
+}
+
+// Writes the rules of a file whose bodies are in place, in our codes.
+pub fn put_rules(file: &[u8], rules: &mut [u8])
+    requires { ⌜ (casePlaced (now file) ≡ true) × (1280 ≤ length (now rules)) ⌝ }
+    ensures { λ _. ⌜ now (rules .exit) ≡ sets (now (rules .entry)) 0 (ourRules (now (file .entry))) ⌝ }
+{
+    let n = bytes_in::count_of(file, Limits::RULE_BODY);
+    if has_codes(file) {
+        operations::put_rules(code_record(file), rule_body(file), n, rules);
+    } else {
+        let mut codes = [0u8; Limits::OPERATIONS];
+        operations::put_our_codes(&mut codes);
+        operations::put_rules(&codes, rule_body(file), n, rules);
+    }
+}
+
 // Every rule of the file keeps its bounds.
 fn file_rules_right(h: Head, file: &[u8]) -> bool
-    requires { ⌜ placed caseBodies (now file) ≡ true ⌝ }
+    requires { ⌜ casePlaced (now file) ≡ true ⌝ }
     ensures { λ r. ⌜ r ≡ every (ruleRight (theHead h)) (ruleRecords (now (file .entry))) ⌝ }
 {
-    rules_right(
-        h,
-        rule_body(file),
-        bytes_in::count_of(file, Limits::RULE_BODY),
-    )
+    let mut rules = [0u8; Limits::RULE_TABLE];
+    put_rules(file, &mut rules);
+    rules_right(h, &rules, bytes_in::count_of(file, Limits::RULE_BODY))
 }
 
 // Every edge of the file keeps its bounds.
 fn file_edges_right(h: Head, file: &[u8]) -> bool
-    requires { ⌜ (placed caseBodies (now file) ≡ true) × (headRight (theHead h) ≡ true) ⌝ }
+    requires { ⌜ (casePlaced (now file) ≡ true) × (headRight (theHead h) ≡ true) ⌝ }
     ensures { λ r. ⌜ r ≡ every (edgeRight (theHead h)) (edgeRecords (now (file .entry))) ⌝ }
 {
     edges_right(
@@ -210,7 +287,7 @@ fn file_edges_right(h: Head, file: &[u8]) -> bool
 
 // The number of the file's entries.
 pub fn entry_total(h: Head, file: &[u8]) -> u64
-    requires { ⌜ placed caseBodies (now file) ≡ true ⌝ }
+    requires { ⌜ casePlaced (now file) ≡ true ⌝ }
     ensures { λ r. ⌜ r ≡ length (entriesOf (theHead h) (edgeRecords (now (file .entry)))) ⌝ }
     ensures { λ r. ⌜ r ≤ 64 ⌝ }
 {
@@ -223,7 +300,7 @@ pub fn entry_total(h: Head, file: &[u8]) -> u64
 
 // The number of order-1 states: J and the file's entries.
 fn states_of(h: Head, file: &[u8]) -> u64
-    requires { ⌜ (placed caseBodies (now file) ≡ true) × (h .inner1 ≤ 16) ⌝ }
+    requires { ⌜ (casePlaced (now file) ≡ true) × (h .inner1 ≤ 16) ⌝ }
     ensures { λ r. ⌜ r ≡ h .inner1 + length (entriesOf (theHead h) (edgeRecords (now (file .entry)))) ⌝ }
 {
     h.inner1 + entry_total(h, file)
@@ -231,7 +308,7 @@ fn states_of(h: Head, file: &[u8]) -> u64
 
 // Every move of the file keeps its bounds, where there are so many order-1 states.
 fn file_moves_right(h: Head, states: u64, file: &[u8]) -> bool
-    requires { ⌜ (placed caseBodies (now file) ≡ true) × (headRight (theHead h) ≡ true) ⌝ }
+    requires { ⌜ (casePlaced (now file) ≡ true) × (headRight (theHead h) ≡ true) ⌝ }
     ensures { λ r. ⌜ r ≡ every (moveRight (theHead h) states) (moveRecords (now (file .entry))) ⌝ }
 {
     moves_right(
@@ -244,7 +321,7 @@ fn file_moves_right(h: Head, states: u64, file: &[u8]) -> bool
 
 // Rules, edges and moves keep their bounds, and there are not too many order-1 states.
 fn records_right(h: Head, file: &[u8]) -> bool
-    requires { ⌜ (placed caseBodies (now file) ≡ true) × (headRight (theHead h) ≡ true) × (theHead h ≡ Case.head (now file)) ⌝ }
+    requires { ⌜ (casePlaced (now file) ≡ true) × (headRight (theHead h) ≡ true) × (theHead h ≡ Case.head (now file)) ⌝ }
     ensures { λ r. ⌜ r ≡ recordsRight (now (file .entry)) ⌝ }
 {
     if !file_rules_right(h, file) {
@@ -262,7 +339,7 @@ fn records_right(h: Head, file: &[u8]) -> bool
 
 // Edges, entries and moves are strictly increasing.
 fn records_rising(h: Head, file: &[u8]) -> bool
-    requires { ⌜ (placed caseBodies (now file) ≡ true) × (theHead h ≡ Case.head (now file)) ⌝ }
+    requires { ⌜ (casePlaced (now file) ≡ true) × (theHead h ≡ Case.head (now file)) ⌝ }
     ensures { λ r. ⌜ r ≡ increasing (now (file .entry)) ⌝ }
 {
     if edges_rising(
@@ -275,7 +352,7 @@ fn records_rising(h: Head, file: &[u8]) -> bool
     false
 }
 
-// 0 for a sound case, else its refusal, from 1 to 4.
+// 0 for a sound case, else its refusal: from 1 to 4, or 12.
 pub fn check_case(file: &[u8]) -> u64
     ensures { λ r. ⌜ r ≡ caseRefusal (now (file .entry)) ⌝ }
 {
@@ -285,6 +362,9 @@ pub fn check_case(file: &[u8]) -> u64
     let h = head_of(file);
     if !case_records::head_right(h) {
         return 2;
+    }
+    if !file_codes_right(file) {
+        return 12;
     }
     if !records_right(h, file) {
         return 3;

@@ -6,10 +6,6 @@ use mathlib.Core.Bool.{Bool, true, false, _||_}
 use lib.Dec.{eqb, ltb}
 use Rattle.files.specs.Case.{Head, EdgeBytes}
 
--- b is right for the code
-unfoldable pub operandRight : Head → ℕ → ℕ → Bool
-operandRight h code b = elim (ltb code 4) [ true ↦ ltb b (h .A) | false ↦ eqb b 0 ]
-
 -- the second byte is right for the state
 unfoldable pub firstRight : Head → EdgeBytes → Bool
 firstRight h x = elim (ltb (x .state) (h .P)) [ true ↦ eqb (x .first) 254 || eqb (x .first) 255 | false ↦ ltb (x .first) (h .J) ]

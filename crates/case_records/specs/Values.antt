@@ -1,6 +1,7 @@
 -- What the values of the code stand for: heads, operations, rules and edges.
 -- Assumes nothing.
 pub mod Laws
+use Prim.Native.Nat.{ℕ}
 use Rattle.stacks.specs.Stack as Stack
 use Rattle.stacks.specs.System as System
 use Rattle.files.specs.Case as Case
@@ -30,6 +31,17 @@ theOperation Pop1 = Stack.pop1
 theOperation Pop2 = Stack.pop2
 theOperation Collapse1 = Stack.collapse1
 theOperation Collapse2 = Stack.collapse2
+
+-- our code of the operation
+unfoldable pub codeOf : Stack.Operation → ℕ
+codeOf (Stack.rewrite b) = 1
+codeOf (Stack.push1 b) = 2
+codeOf (Stack.push2 b) = 3
+codeOf Stack.copy = 4
+codeOf Stack.pop1 = 5
+codeOf Stack.pop2 = 6
+codeOf Stack.collapse1 = 7
+codeOf Stack.collapse2 = 8
 
 abbrev pub theRule : Rule → System.Rule
 theRule ρ =

@@ -7,9 +7,9 @@ ghost use Rattle.files.specs.Case;
 ghost use Rattle.files.specs.Case.{headOf, headRight, ruleBytes, ruleRight, operationOf, ruleOf, edgeBytes, edgeRight, moveOf, annotationRight, moveRight, moveKey};
 ghost use Rattle.words.specs.Order.{less};
 ghost use Rattle.bytes_in.specs.Records.{recordAt};
-ghost use Rattle.case_records.specs.Values.{theHead, theOperation, theRule, theEdge};
+ghost use Rattle.case_records.specs.Values.{theHead, theOperation, codeOf, theRule, theEdge};
 ghost use Rattle.tables.specs.Records.{asMove};
-ghost use Rattle.case_records.specs.Bounds.{operandRight, firstRight};
+ghost use Rattle.case_records.specs.Bounds.{firstRight};
 ghost use Rattle.case_records.specs.Keys.{lessThen, orderByte, edgeOrder};
 use limits::Limits;
 use tables::Move;
@@ -70,7 +70,7 @@ pub fn read_head(b: &[u8]) -> Head
     }
 }
 
-// The operation of a code from 1 to 8.
+// The operation of our code, from 1 to 8.
 fn operation_of(code: u64, b: u64) -> Operation
     ensures { λ r. ⌜ theOperation r ≡ operationOf code b ⌝ }
 {
@@ -86,7 +86,23 @@ fn operation_of(code: u64, b: u64) -> Operation
     }
 }
 
-// A record of body 2.
+// Our code of the operation.
+pub fn code_of(op: Operation) -> u64
+    ensures { λ r. ⌜ r ≡ codeOf (theOperation op) ⌝ }
+{
+    match op {
+        Operation::Rewrite(_) => 1,
+        Operation::Push1(_) => 2,
+        Operation::Push2(_) => 3,
+        Operation::Copy => 4,
+        Operation::Pop1 => 5,
+        Operation::Pop2 => 6,
+        Operation::Collapse1 => 7,
+        Operation::Collapse2 => 8,
+    }
+}
+
+// A record of body 2, in our codes.
 fn read_rule(b: &[u8]) -> Rule
     requires { ⌜ length (now b) ≡ 5 ⌝ }
     ensures { λ r. ⌜ theRule r ≡ ruleOf (ruleBytes (now (b .entry))) ⌝ }
@@ -128,7 +144,7 @@ fn read_move(b: &[u8]) -> Move
     }
 }
 
-// Record number i of body 2.
+// Record number i of body 2, in our codes.
 pub fn rule_at(body: &[u8], i: usize) -> Rule
     requires { ⌜ i * 5 + 5 ≤ length (now body) ⌝ }
     ensures { λ r. ⌜ theRule r ≡ ruleOf (ruleBytes (recordAt 5 i (now (body .entry)))) ⌝ }
@@ -215,17 +231,7 @@ pub fn head_right(h: Head) -> bool
     false
 }
 
-// Whether b is right for the code: a symbol for the codes below 4, and 0 from there on.
-fn operand_right(h: Head, code: u64, b: u64) -> bool
-    ensures { λ r. ⌜ r ≡ operandRight (theHead h) code b ⌝ }
-{
-    if code < 4 {
-        return b < h.symbols;
-    }
-    b == 0
-}
-
-// The record of body 2 names a control, a symbol, a code, a right b and a control.
+// The record of body 2, in our codes, names a control, a symbol, a code, a right b and a control.
 pub fn rule_right(h: Head, b: &[u8]) -> bool
     requires { ⌜ length (now b) ≡ 5 ⌝ }
     ensures { λ r. ⌜ r ≡ ruleRight (theHead h) (ruleBytes (now (b .entry))) ⌝ }
@@ -240,13 +246,13 @@ pub fn rule_right(h: Head, b: &[u8]) -> bool
     if code < 1 {
         return false;
     }
-    if 8 < code {
+    if (Limits::OPERATIONS as u64) < code {
         return false;
     }
     if h.controls <= bytes_in::byte_at(b, 4) {
         return false;
     }
-    operand_right(h, code, bytes_in::byte_at(b, 3))
+    operations::operand_right(code, h.symbols, bytes_in::byte_at(b, 3))
 }
 
 // Whether the second byte is right for the state: 254 or 255 for a control, and an inner order-1 state for an inner state.

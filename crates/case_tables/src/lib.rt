@@ -5,8 +5,8 @@ ghost use mathlib.Core.List.{[], _∷_, map};
 ghost use Prim.Native.Nat.{_<_, _≤_, _+_, _*_};
 ghost use lib.ListN.{length};
 ghost use Rattle.words.specs.Sets.{setOf};
-ghost use Rattle.files.specs.Bytes.{placed, records};
-ghost use Rattle.files.specs.Case.{caseBodies, edgeBytes, entriesOf, finalEntries, innerEdges, moveOf, ownOf};
+ghost use Rattle.files.specs.Bytes.{records};
+ghost use Rattle.files.specs.Case.{casePlaced, edgeBytes, entriesOf, finalEntries, innerEdges, moveOf, ownOf};
 ghost use Rattle.tables.specs.Layouts.{edgeRow, entryRow, moveRow};
 ghost use Rattle.tables.specs.Held.{automatonOf};
 ghost use Rattle.case_records.specs.Values.{theHead, theEdge};
@@ -136,7 +136,7 @@ fn load_moves(body: &[u8], n: usize, t: &mut [u64])
 
 // Decodes the automaton of a file whose bodies are in place.
 pub fn load_case(file: &[u8], inner: &mut [u64], entries: &mut [u64], moves: &mut [u64]) -> Table
-    requires { ⌜ (placed caseBodies (now file) ≡ true) × RoomForOwn (now file) (now inner) (now entries) (now moves) ⌝ }
+    requires { ⌜ (casePlaced (now file) ≡ true) × RoomForOwn (now file) (now inner) (now entries) (now moves) ⌝ }
     ensures { λ z. ⌜ automatonOf z (now (inner .exit)) (now (entries .exit)) (now (moves .exit)) ≡ ownOf (now (file .entry)) ⌝ }
     ensures { λ z. ⌜ now (inner .exit) ≡ written edgeRow (now (inner .entry)) 0 (ownOf (now (file .entry)) .inner) ⌝ }
     ensures { λ z. ⌜ now (entries .exit) ≡ written entryRow (now (entries .entry)) 0 (ownOf (now (file .entry)) .entries) ⌝ }

@@ -31,16 +31,7 @@ pub struct Choice {
 pub fn new_cells(op: Operation) -> usize
     ensures { λ r. ⌜ r ≡ newCells (theOperation op) ⌝ }
 {
-    match op {
-        Operation::Rewrite(_) => 2,
-        Operation::Push1(_) => 3,
-        Operation::Push2(_) => 3,
-        Operation::Copy => 4,
-        Operation::Pop1 => 1,
-        Operation::Pop2 => 0,
-        Operation::Collapse1 => 1,
-        Operation::Collapse2 => 0,
-    }
+    operations::line_of(case_records::code_of(op)).cells
 }
 
 // The root cell after the operation, where n cells are there before it.

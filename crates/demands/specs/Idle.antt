@@ -1,5 +1,5 @@
--- Document 01's idle programs, those that report another round, those that replay in another way, and those that take finished scripts in
--- another way. The answer that each gives at a worked model contradicts the demand's statement, read alone.
+-- Document 01's idle programs, those that report another round, those that replay in another way, and those that take finished scripts or
+-- tools' codes in another way. The answer that each gives at a worked model contradicts the demand's statement, read alone.
 -- Assumes nothing.
 use Prim.Native.Nat.{ℕ, _+_, _*_}
 use mathlib.Core.Bool.{false≢true}
@@ -29,6 +29,7 @@ use Rattle.guidance.specs.Halt.{isArrival}
 use Rattle.models.specs.Computing.{computed}
 use Rattle.models.specs.Files.{two, caseA, startA, startC, startCC, caseCircle, casePast, caseCollapse, startCollapse}
 use Rattle.models.specs.Files.{caseBFinal, caseBTwice, caseBNamed, caseBOther, startEmpty, caseFinished, startFinished}
+use Rattle.models.specs.Files.{caseTurned, caseToolOurs, caseToolBroken, caseToolZero, caseToolTwice, caseToolEarly}
 use Rattle.demands.specs.Refusals.{Returned, judgeRefusals, guideRefusals}
 use Rattle.demands.specs.Refusals.Laws.{returned-one}
 use Rattle.demands.specs.FullRun.{saturatedTable, walkFrom, fullWalk, fullTrace, fullNext, FullRun}
@@ -65,6 +66,26 @@ lentTwice = record { case = caseBTwice; moves = 17; entries = 7 }
 
 unfoldable pub lentNamed : Lent
 lentNamed = record { case = caseBNamed; moves = 17; entries = 7 }
+
+-- cases in a tool's codes: 5 for our rewrite; one of ours that is not in the record; a byte twice in it and a rule that breaks a bound; a zero;
+-- a byte twice; five lines and the first body at byte 33
+unfoldable pub lentTurned : Lent
+lentTurned = record { case = caseTurned 5; moves = 17; entries = 7 }
+
+unfoldable pub lentOurs : Lent
+lentOurs = record { case = caseToolOurs; moves = 17; entries = 7 }
+
+unfoldable pub lentBroken : Lent
+lentBroken = record { case = caseToolBroken; moves = 17; entries = 7 }
+
+unfoldable pub lentZero : Lent
+lentZero = record { case = caseToolZero; moves = 17; entries = 7 }
+
+unfoldable pub lentTwiceCoded : Lent
+lentTwiceCoded = record { case = caseToolTwice; moves = 17; entries = 7 }
+
+unfoldable pub lentEarly : Lent
+lentEarly = record { case = caseToolEarly; moves = 17; entries = 7 }
 
 -- judge of empty stacks, with three answers: with a final entry [1,{2}] beside [1,empty], and with model B's entry final
 unfoldable pub inputOther : JudgeInput
@@ -322,3 +343,37 @@ marked-finished = record { judged = refl; start-there = lit< tt; yes = eqb-false
 pub steps-from-empty : (d : GuideDone) → (d .reply ≡ Walked (Arrived (record { steps = 0; cells = 5 })) → ⊥) → Guides guideFinished d → ⊥
 unfolding computed guideFinished finished configurationAt startAt
 steps-from-empty d bad g = bad (finished-guides guideFinished d g 5 marked-finished refl (lit≤ tt) .reply-is)
+
+-- ---- b judged by the tool's code: its 5 is our rewrite, so that b may be 1
+
+pub judges-tool-codes : (d : SaturateDone) → (d .reply .code ≡ 0 → ⊥) → SaturateStates lentTurned d → ⊥
+unfolding computed lentTurned
+judges-tool-codes d bad s = bad (ap (λ (x : SaturateDone). x .reply .code) (saturate-only lentTurned d s))
+
+-- ---- our own codes taken where a record holds
+
+pub takes-ours : (d : SaturateDone) → (d .reply .code ≡ 3 → ⊥) → SaturateStates lentOurs d → ⊥
+unfolding computed lentOurs
+takes-ours d bad s = bad (ap (λ (x : SaturateDone). x .reply .code) (saturate-only lentOurs d s))
+
+-- ---- 12 tested after 3
+
+pub three-for-twelve : (d : SaturateDone) → d .reply .code ≡ 3 → SaturateStates lentBroken d → ⊥
+unfolding computed lentBroken
+three-for-twelve d e s = eqb-false 3 12 refl (sym e ∙ ap (λ (x : SaturateDone). x .reply .code) (saturate-only lentBroken d s))
+
+-- ---- a zero passed, or a byte that is there twice
+
+pub passes-zero : (d : SaturateDone) → (d .reply .code ≡ 12 → ⊥) → SaturateStates lentZero d → ⊥
+unfolding computed lentZero
+passes-zero d bad s = bad (ap (λ (x : SaturateDone). x .reply .code) (saturate-only lentZero d s))
+
+pub passes-twice : (d : SaturateDone) → (d .reply .code ≡ 12 → ⊥) → SaturateStates lentTwiceCoded d → ⊥
+unfolding computed lentTwiceCoded
+passes-twice d bad s = bad (ap (λ (x : SaturateDone). x .reply .code) (saturate-only lentTwiceCoded d s))
+
+-- ---- the first body still at byte 33
+
+pub early-body : (d : SaturateDone) → (d .reply .code ≡ 1 → ⊥) → SaturateStates lentEarly d → ⊥
+unfolding computed lentEarly
+early-body d bad s = bad (ap (λ (x : SaturateDone). x .reply .code) (saturate-only lentEarly d s))

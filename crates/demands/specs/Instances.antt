@@ -1,14 +1,16 @@
 -- The demands at models A, B and C: their hypotheses are met by the models' files, by computation, and what follows.
 -- Assumes nothing.
 use Prim.Native.Nat.{ℕ, _*_}
-use mathlib.Core.Path.{refl}
+use mathlib.Core.Path.{refl, subst}
 use mathlib.Core.List.{List, _++_}
 use lib.Dec.{lit<}
 use borrow.Author.Tests.{eqb-false}
+use Rattle.files.specs.Rewriting.{Readable}
 use Rattle.services.specs.Judge.{JudgeInput}
 use Rattle.services.specs.Replay.{ReplayInput}
 use Rattle.models.specs.Computing.{computed}
-use Rattle.models.specs.Files.{two, caseA, startA, caseB, startB, caseBFinal, caseC, startC}
+use Rattle.models.specs.Examples.{tool-rewritten}
+use Rattle.models.specs.Files.{two, caseA, startA, caseB, startB, caseBFinal, caseC, startC, caseTool}
 use Rattle.demands.specs.Reach.{Runs, WonIn}
 use Rattle.demands.specs.Refusals.{Returned, judgeRefusals}
 use Rattle.demands.specs.Traces.{RealFault}
@@ -17,6 +19,8 @@ use Rattle.demands.specs.Demand2.Proof.{judge-marks}
 use Rattle.demands.specs.Demand3.{MarkedYes, GuidedRun}
 use Rattle.demands.specs.Demand3.Proof.{demand3}
 use Rattle.demands.specs.Replays.Proof.{replay-answers}
+use Rattle.demands.specs.Rewritten.{AnswersAs}
+use Rattle.demands.specs.Rewritten.Proof.{rewritten}
 
 -- judge with tables of 17 and 7 words and five answers
 unfoldable pub inputA : JudgeInput
@@ -99,3 +103,11 @@ replayA n trace cells = record { case = caseA; start = startA; number = n; trace
 pub fault-A : RealFault (replayA 0 (two 0 ++ two 1) (9 * 6))
 unfolding computed replayA
 fault-A = replay-answers (replayA 0 (two 0 ++ two 1) (9 * 6)) .accepted .0 refl .1
+
+-- model A in a tool's codes is refused with none of 1, 2 and 12, so it is answered as model A
+pub readable-tool : Readable caseTool
+unfolding computed
+readable-tool = record { in-place = eqb-false 0 1 refl; in-range = eqb-false 0 2 refl; codes-apart = eqb-false 0 12 refl }
+
+pub answers-tool : AnswersAs caseTool caseA
+answers-tool = subst (AnswersAs caseTool) tool-rewritten (rewritten caseTool readable-tool)

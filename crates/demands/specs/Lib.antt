@@ -8,6 +8,7 @@ pub mod Demand2
 pub mod Demand3
 pub mod Replays
 pub mod Finished
+pub mod Rewritten
 pub mod Determined
 pub mod Instances
 pub mod Idle

@@ -1,5 +1,6 @@
 -- The papers' table of refusals: each number with the sentence that says when it applies, in the order of the tests.
 -- Assumes nothing.
+pub mod Codes
 pub mod Laws
 use Prim.Native.Nat.{ℕ, _%_, _≤_, _<_}
 use mathlib.Core.Bool.{Bool, false}
@@ -9,9 +10,8 @@ use mathlib.Core.List.{List, [], _∷_, _++_, List·Memᴰ}
 use lib.ListN.{length, getD}
 use Rattle.words.specs.Order.{rising}
 use Rattle.automata.specs.Automaton.{noEntry}
-use Rattle.files.specs.Bytes.{placed}
-use Rattle.files.specs.Case.{caseBodies, head, headRight, ruleRight, ruleRecords, edgeRight, edgeKey, edgeRecords, entriesOf, moveRight, moveKey, moveRecords, states1}
-use Rattle.files.specs.Start.{Files, startBodies, startsOf, startRight, CellBytes, cellRecords, cellRight}
+use Rattle.files.specs.Case.{casePlaced, head, headRight, codesOf, ruleRight, ruleRecords, edgeRight, edgeKey, edgeRecords, entriesOf, moveRight, moveKey, moveRecords, states1}
+use Rattle.files.specs.Start.{Files, startPlaced, startsOf, startRight, CellBytes, cellRecords, cellRight}
 use Rattle.services.specs.Saturate.{Lent}
 use Rattle.services.specs.Judge.{JudgeInput, judgeLent, judgeFiles}
 use Rattle.services.specs.Guide.{GuideInput, guideLent, guideFiles}
@@ -42,13 +42,32 @@ pub record SomeFails {X : Type 0} (test : X → Bool) (records : List X) : Type 
 
 -- 1: "The case's first byte, contents table, a count or the length is wrong."
 abbrev pub CaseWrong : List ℕ → Type 0
-CaseWrong case = placed caseBodies case ≡ false
+CaseWrong case = casePlaced case ≡ false
 
 -- 2: "A field of case body 1 is out of range."
 abbrev pub FieldWrong : List ℕ → Type 0
 FieldWrong case = headRight (head case) ≡ false
 
--- 3: "A rule, edge or move breaks a bound of its body (b, or B against its order, included), or entries are too many."
+-- one of these bytes is zero
+pub record ZeroCode (codes : List ℕ) : Type 0 where
+  pub place : ℕ
+  pub there : place < length codes
+  pub is-zero : getD codes place 0 ≡ 0
+
+-- two of these bytes are the same
+pub record SameCodes (codes : List ℕ) : Type 0 where
+  pub one : ℕ
+  pub other : ℕ
+  pub after : one < other
+  pub there : other < length codes
+  pub same : getD codes one 0 ≡ getD codes other 0
+
+-- 12, "after 2": "the eight bytes are not all different, or one is zero".
+abbrev pub CodesWrong : List ℕ → Type 0
+CodesWrong case = SameCodes (codesOf case) ⊎ ZeroCode (codesOf case)
+
+-- 3: "A rule, edge or move breaks a bound of its body (b, or B against its order, included), or entries are too many." "A code not in the
+-- record is refusal 3": `ruleRecords` gives each rule with our code, and with 0, which is no code, where its own is not in the record.
 abbrev pub BoundBroken : List ℕ → Type 0
 BoundBroken case =
     SomeFails (ruleRight (head case)) (ruleRecords case)
@@ -69,7 +88,7 @@ NotIncreasing case = (rising edgeKey (edgeRecords case) ≡ false) ⊎ ((rising 
 
 -- 5: "The start file's first byte, contents table, a count or the length is wrong."
 abbrev pub StartFileWrong : Files → Type 0
-StartFileWrong f = placed startBodies (f .start) ≡ false
+StartFileWrong f = startPlaced (f .start) ≡ false
 
 -- cell n of a start file is out of range, refers to a cell of the wrong order, or fills an unused field
 pub record CellWrong (symbols : ℕ) (cells : List CellBytes) : Type 0 where
@@ -105,6 +124,7 @@ abbrev pub caseRefusals : {X : Type 0} → (X → List ℕ) → List (Refusal X)
 caseRefusals case =
     refusal 1 (λ x. CaseWrong (case x))
     ∷ refusal 2 (λ x. FieldWrong (case x))
+    ∷ refusal 12 (λ x. CodesWrong (case x))
     ∷ refusal 3 (λ x. BoundBroken (case x))
     ∷ refusal 4 (λ x. NotIncreasing (case x))
     ∷ []

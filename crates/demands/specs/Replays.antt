@@ -19,7 +19,7 @@ use Rattle.demands.specs.Reach.{Runs}
 use Rattle.demands.specs.Refusals.{Returned, earlyRefusals}
 use Rattle.demands.specs.Traces.{RealFault, StepFails, CellsMissing}
 
--- no refusal 1 to 7 or 10
+-- no refusal 1 to 7, 10 or 12
 abbrev pub Sound : ReplayInput → Type 0
 Sound x = Returned earlyRefusals x 0
 

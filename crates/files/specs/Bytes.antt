@@ -4,7 +4,7 @@ pub mod Laws
 use Prim.Native.Nat.{ℕ, zero, suc, _+_, _*_}
 use mathlib.Core.Bool.{Bool, true, false, _&&_}
 use mathlib.Core.List.{List, [], _∷_, map}
-use lib.ListN.{length, getD, take, drop}
+use lib.ListN.{length, take, drop}
 use lib.Dec.{eqb, leb}
 
 -- "Numbers in files are unsigned, low byte first."
@@ -55,9 +55,9 @@ bodiesPlaced file n offset (b ∷ bs) = elim (lineRight file n offset b) [
   | false ↦ false
 ]
 
--- The first byte is the number of bodies, and the first body starts after the contents.
+-- "Then the bodies": the first starts after the first byte and a line of contents for each.
 unfoldable pub placed : List Body → List ℕ → Bool
-placed bodies file = eqb (getD file 0 0) (length bodies) && bodiesPlaced file 0 (1 + 8 * length bodies) bodies
+placed bodies file = bodiesPlaced file 0 (1 + 8 * length bodies) bodies
 
 -- the records of the body of line n
 unfoldable pub recordsOf : List ℕ → ℕ → ℕ → List (List ℕ)

@@ -2,9 +2,11 @@
 -- Assumes nothing.
 pub mod Records
 pub mod Laws
+pub mod Refusal
 use Prim.Native.Nat.{ℕ, zero, suc, _+_}
 use mathlib.Core.Bool.{Bool, true, false, not, _&&_, _||_}
-use mathlib.Core.List.{List, [], _∷_, map}
+use mathlib.Core.Option.{Option, none, some}
+use mathlib.Core.List.{List, [], _∷_, _++_, map}
 use lib.ListN.{length, getD}
 use lib.Dec.{eqb, ltb, leb}
 use Rattle.words.specs.Sets.{join, setOf, members}
@@ -14,7 +16,11 @@ use Rattle.stacks.specs.Stack.{Operation, rewrite, push1, push2, copy, pop1, po
 use Rattle.stacks.specs.System.{Rule}
 use Rattle.automata.specs.Automaton.{Automaton, Move, Edge, Entry, choiceKey, entryKey}
 use Rattle.files.specs.Bytes.{field, Body, placed, recordsOf, Test, firstHit}
+use Rattle.files.specs.Codes.{ourCodes, codesRight, inOurCodes}
 
+-- ---- forms
+
+-- "Kinds 1 to 4 in order": the bodies that every case has.
 unfoldable pub caseBodies : List Body
 caseBodies =
     record { kind = 1; least = 1; most = 1; size = 14 }
@@ -22,6 +28,34 @@ caseBodies =
     ∷ record { kind = 3; least = 0; most = 64; size = 4 }
     ∷ record { kind = 4; least = 0; most = 1024; size = 19 }
     ∷ []
+
+-- "A fifth body, kind 5, one record of" so many bytes.
+unfoldable pub codeBody : ℕ → Body
+codeBody n = record { kind = 5; least = 1; most = 1; size = n }
+
+-- How a case is written: its bodies, each with a line of contents and the bytes of a record, and the number of codes in its record of kind 5,
+-- which is 0 where it has none.
+pub record Form : Type 0 where
+  pub bodies : List Body
+  pub codes : ℕ
+
+-- The form by the first byte: "A case starts with a byte 4." "A case may carry a fifth body ..; then the first byte is 5."
+unfoldable pub formOf : ℕ → Option Form
+formOf first = elim (eqb first 4) [
+  | true ↦ some (record { bodies = caseBodies; codes = 0 })
+  | false ↦ elim (eqb first 5) [
+    | true ↦ some (record { bodies = caseBodies ++ codeBody 8 ∷ []; codes = 8 })
+    | false ↦ none
+  ]
+]
+
+-- the form of a file
+unfoldable pub form : List ℕ → Option Form
+form file = formOf (getD file 0 0)
+
+-- The first byte is that of a form, and the form's bodies are in place.
+unfoldable pub casePlaced : List ℕ → Bool
+casePlaced file = elim (form file) [ none ↦ false | some f ↦ placed (f .bodies) file ]
 
 -- ---- body 1
 
@@ -58,9 +92,9 @@ headRight h =
     && existing2 h (h .final2)
     && inner1 h (h .final1)
 
--- ---- body 2
+-- ---- bodies 2 and 5
 
--- a rule's five bytes: p, a, code, b, p′
+-- a rule's five bytes: p, a, our code, b, p′
 pub record RuleBytes : Type 0 where
   pub p : ℕ
   pub a : ℕ
@@ -77,7 +111,7 @@ ruleRight h x =
     ltb (x .p) (h .P) && ltb (x .a) (h .A) && leb 1 (x .code) && leb (x .code) 8 && ltb (x .next) (h .P)
     && elim (ltb (x .code) 4) [ true ↦ ltb (x .b) (h .A) | false ↦ eqb (x .b) 0 ]
 
--- the operation of a code from 1 to 8
+-- the operation of our code, from 1 to 8
 unfoldable pub operationOf : ℕ → ℕ → Operation
 operationOf zero b = rewrite b
 operationOf (suc zero) b = rewrite b
@@ -92,8 +126,16 @@ operationOf (suc (suc (suc (suc (suc (suc (suc (suc k)))))))) b = collapse2
 unfoldable pub ruleOf : RuleBytes → Rule
 ruleOf x = record { control = x .p; symbol = x .a; operation = operationOf (x .code) (x .b); next = x .next }
 
+-- the codes of the operations: those of the record of kind 5, and ours without it
+unfoldable pub codesOf : List ℕ → List ℕ
+codesOf file = elim (form file) [
+  | none ↦ ourCodes
+  | some f ↦ elim (eqb (f .codes) 0) [ true ↦ ourCodes | false ↦ getD (recordsOf file 4 (f .codes)) 0 [] ]
+]
+
+-- the rules, each with our code of its operation
 unfoldable pub ruleRecords : List ℕ → List RuleBytes
-ruleRecords file = map ruleBytes (recordsOf file 1 5)
+ruleRecords file = map (λ x. ruleBytes (inOurCodes (codesOf file) x)) (recordsOf file 1 5)
 
 -- ---- body 3
 
@@ -185,11 +227,12 @@ increasing file =
     && rising entryKey (entriesOf (head file) (edgeRecords file))
     && rising moveKey (moveRecords file)
 
--- refusals 1 to 4
+-- refusals 1 to 4, and 12 "after 2"
 unfoldable pub caseTests : List (Test (List ℕ))
 caseTests =
-    record { fails = λ file. not (placed caseBodies file); refusal = 1 }
+    record { fails = λ file. not (casePlaced file); refusal = 1 }
     ∷ record { fails = λ file. not (headRight (head file)); refusal = 2 }
+    ∷ record { fails = λ file. not (codesRight (codesOf file)); refusal = 12 }
     ∷ record { fails = λ file. not (recordsRight file); refusal = 3 }
     ∷ record { fails = λ file. not (increasing file); refusal = 4 }
     ∷ []

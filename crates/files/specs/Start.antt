@@ -15,6 +15,10 @@ use Rattle.files.specs.Case.{head}
 unfoldable pub startBodies : List Body
 startBodies = record { kind = 1; least = 1; most = 64; size = 3 } ∷ record { kind = 2; least = 1; most = 256; size = 6 } ∷ []
 
+-- "A start file starts with a byte 2 and contents of two lines."
+unfoldable pub startPlaced : List ℕ → Bool
+startPlaced file = eqb (getD file 0 0) 2 && placed startBodies file
+
 -- a start: a control and a root cell
 pub record Start : Type 0 where
   pub control : ℕ
@@ -83,7 +87,7 @@ startFileRight f =
 -- refusals 5 and 6, of a start file for a sound case
 unfoldable pub startTests : List (Test Files)
 startTests =
-    record { fails = λ f. not (placed startBodies (f .start)); refusal = 5 }
+    record { fails = λ f. not (startPlaced (f .start)); refusal = 5 }
     ∷ record { fails = λ f. not (startFileRight f); refusal = 6 }
     ∷ []
 

@@ -79,7 +79,8 @@ fn walk_from(
     let body = start_file::cell_body(start);
     let n = bytes_in::count_of(start, Limits::CELL_BODY);
     least_choices::put_start_cells(z, inner, entries, moves, body, n, rounds, cells);
-    let rules = case_file::rule_body(case);
+    let mut rules = [0u8; Limits::RULE_TABLE];
+    case_file::put_rules(case, &mut rules);
     let count = bytes_in::count_of(case, Limits::RULE_BODY);
     let w = Walk::start(x.control, x.root as u16, n);
     guided_walk::walk(
@@ -87,7 +88,7 @@ fn walk_from(
         inner,
         entries,
         moves,
-        rules,
+        &rules,
         count,
         sizes,
         k,

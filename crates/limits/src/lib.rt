@@ -30,6 +30,18 @@ impl Limits {
 
     pub const CELLS: usize = 4096;
 
+    // ---- operations, each with a code
+
+    pub const OPERATIONS: usize = 8;
+
+    // ---- the first byte of a case, of a case with a record of operation codes, of a start file
+
+    pub const CASE_FIRST: u64 = 4;
+
+    pub const CODED_FIRST: u64 = 5;
+
+    pub const START_FIRST: u64 = 2;
+
     // ---- bytes of a line of a table of contents, and of a record of each body
 
     pub const LINE_BYTES: usize = 8;
@@ -50,7 +62,7 @@ impl Limits {
 
     pub const NUMBER_BYTES: usize = 2;
 
-    // ---- the numbers of the bodies, from 0: four of a case, two of a start file
+    // ---- the numbers of the bodies, from 0: five of a case, the last only where it has a record of operation codes, two of a start file
 
     pub const HEAD_BODY: usize = 0;
 
@@ -59,6 +71,8 @@ impl Limits {
     pub const EDGE_BODY: usize = 2;
 
     pub const MOVE_BODY: usize = 3;
+
+    pub const CODE_BODY: usize = 4;
 
     pub const START_BODY: usize = 0;
 
@@ -89,7 +103,9 @@ impl Limits {
 
     pub const CELL_WORDS: usize = Limits::FIELD_WORDS + Limits::STATES1;
 
-    // ---- working memory: inner edges, the results of a round, the sizes after round 0 and each round that adds a move, the memo table
+    // ---- working memory: the rules in our codes, inner edges, the results of a round, the sizes after round 0 and each round that adds a move, the memo table
+
+    pub const RULE_TABLE: usize = Limits::RULES * Limits::RULE_BYTES;
 
     pub const INNER_TABLE: usize = Limits::EDGES * Limits::EDGE_WORDS;
 
@@ -108,11 +124,12 @@ impl Limits {
     // ---- the longest sound files
 
     pub const CASE_FILE: usize = 1
-        + 4 * Limits::LINE_BYTES
+        + 5 * Limits::LINE_BYTES
         + Limits::HEAD_BYTES
         + Limits::RULES * Limits::RULE_BYTES
         + Limits::EDGES * Limits::EDGE_BYTES
-        + Limits::MOVES * Limits::MOVE_BYTES;
+        + Limits::MOVES * Limits::MOVE_BYTES
+        + Limits::OPERATIONS;
 
     pub const START_FILE: usize = 1
         + 2 * Limits::LINE_BYTES

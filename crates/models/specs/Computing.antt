@@ -5,7 +5,10 @@ use Prim.Native.Nat.{ℕ}
 use Rattle.words.specs.Lists
 use Rattle.files.specs.Bytes
 use Rattle.files.specs.Case
+use Rattle.files.specs.Codes
+use Rattle.files.specs.Rewriting
 use Rattle.files.specs.Start
+use Rattle.files.specs.Writing
 use Rattle.replies.specs.Numbers
 use Rattle.services.specs.Guide
 use Rattle.services.specs.Judge
@@ -21,13 +24,21 @@ unfoldable pub open-bytes : ℕ
 unfolding Bytes.number Bytes.field Bytes.records Bytes.kindOf Bytes.countOf Bytes.offsetOf Bytes.lineRight Bytes.bodiesPlaced Bytes.placed Bytes.recordsOf Bytes.firstHit Bytes.testsOn
 open-bytes = 0
 
+unfoldable pub open-codes : ℕ
+unfolding Codes.ourCodes Codes.numberFrom Codes.ourCode Codes.codesRight Codes.inOurCodes
+open-codes = 0
+
 unfoldable pub open-case : ℕ
-unfolding Case.caseBodies Case.headOf Case.head Case.inner1 Case.inner2 Case.existing2 Case.headRight Case.ruleBytes Case.ruleRight Case.operationOf Case.ruleOf Case.ruleRecords Case.edgeBytes Case.edgeRight Case.edgeKey Case.edgeRecords Case.entriesOf Case.finalEntries Case.innerEdges Case.moveOf Case.annotationRight Case.moveRight Case.moveKey Case.moveRecords Case.states1 Case.recordsRight Case.increasing Case.caseTests Case.caseRefusal Case.ownOf Case.rulesOf
+unfolding Case.caseBodies Case.codeBody Case.formOf Case.form Case.casePlaced Case.headOf Case.head Case.inner1 Case.inner2 Case.existing2 Case.headRight Case.ruleBytes Case.ruleRight Case.operationOf Case.ruleOf Case.codesOf Case.ruleRecords Case.edgeBytes Case.edgeRight Case.edgeKey Case.edgeRecords Case.entriesOf Case.finalEntries Case.innerEdges Case.moveOf Case.annotationRight Case.moveRight Case.moveKey Case.moveRecords Case.states1 Case.recordsRight Case.increasing Case.caseTests Case.caseRefusal Case.ownOf Case.rulesOf
 open-case = 0
 
 unfoldable pub open-start : ℕ
-unfolding Start.startBodies Start.startOf Start.cellBytes Start.startsOf Start.cellRecords Start.orderOf Start.refersTo Start.cellRight Start.cellsRight Start.startRight Start.startFileRight Start.startTests Start.startRefusal Start.cellOf Start.cellsOf Start.configurationOf Start.startAt Start.configurationAt
+unfolding Start.startBodies Start.startPlaced Start.startOf Start.cellBytes Start.startsOf Start.cellRecords Start.orderOf Start.refersTo Start.cellRight Start.cellsRight Start.startRight Start.startFileRight Start.startTests Start.startRefusal Start.cellOf Start.cellsOf Start.configurationOf Start.startAt Start.configurationAt
 open-start = 0
+
+unfoldable pub open-rewriting : ℕ
+unfolding Writing.bytesOf Writing.flat Writing.line Writing.contents Writing.encode Writing.decodeFrom Writing.decode Rewriting.ruled Rewriting.rewriting
+open-rewriting = 0
 
 unfoldable pub open-guide : ℕ
 unfolding Guide.guideLent Guide.guideFiles Guide.numberTests Guide.guideRefusal Guide.cellWords Guide.cellsLent Guide.startNamed Guide.guideWalk Guide.accepted Guide.guideRun Guide.guideLeft Guide.refused Guide.guideAnswer Guide.guideService
@@ -62,9 +73,9 @@ unfolding Saturate.saturated Saturate.tooLarge Saturate.sizeTests Saturate.satur
 open-saturate = 0
 
 unfoldable pub open-files : ℕ
-unfolding Files.two Files.line Files.headWith Files.head Files.rule Files.entry Files.finalEntry Files.plain Files.start Files.empty1 Files.symbol Files.empty2 Files.above Files.caseA Files.startA Files.caseBWith Files.caseB Files.startB Files.caseBFinal Files.startLone Files.startEmpty Files.caseBTwice Files.caseBNamed Files.caseBOther Files.caseFinished Files.startFinished Files.caseC Files.startC Files.startCC Files.caseCircle Files.casePast Files.caseCollapse Files.startCollapse Files.times Files.startsA Files.rulesA Files.itselfA
+unfolding Files.two Files.line Files.headWith Files.head Files.rule Files.entry Files.finalEntry Files.plain Files.start Files.empty1 Files.symbol Files.empty2 Files.above Files.caseA Files.startA Files.caseBWith Files.caseB Files.startB Files.caseBFinal Files.startLone Files.startEmpty Files.caseBTwice Files.caseBNamed Files.caseBOther Files.caseFinished Files.startFinished Files.caseC Files.startC Files.startCC Files.caseCircle Files.casePast Files.caseCollapse Files.startCollapse Files.caseCoded Files.toolCodes Files.toolRules Files.caseTool Files.zeroCodes Files.twiceCodes Files.caseToolZero Files.caseToolTwice Files.caseToolBroken Files.caseToolSymbols Files.caseToolOurs Files.caseToolEarly Files.caseToolFour Files.caseAFive Files.caseTurned Files.times Files.startsA Files.rulesA Files.itselfA
 open-files = 0
 
 unfoldable pub computed : ℕ
-unfolding open-bytes open-case open-start open-replies open-guide open-judge open-listing open-memory open-replay open-run open-saturate open-files Computing.computed
+unfolding open-bytes open-codes open-case open-start open-rewriting open-replies open-guide open-judge open-listing open-memory open-replay open-run open-saturate open-files Computing.computed
 computed = 0

@@ -14,6 +14,7 @@ use Rattle.replies.specs.declared.Reply.the-variants.{NoRun, Walked}
 use Rattle.replies.specs.declared.Replayed.{Replayed}
 use Rattle.replies.specs.declared.Replayed.the-variants.{Refused, Accepted, FailsAt}
 use Rattle.files.specs.Case.{ownOf, rulesOf}
+use Rattle.files.specs.Rewriting.{rewriting}
 use Rattle.words.specs.Lists.{zeros}
 use Rattle.services.specs.Saturate.{saturateService}
 use Rattle.services.specs.Judge.{judgeService}
@@ -23,6 +24,7 @@ use Rattle.services.specs.Listing.{listingText, ascii}
 use Rattle.services.specs.Run.{runText, numberNamed}
 use Rattle.models.specs.Computing.{computed}
 use Rattle.models.specs.Files.{two, caseA, startA, caseB, startB, caseBFinal, startLone, startEmpty, caseBTwice, caseBNamed, caseBOther, caseFinished, startFinished, caseC, startC, startCC, casePast, caseCollapse, startCollapse, startsA, rulesA, itselfA}
+use Rattle.models.specs.Files.{caseTool, caseToolZero, caseToolTwice, caseToolBroken, caseToolSymbols, caseToolOurs, caseToolEarly, caseToolFour, caseAFive, caseTurned}
 
 -- ---- what an example says
 
@@ -74,6 +76,13 @@ arrived steps cells = Walked (Arrived (record { steps = steps; cells = cells }))
 pub rules-decode : rulesOf caseA ≡ Models.rulesA
 unfolding computed Models.rulesA
 rules-decode = refl
+
+-- ---- "the case rewritten to our codes"
+
+-- model A in a tool's codes is rewritten to model A's file, byte for byte
+pub tool-rewritten : rewriting caseTool ≡ caseA
+unfolding computed
+tool-rewritten = refl
 
 -- ---- the table
 
@@ -156,6 +165,31 @@ examples =
     ∷ replays caseCollapse startCollapse 0 (two 1) (9 * 6) (FailsAt 0)
     ∷ replays caseCollapse startCollapse 1 (two 0) (9 * 6) (FailsAt 0)
     ∷ replays caseCollapse startCollapse 1 (two 1) (8 * 6) Accepted
+    -- Document 02, 5: "A case with such a body has the marks, trace and refusals from 3 on of the case rewritten to our codes", here those of A.
+    ∷ saturates caseTool 17 0 3 3
+    (0 ∷ 1 ∷ 0 ∷ 0 ∷ 0 ∷ 1 ∷ 1 ∷ 2 ∷ 2 ∷ 0 ∷ 2 ∷ 0 ∷ 0 ∷ 0 ∷ 0 ∷ 0 ∷ 0 ∷ [])
+    (1 ∷ 0 ∷ 0 ∷ 0 ∷ 0 ∷ 2 ∷ 0 ∷ [])
+    ∷ judges caseTool startA 5 0 (3 ∷ 1 ∷ 0 ∷ 0 ∷ 0 ∷ [])
+    ∷ guides caseTool startA 0 (arrived 2 9) (0 ∷ 1 ∷ 0 ∷ [])
+    ∷ replays caseTool startA 0 (two 0 ++ two 1) (9 * 6) Accepted
+    ∷ lists caseTool startA (ascii "moves 3 entries 3\nstart 0 yes 2 2 9\nstart 1 yes 0 0 6\nstart 2 no\n")
+    -- "The record's nth byte, from 1, is the tool's code for our operation n": with the record 5, 1, 2, 3, 4, 6, 7, 8 the rule (0,0,5,1,1) rewrites
+    -- [[0]] to [[1]], so its b names a symbol; and (0,0,1,1,1) pushes, so that the target is missed.
+    ∷ judges (caseTurned 5) startLone 1 0 (2 ∷ [])
+    ∷ guides (caseTurned 5) startLone 0 (arrived 1 6) (0 ∷ 0 ∷ 0 ∷ [])
+    ∷ judges (caseTurned 1) startLone 1 0 (0 ∷ [])
+    -- 12: "the eight bytes are not all different, or one is zero, after 2", and before 3, of a rule that breaks a bound
+    ∷ saturates caseToolZero 17 12 0 0 (zeros 17) (zeros 7)
+    ∷ saturates caseToolTwice 17 12 0 0 (zeros 17) (zeros 7)
+    ∷ saturates caseToolBroken 17 12 0 0 (zeros 17) (zeros 7)
+    ∷ saturates caseToolSymbols 17 2 0 0 (zeros 17) (zeros 7)
+    -- "A code not in the record is refusal 3", also one of ours.
+    ∷ saturates caseToolOurs 17 3 0 0 (zeros 17) (zeros 7)
+    -- "Then the first byte is 5, the first body starts at byte 41": five lines and the first body at byte 33, five lines behind a first byte 4, and
+    -- four behind a first byte 5 are refusal 1.
+    ∷ saturates caseToolEarly 17 1 0 0 (zeros 17) (zeros 7)
+    ∷ saturates caseToolFour 17 1 0 0 (zeros 17) (zeros 7)
+    ∷ saturates caseAFive 17 1 0 0 (zeros 17) (zeros 7)
     -- "At the edges: 64 starts pass, 65 give 5; 256 rules pass, 257 give 1; a cell naming itself gives 6."
     ∷ judges caseA (startsA 64) 64 0 (replicate 64 1)
     ∷ judges caseA (startsA 65) 65 5 (zeros 65)
@@ -169,4 +203,4 @@ examples =
 pub all-hold : AllHold examples
 unfolding computed Models.ownA Models.firstA Models.tableA
 all-hold =
-    (refl, (refl, (refl, (refl, (refl, (refl, (refl, (refl, (refl, (refl, (refl, (refl, (refl, (refl, (refl, (refl, (refl, (refl, (refl, (refl, (refl, (refl, (refl, (refl, (refl, (refl, (refl, (refl, (refl, (refl, (refl, (refl, (refl, (refl, (refl, (refl, (refl, (refl, (refl, (refl, (refl, (refl, (refl, (refl, (refl, (refl, (refl, (refl, (refl, (refl, (refl, (refl, (refl, (refl, (refl, (refl, (refl, (refl, (refl, (refl, tt))))))))))))))))))))))))))))))))))))))))))))))))))))))))))))
+    (refl, (refl, (refl, (refl, (refl, (refl, (refl, (refl, (refl, (refl, (refl, (refl, (refl, (refl, (refl, (refl, (refl, (refl, (refl, (refl, (refl, (refl, (refl, (refl, (refl, (refl, (refl, (refl, (refl, (refl, (refl, (refl, (refl, (refl, (refl, (refl, (refl, (refl, (refl, (refl, (refl, (refl, (refl, (refl, (refl, (refl, (refl, (refl, (refl, (refl, (refl, (refl, (refl, (refl, (refl, (refl, (refl, (refl, (refl, (refl, (refl, (refl, (refl, (refl, (refl, (refl, (refl, (refl, (refl, (refl, (refl, (refl, (refl, (refl, (refl, (refl, tt))))))))))))))))))))))))))))))))))))))))))))))))))))))))))))))))))))))))))))

@@ -2,6 +2,7 @@
 -- Assumes nothing.
 use Prim.Native.Nat.{ℕ, zero, suc, _+_, _*_, _/_, _%_}
 use mathlib.Core.List.{List, [], _∷_, _++_}
+use lib.ListN.{drop}
 
 -- ---- records as bytes
 
@@ -233,6 +234,75 @@ startCollapse =
     ++ above 4 2
     ++ symbol 0 3 0
     ++ above 6 2
+
+-- ---- tools' own codes
+
+-- Model A's bodies and a fifth, this record of codes, behind this first byte, the first body at this offset: with so many symbols in its head
+-- and these two rules.
+unfoldable pub caseCoded : ℕ → ℕ → ℕ → List ℕ → List ℕ → List ℕ
+caseCoded first at symbols rules codes =
+    (first ∷ []) ++ line 1 1 at ++ line 2 2 (at + 14) ++ line 3 1 (at + 24) ++ line 4 1 (at + 28) ++ line 5 1 (at + 47)
+    ++ head 2 0 0 symbols
+    ++ rules
+    ++ entry 1 0
+    ++ plain 0 1
+    ++ codes
+
+-- a tool's codes, and model A's rules in them
+unfoldable pub toolCodes : List ℕ
+toolCodes = 20 ∷ 10 ∷ 30 ∷ 40 ∷ 50 ∷ 60 ∷ 70 ∷ 80 ∷ []
+
+unfoldable pub toolRules : List ℕ
+toolRules = rule 0 0 30 1 0 ++ rule 0 1 80 0 1
+
+-- model A in that tool's codes: "then the first byte is 5, the first body starts at byte 41"
+unfoldable pub caseTool : List ℕ
+caseTool = caseCoded 5 41 2 toolRules toolCodes
+
+-- its record with a zero, and with its first byte twice
+unfoldable pub zeroCodes : List ℕ
+zeroCodes = 20 ∷ 10 ∷ 30 ∷ 40 ∷ 0 ∷ 60 ∷ 70 ∷ 80 ∷ []
+
+unfoldable pub twiceCodes : List ℕ
+twiceCodes = 20 ∷ 10 ∷ 30 ∷ 40 ∷ 50 ∷ 60 ∷ 20 ∷ 80 ∷ []
+
+unfoldable pub caseToolZero : List ℕ
+caseToolZero = caseCoded 5 41 2 toolRules zeroCodes
+
+unfoldable pub caseToolTwice : List ℕ
+caseToolTwice = caseCoded 5 41 2 toolRules twiceCodes
+
+-- a byte twice and a rule of a control that is not there, and a zero and 33 symbols
+unfoldable pub caseToolBroken : List ℕ
+caseToolBroken = caseCoded 5 41 2 (rule 9 0 30 1 0 ++ rule 0 1 80 0 1) twiceCodes
+
+unfoldable pub caseToolSymbols : List ℕ
+caseToolSymbols = caseCoded 5 41 33 toolRules zeroCodes
+
+-- one of our own codes, 3, which is not in the tool's record
+unfoldable pub caseToolOurs : List ℕ
+caseToolOurs = caseCoded 5 41 2 (rule 0 0 3 1 0 ++ rule 0 1 80 0 1) toolCodes
+
+-- five lines and the first body still at byte 33, five lines behind a first byte 4, and four lines behind a first byte 5
+unfoldable pub caseToolEarly : List ℕ
+caseToolEarly = caseCoded 5 33 2 toolRules toolCodes
+
+unfoldable pub caseToolFour : List ℕ
+caseToolFour = caseCoded 4 41 2 toolRules toolCodes
+
+unfoldable pub caseAFive : List ℕ
+caseAFive = 5 ∷ drop 1 caseA
+
+-- The record 5, 1, 2, 3, 4, 6, 7, 8: 5 is a rewrite and 1 a push at order 1. P 2, I 0, J 1, A 2; order-1 state 0 is final; the rule
+-- (0,0,code,1,1); edge (1,255,empty); move (1,1,0,empty,{0}), so that the stacks of its target have [1] on top. Start file: startLone.
+unfoldable pub caseTurned : ℕ → List ℕ
+caseTurned code =
+    (5 ∷ []) ++ line 1 1 41 ++ line 2 1 55 ++ line 3 1 60 ++ line 4 1 64 ++ line 5 1 83
+    ++ headWith 2 0 1 2 0 1
+    ++ rule 0 0 code 1 1
+    ++ entry 1 0
+    ++ (1 ∷ 1 ∷ 0 ∷ 0 ∷ 0 ∷ 0 ∷ 0 ∷ 0 ∷ 0 ∷ 0 ∷ 0 ∷ 1 ∷ 0 ∷ 0 ∷ 0 ∷ 0 ∷ 0 ∷ 0 ∷ 0 ∷ [])
+    ++ (5 ∷ 1 ∷ 2 ∷ 3 ∷ 4 ∷ 6 ∷ 7 ∷ 8 ∷ [])
 
 -- ---- at the edges
 

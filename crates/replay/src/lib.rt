@@ -80,9 +80,10 @@ fn replay_sound(
     ensures { λ r. ⌜ r ≡ replayed (rulesOf (now (case .entry))) (ownOf (now (case .entry))) most 0 (length (cellsOf (now (start .entry)))) (configurationAt (now (start .entry)) number) (ruleNumbers (now (trace .entry))) ⌝ }
 {
     let w = start_place(start, number, cells);
-    let rules = case_file::rule_body(case);
+    let mut rules = [0u8; Limits::RULE_TABLE];
+    case_file::put_rules(case, &mut rules);
     let count = bytes_in::count_of(case, Limits::RULE_BODY);
-    let ended = replay_trace::replay_trace(rules, count, trace, cells, most, w);
+    let ended = replay_trace::replay_trace(&rules, count, trace, cells, most, w);
     match ended {
         Ended::Answered(r) => r,
         Ended::At(v) => answer_at(case, cells, v, (trace.len() / Limits::NUMBER_BYTES) as u64),

@@ -43,9 +43,10 @@ pub fn saturate_case(
         return nothing();
     }
     let z = case_tables::load_case(case, inner, entries, moves);
-    let body = case_file::rule_body(case);
+    let mut rules = [0u8; Limits::RULE_TABLE];
+    case_file::put_rules(case, &mut rules);
     let count = bytes_in::count_of(case, Limits::RULE_BODY);
-    saturation::saturate_tables(z, inner, entries, moves, body, count, pending, sizes)
+    saturation::saturate_tables(z, inner, entries, moves, &rules, count, pending, sizes)
 }
 
 // No table: a limit is passed.

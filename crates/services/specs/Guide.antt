@@ -41,7 +41,7 @@ guideFiles x = record { case = x .case; start = x .start }
 unfoldable pub numberTests : {X : Type 0} → (X → List ℕ) → (X → ℕ) → List (Test X)
 numberTests start number = record { fails = λ x. leb (length (startsOf (start x))) (number x); refusal = 7 } ∷ []
 
--- refusals 1 to 7 and 9
+-- refusals 1 to 7, 9 and 12
 unfoldable pub guideRefusal : GuideInput → ℕ
 guideRefusal =
     firstHit

@@ -36,7 +36,7 @@ judgeFiles x = record { case = x .case; start = x .start }
 unfoldable pub answerTests : List (Test JudgeInput)
 answerTests = record { fails = λ x. ltb (x .answers) (length (startsOf (x .start))); refusal = 8 } ∷ []
 
--- refusals 1 to 6, 8 and 9
+-- refusals 1 to 6, 8, 9 and 12
 unfoldable pub judgeRefusal : JudgeInput → ℕ
 judgeRefusal =
     firstHit (testsOn (λ x. x .case) caseTests ++ (testsOn judgeFiles startTests ++ (answerTests ++ testsOn judgeLent sizeTests)))

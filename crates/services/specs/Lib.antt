@@ -5,3 +5,4 @@ pub mod Guide
 pub mod Replay
 pub mod Listing
 pub mod Run
+pub mod Laws

@@ -46,7 +46,7 @@ traceTests = record { fails = λ x. eqb (length (x .trace) % 2) 1; refusal = 10 
 unfoldable pub cellTests : List (Test ReplayInput)
 cellTests = record { fails = λ x. ltb (replayCells x) (length (cellsOf (x .start))); refusal = 11 } ∷ []
 
--- refusals 1 to 7, 10 and 11, before the first step
+-- refusals 1 to 7 and 10 to 12, before the first step
 unfoldable pub replayRefusal : ReplayInput → ℕ
 replayRefusal =
     firstHit

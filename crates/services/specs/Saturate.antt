@@ -31,7 +31,7 @@ tooLarge x = elim (saturated x) [ none ↦ true | some T ↦ false ]
 unfoldable pub sizeTests : List (Test Lent)
 sizeTests = record { fails = tooLarge; refusal = 9 } ∷ []
 
--- refusals 1 to 4 and 9
+-- refusals 1 to 4, 9 and 12
 unfoldable pub saturateRefusal : Lent → ℕ
 saturateRefusal = firstHit (testsOn (λ x. x .case) caseTests ++ sizeTests)
 

@@ -6,8 +6,8 @@ use mathlib.Core.Bool.{Bool, true, false}
 use mathlib.Core.Path.{_≡_}
 use mathlib.Core.List.{List, map}
 use Rattle.words.specs.Lists.{every}
-use Rattle.files.specs.Bytes.{placed, records}
-use Rattle.files.specs.Start.{Files, startBodies, cellBytes, startsOf, cellRecords, startRight, cellsRight}
+use Rattle.files.specs.Bytes.{records}
+use Rattle.files.specs.Start.{Files, startPlaced, cellBytes, startsOf, cellRecords, startRight, cellsRight}
 use Rattle.bytes_in.specs.Records.{recordsFrom}
 
 -- a case file and a start file
@@ -30,6 +30,6 @@ refusalBy true true true = 0
 -- the refusal of a start file for a case with P controls and A symbols, or 0
 unfoldable pub refusalFor : ℕ → ℕ → List ℕ → ℕ
 refusalFor P A start =
-    refusalBy (placed startBodies start)
+    refusalBy (startPlaced start)
     (every (startRight P (cellRecords start)) (startsOf start))
     (cellsRight A (cellRecords start) 0 (cellRecords start))

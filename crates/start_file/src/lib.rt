@@ -5,8 +5,8 @@ ghost use mathlib.Core.List.{map};
 ghost use Prim.Native.Nat.{_≤_, _*_};
 ghost use lib.ListN.{length};
 ghost use Rattle.words.specs.Lists.{every};
-ghost use Rattle.files.specs.Bytes.{placed, records};
-ghost use Rattle.files.specs.Start.{startBodies, startOf, cellBytes, startsOf, cellRecords, startRight, cellsRight};
+ghost use Rattle.files.specs.Bytes.{records};
+ghost use Rattle.files.specs.Start.{startPlaced, startOf, cellBytes, startsOf, cellRecords, startRight, cellsRight};
 ghost use Rattle.bytes_in.specs.Records.{bodyOf};
 ghost use Rattle.start_file.specs.Checks.{refusalFor};
 use limits::Limits;
@@ -25,9 +25,12 @@ const BODIES: [u16; 8] = [
 
 // The first byte, the contents, the counts and the length are right.
 fn start_placed(file: &[u8]) -> bool
-    ensures { λ r. ⌜ r ≡ placed startBodies (now (file .entry)) ⌝ }
+    ensures { λ r. ⌜ r ≡ startPlaced (now (file .entry)) ⌝ }
 {
-    bytes_in::placed(file, &BODIES)
+    if !bytes_in::placed(file, &BODIES) {
+        return false;
+    }
+    bytes_in::byte_at(file, 0) == Limits::START_FIRST
 }
 
 // Every start of the body keeps its bounds, where there are so many controls, and n cells.
@@ -64,7 +67,7 @@ fn cells_right(symbols: u64, cells: &[u8], n: usize) -> bool
 
 // The body of starts of a file whose bodies are in place.
 pub fn start_body(file: &[u8]) -> &[u8]
-    requires { ⌜ placed startBodies (now file) ≡ true ⌝ }
+    requires { ⌜ startPlaced (now file) ≡ true ⌝ }
     ensures { λ r. ⌜ now r ≡ bodyOf (now (file .entry)) 0 3 ⌝ }
 {
     bytes_in::body_part(file, Limits::START_BODY, Limits::START_BYTES)
@@ -72,7 +75,7 @@ pub fn start_body(file: &[u8]) -> &[u8]
 
 // The body of cells of a file whose bodies are in place.
 pub fn cell_body(file: &[u8]) -> &[u8]
-    requires { ⌜ placed startBodies (now file) ≡ true ⌝ }
+    requires { ⌜ startPlaced (now file) ≡ true ⌝ }
     ensures { λ r. ⌜ now r ≡ bodyOf (now (file .entry)) 1 6 ⌝ }
 {
     bytes_in::body_part(file, Limits::CELL_BODY, Limits::CELL_BYTES)
@@ -80,7 +83,7 @@ pub fn cell_body(file: &[u8]) -> &[u8]
 
 // Every start of the file keeps its bounds, where there are so many controls.
 fn file_starts_right(controls: u64, file: &[u8]) -> bool
-    requires { ⌜ placed startBodies (now file) ≡ true ⌝ }
+    requires { ⌜ startPlaced (now file) ≡ true ⌝ }
     ensures { λ r. ⌜ r ≡ every (startRight controls (cellRecords (now (file .entry)))) (startsOf (now (file .entry))) ⌝ }
 {
     let m = bytes_in::count_of(file, Limits::START_BODY);
@@ -90,7 +93,7 @@ fn file_starts_right(controls: u64, file: &[u8]) -> bool
 
 // Every cell of the file keeps its bounds, where there are so many symbols.
 fn file_cells_right(symbols: u64, file: &[u8]) -> bool
-    requires { ⌜ placed startBodies (now file) ≡ true ⌝ }
+    requires { ⌜ startPlaced (now file) ≡ true ⌝ }
     ensures { λ r. ⌜ r ≡ cellsRight symbols (cellRecords (now (file .entry))) 0 (cellRecords (now (file .entry))) ⌝ }
 {
     cells_right(

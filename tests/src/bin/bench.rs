@@ -7,6 +7,8 @@
 use std::env;
 use std::ffi::c_long;
 
+use second::coded::coded;
+use second::codes::Record;
 use second::data::{Larger, larger_files, one_start};
 use second::encode::encode_case;
 use second::file::decode_case;
@@ -26,6 +28,9 @@ const LEAST_MILLISECONDS: f64 = 500.0;
 
 /// A replay is short: each is made so often.
 const REPLAYS: usize = 100;
+
+/// The codes of a supplier, for one more line of a file.
+const CODES: Record = [20, 10, 30, 40, 50, 60, 70, 80];
 
 /// The name that stands for the family.
 const FAMILY: &str = "family";
@@ -192,6 +197,10 @@ fn bench(file: &Larger) {
     println!("{name}: moves {moves} entries {entries} rounds {rounds}");
     let second = SECOND.saturate(case);
     print_line("saturate", PROVED.saturate(case), Some(second));
+    let in_codes = coded(case, &CODES);
+    let what = "saturate, a supplier's codes";
+    let coded = SECOND.saturate(&in_codes);
+    print_line(what, PROVED.saturate(&in_codes), Some(coded));
     let starts = starts(start);
     // Each call of the other services saturates once.
     let soon = |calls: u64| second * calls as f64 <= MOST_MILLISECONDS;

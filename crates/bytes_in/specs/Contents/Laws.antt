@@ -6,13 +6,12 @@ use mathlib.Core.Path.{_≡_, refl, ap, ap₂, sym, _∙_}
 use mathlib.Core.List.{List, [], _∷_}
 use lib.ListN.{length, getD}
 use lib.Dec.{eqb}
-use borrow.Author.Tests.{eq-eqb, ne-eqb}
 use native.Mathlib.Nat.{mul-le-mul}
 use native.Mathlib.Numerals.{add-one}
 use native.Mathlib.Omega.{arith}
 use Rattle.words.specs.Laws.Tests.{by-test}
 use Rattle.files.specs.Bytes.{Body, countOf, offsetOf, lineRight, bodiesPlaced, placed}
-use Rattle.files.specs.Bytes.Laws.{line-facts, bodies-first, bodies-end, placed-bodies}
+use Rattle.files.specs.Bytes.Laws.{line-facts, bodies-first, placed-bodies, placed-within}
 use Rattle.bytes_in.specs.declared.NextBody.the-variants.{At, Wrong}
 use Rattle.bytes_in.specs.Contents.{nextBody, bodyIn, bodiesFrom, bodiesIn, PlacedFrom}
 
@@ -72,14 +71,6 @@ pub placed-wrong : (file : List ℕ) (n offset : ℕ) (b : Body) (bs : List Body
     → bodiesPlaced file n offset (b ∷ bs) ≡ false
 placed-wrong file n offset b bs e = placed-cons file n offset b bs ∙ rw (next-wrong file n offset b e)
 
--- Bodies end no earlier than they begin.
-pub placed-within : (file : List ℕ) (n offset : ℕ) (bs : List Body) → bodiesPlaced file n offset bs ≡ true → offset ≤ length file
-placed-within file n offset [] e = let z : offset ≡ length file = bodies-end file n offset e in omega arith
-placed-within file n offset (b ∷ bs) e =
-    let z : offset + countOf file n * b .size ≤ length file =
-    placed-within file (suc n) _ bs (bodies-first file n offset b bs e .1) in
-    omega arith
-
 -- A file that is shorter than its contents has no bodies in place.
 pub placed-short : (bs : List Body) (file : List ℕ) → length file < 1 + 8 * length bs → placed bs file ≡ false
 placed-short bs file h =
@@ -123,12 +114,7 @@ pub table-short : (table file : List ℕ) → length file < 1 + 8 * (length tabl
 unfolding bodiesIn
 table-short table file h = placed-short (bodiesIn table) file (rw length-bodies h)
 
-pub table-number : (table file : List ℕ) (first : ℕ) → first ≡ getD file 0 0 → (first ≡ length table / 4 → ⊥)
-    → placed (bodiesIn table) file ≡ false
-unfolding bodiesIn placed
-table-number table file first e h = rw (length-bodies, ← e, ne-eqb first (length table / 4) h)
-
-pub table-bodies : (table file : List ℕ) (first : ℕ) → first ≡ getD file 0 0 → first ≡ length table / 4
+pub table-bodies : (table file : List ℕ)
     → placed (bodiesIn table) file ≡ bodiesPlaced file 0 (1 + 8 * (length table / 4)) (bodiesFrom (length table / 4) 0 table)
 unfolding bodiesIn placed
-table-bodies table file first e h = rw (length-bodies, ← e, eq-eqb first (length table / 4) h)
+table-bodies table file = rw length-bodies

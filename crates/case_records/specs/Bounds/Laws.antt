@@ -10,7 +10,8 @@ use Rattle.words.specs.Sets.{members}
 use Rattle.words.specs.Lists.{every}
 use Rattle.words.specs.Lists.Laws.{every-both}
 use Rattle.files.specs.Case.{Head, inner1, inner2, existing2, RuleBytes, ruleRight, EdgeBytes, edgeRight, annotationRight}
-use Rattle.case_records.specs.Bounds.{operandRight, firstRight}
+use Rattle.operations.specs.Table.{operandRight}
+use Rattle.case_records.specs.Bounds.{firstRight}
 
 -- ---- the tests by their parts
 
@@ -25,7 +26,7 @@ pub rule-parts : (h : Head) (x : RuleBytes)
     && leb 1 (x .code)
     && leb (x .code) 8
     && ltb (x .next) (h .P)
-    && operandRight h (x .code) (x .b)
+    && operandRight (x .code) (h .A) (x .b)
 unfolding ruleRight operandRight
 rule-parts h x = refl
 

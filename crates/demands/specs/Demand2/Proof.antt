@@ -29,13 +29,13 @@ use Rattle.services.specs.Saturate.{Lent, SaturateDone, saturated, saturateRefu
 use Rattle.services.specs.Saturate.Laws.{SaturateCase, case-refused, size-exceeded, filled, saturate-cases}
 use Rattle.services.specs.Judge.{JudgeInput, JudgeDone, judgeLent, judgeLeft, judgeService}
 use Rattle.services.specs.Judge.Laws.{JudgeCase, start-refused, answers-short, judged, judge-cases}
-use Rattle.services.specs.Guide.{GuideInput, GuideDone, accepted, guideLent, startNamed, guideWalk, guideLeft, refused, guideService}
+use Rattle.services.specs.Guide.{GuideInput, GuideDone, accepted, guideFiles, guideLent, startNamed, guideWalk, guideLeft, refused, guideService}
 use Rattle.services.specs.Guide.Laws.{GuideCase, Started, start-missing, no-run, cells-short, walked, guide-cases, walk-goes}
 use Rattle.demands.specs.Reach.{Runs, WonIn, Marks}
 use Rattle.demands.specs.Size.{Exceeds}
 use Rattle.demands.specs.Size.Laws.{none-exceeds, exceeds-none}
-use Rattle.demands.specs.Refusals.{Returned, refusal, StartMissing, judgeRefusals, guideRefusals}
-use Rattle.demands.specs.Refusals.Laws.{returned-one, unreturned}
+use Rattle.demands.specs.Refusals.{Returned, refusal, StartMissing, caseRefusals, startRefusals, judgeRefusals, guideRefusals}
+use Rattle.demands.specs.Refusals.Laws.{returned-one, unreturned, unlisted, returned-after}
 use Rattle.demands.specs.Demand1.{JudgeStates, Answered}
 use Rattle.demands.specs.Demand1.Proof.{demand1-judge, demand1-guide}
 use Rattle.demands.specs.Demand2.{judgeFor, JudgeMarks, GuideRuns, Demand2, AddsNothing, RoundsWithin, WordsWithin, Demand2Rounds, SaturateSize, JudgeSize, GuideSize, Demand2Size}
@@ -68,14 +68,11 @@ walked-not e = let z : _≡_ {A = ℕ} 0 1 = cc in absurd (omega arith)
 
 -- where no number applies, the start is in the file
 start-there : (x : GuideInput) → Returned guideRefusals x 0 → x .number < length (startsOf (x .start))
+unfolding unlisted
 start-there x r =
-    let after-1 = unreturned _ _ x (eqb-false 0 1 refl) r .1 in
-    let after-2 = unreturned _ _ x (eqb-false 0 2 refl) after-1 .1 in
-    let after-3 = unreturned _ _ x (eqb-false 0 3 refl) after-2 .1 in
-    let after-4 = unreturned _ _ x (eqb-false 0 4 refl) after-3 .1 in
-    let after-5 = unreturned _ _ x (eqb-false 0 5 refl) after-4 .1 in
-    let after-6 = unreturned _ _ x (eqb-false 0 6 refl) after-5 .1 in
-    let there = unreturned (refusal 7 (λ y. StartMissing (y .start) (y .number))) _ x (eqb-false 0 7 refl) after-6 .0 in
+    let after-case = returned-after (caseRefusals (λ y. y .case)) _ x refl r in
+    let after-start = returned-after (startRefusals guideFiles) _ x refl after-case in
+    let there = unreturned (refusal 7 (λ y. StartMissing (y .start) (y .number))) _ x (eqb-false 0 7 refl) after-start .0 in
     by-test (leb (length (startsOf (x .start))) (x .number)) (λ t. absurd (there (leb-true _ _ t))) (λ t. leb-false _ _ t)
 
 -- what demand 1 says of an answer gives: no run exactly if there is none

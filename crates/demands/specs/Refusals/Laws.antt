@@ -19,14 +19,16 @@ use Rattle.words.specs.Order.Laws.{less-lt, less-eq, less-cons, less-one, risin
 use Rattle.words.specs.Order.Rising.{rising-once}
 use Rattle.automata.specs.Automaton.{Entry, noEntry, entryKey}
 use Rattle.automata.specs.Automaton.Laws.{entryKey-eq}
-use Rattle.files.specs.Bytes.{Test, firstHit, testsOn, placed}
+use Rattle.files.specs.Bytes.{Test, firstHit, testsOn}
 use Rattle.files.specs.Bytes.Laws.{numbered, numbered-cons, numbered-testsOn, unrefused, firstHit-fails, firstHit-passes, firstHit-testsOn}
-use Rattle.files.specs.Case.{caseBodies, head, headRight, ruleRight, ruleRecords, EdgeBytes, edgeRight, edgeKey, edgeRecords, entriesOf, moveRight, moveKey, moveRecords, states1}
+use Rattle.files.specs.Codes.{codesRight}
+use Rattle.files.specs.Case.{casePlaced, codesOf, head, headRight, ruleRight, ruleRecords, EdgeBytes, edgeRight, edgeKey, edgeRecords, entriesOf, moveRight, moveKey, moveRecords, states1}
 use Rattle.files.specs.Case.{recordsRight, increasing, caseTests, caseRefusal}
-use Rattle.files.specs.Start.{Files, startBodies, startsOf, startRight, CellBytes, cellRecords, cellRight, cellsRight, startFileRight, startTests, startRefusal}
+use Rattle.files.specs.Start.{Files, startPlaced, startsOf, startRight, CellBytes, cellRecords, cellRight, cellsRight, startFileRight, startTests, startRefusal}
 use Rattle.services.specs.Saturate.Laws.{case-numbered}
 use Rattle.services.specs.Judge.Laws.{start-numbered}
 use Rattle.demands.specs.Refusals.{Refusal, Returned, SomeFails, BoundBroken, SecondEntry, NotIncreasing, CellWrong, StartOrCellWrong, caseRefusals, startRefusals}
+use Rattle.demands.specs.Refusals.Codes.{codes-wrong}
 
 -- ---- the first number that applies
 
@@ -76,6 +78,13 @@ module _ {X : Type 0} where
   returned-before [] more x e = refl
   returned-before (r ∷ rs) more x (inl a) = inl a
   returned-before (r ∷ rs) more x (inr (a, e)) = inr (a, returned-before rs more x e)
+
+  -- where no number is returned, none of the lines that follow is
+  pub returned-after : (rs more : List (Refusal X)) (x : X) → unlisted 0 rs ≡ true → Returned (rs ++ more) x 0 → Returned more x 0
+  returned-after [] more x u e = e
+  returned-after (r ∷ rs) more x u e =
+      let (h, v) = unlisted-cons 0 r rs u in
+      returned-after rs more x v (unreturned r (rs ++ more) x h e .1)
 
   -- where none of the first lines is returned, those that follow count
   pub returned-then : (rs more : List (Refusal X)) (x : X) (n : ℕ) → unlisted 0 rs ≡ true → Returned rs x 0 → Returned more x n → Returned (rs ++ more) x n
@@ -308,13 +317,17 @@ module _ {X : Type 0} (x : X) where
   case-agrees part =
       let rise = both (not-true (increasing (part x))) (not-increasing (part x)) in
       let bounds = both (not-true (recordsRight (part x))) (bound-broken (part x)) in
-      (refl, not-true (placed caseBodies (part x)), λ e. (refl, not-true (headRight (head (part x))), λ f. (refl, bounds, λ g. (refl, rise, λ h. tt))))
+      let codes = both (not-true (codesRight (codesOf (part x)))) (codes-wrong (codesOf (part x))) in (
+        refl,
+        not-true (casePlaced (part x)),
+        λ e. (refl, not-true (headRight (head (part x))), λ f. (refl, codes, λ g. (refl, bounds, λ h. (refl, rise, λ k. tt)))),
+      )
 
   start-agrees : (part : X → Files) → Agree (testsOn part startTests) (startRefusals part) x
   unfolding Agree testsOn startTests
   start-agrees part =
       let wrong = both (not-true (startFileRight (part x))) (start-wrong (part x)) in
-      (refl, not-true (placed startBodies (part x .start)), λ e. (refl, wrong, λ f. tt))
+      (refl, not-true (startPlaced (part x .start)), λ e. (refl, wrong, λ f. tt))
 
   -- ---- the lines of the case and of the start file, and then more
 

@@ -5,6 +5,7 @@ use mathlib.Core.Bool.{Bool, true, false, not, _&&_, false≢true}
 use mathlib.Core.Path.{_≡_, refl, ap, sym, _∙_}
 use mathlib.Core.List.{List, [], _∷_, _++_, List·Memᴰ, List·Memᴰ·head, List·Memᴰ·tail}
 use native.Mathlib.Nat.{add-comm, zero-mul, suc-mul, not-suc-le-zero, le-of-suc-le-suc}
+use native.Mathlib.Omega.{arith}
 use lib.ListN.{length, getD, take, drop}
 use lib.Seq.{drop-drop}
 use lib.Dec.{eqb, leb}
@@ -104,13 +105,17 @@ pub bodies-end : (file : List ℕ) (n offset : ℕ) → bodiesPlaced file n offs
 unfolding bodiesPlaced
 bodies-end file n offset h = eqb-true offset (length file) h
 
-pub placed-first : (bodies : List Body) (file : List ℕ) → placed bodies file ≡ true → getD file 0 0 ≡ length bodies
-unfolding placed
-placed-first bodies file h = eqb-true (getD file 0 0) (length bodies) (and-left (eqb (getD file 0 0) (length bodies)) _ h)
+-- Bodies end no earlier than they begin.
+pub placed-within : (file : List ℕ) (n offset : ℕ) (bs : List Body) → bodiesPlaced file n offset bs ≡ true → offset ≤ length file
+placed-within file n offset [] e = let z : offset ≡ length file = bodies-end file n offset e in omega arith
+placed-within file n offset (b ∷ bs) e =
+    let z : offset + countOf file n * b .size ≤ length file =
+    placed-within file (suc n) _ bs (bodies-first file n offset b bs e .1) in
+    omega arith
 
 pub placed-bodies : (bodies : List Body) (file : List ℕ) → placed bodies file ≡ true → bodiesPlaced file 0 (1 + 8 * length bodies) bodies ≡ true
 unfolding placed
-placed-bodies bodies file h = and-right (eqb (getD file 0 0) (length bodies)) _ h
+placed-bodies bodies file h = h
 
 -- ---- records
 

@@ -2,13 +2,13 @@
 -- automaton, and the widths of its numbers where the file is of bytes.
 -- Assumes nothing.
 use Prim.Native.Nat.{ℕ, zero, suc, _+_, _-_, _*_, _<_, _≤_}
-use mathlib.Core.Bool.{Bool, true, _&&_}
+use mathlib.Core.Bool.{Bool, true, _&&_, false≢true}
 use mathlib.Core.Path.{_≡_, refl, ap, _∙_, subst}
 use mathlib.Core.Logic.{⊎-elim}
-use mathlib.Core.List.{List, map, List·Memᴰ, List·Memᴰ·head, List·Memᴰ·tail, Memᴰ·of-map}
+use mathlib.Core.List.{List, [], _∷_, _++_, map, List·Memᴰ, List·Memᴰ·head, List·Memᴰ·tail, Memᴰ·of-map}
 use native.Mathlib.Nat.{le-trans}
 use native.Mathlib.Omega.{arith}
-use lib.ListN.{length, getD, length-map}
+use lib.ListN.{length, getD, take, drop, length-map, length-take, length-drop}
 use lib.Dec.{eqb, ltb, leb}
 use borrow.Author.Tests.{eqb-true, eq-eqb, ltb-true, ltb-false, leb-true, not-false}
 use Rattle.words.specs.Lists.{every}
@@ -20,48 +20,106 @@ use Rattle.words.specs.Order.{rising}
 use Rattle.stacks.specs.System.{Rule}
 use Rattle.automata.specs.Automaton.{Move, Edge, Entry, noMove, noEntry, entryKey, moveAt}
 use Rattle.automata.specs.Facts.{RuleFacts, InnerFacts, TableFacts, OwnFacts, RuleBounded, Bounded, ofOrder, states}
-use Rattle.files.specs.Bytes.{placed, countOf, offsetOf, recordsOf}
-use Rattle.files.specs.Bytes.Laws.{numbered, unrefused, bodies-first, bodies-end, placed-first, placed-bodies, length-recordsOf}
-use Rattle.files.specs.Case.{caseBodies, head, headRight, RuleBytes, ruleRight, ruleOf, ruleRecords, EdgeBytes, edgeBytes, edgeRight, edgeKey, edgeRecords, entryRecords, entriesOf, finalEntries, innerEdges, moveOf, moveRight, moveKey, moveRecords, states1, recordsRight, increasing, caseTests, caseRefusal, ownOf, rulesOf}
+use Rattle.files.specs.Bytes.{Body, placed, bodiesPlaced, countOf, offsetOf, records, recordsOf}
+use Rattle.files.specs.Bytes.Laws.{numbered, unrefused, bodies-first, placed-bodies, placed-within, length-recordsOf}
+use Rattle.files.specs.Codes.{ourCodes, codesRight}
+use Rattle.files.specs.Case.{caseBodies, codeBody, form, formOf, casePlaced, codesOf, head, headRight, RuleBytes, ruleRight, ruleOf, ruleRecords, EdgeBytes, edgeBytes, edgeRight, edgeKey, edgeRecords, entryRecords, entriesOf, finalEntries, innerEdges, moveOf, moveRight, moveKey, moveRecords, states1, recordsRight, increasing, caseTests, caseRefusal, ownOf, rulesOf}
 use Rattle.files.specs.Case.Records.{HeadBounds, head-bounds, RuleBounds, rule-bounds, EdgeBounds, edge-bounds, AnnotationBounds, MoveBounds, move-bounds}
 use Rattle.files.specs.Case.Records.{entries-out, inner-out, inner-edges-rising}
 use Rattle.words.specs.Order.Rising.{rising-once}
 
 -- ---- the places of the bodies
 
--- the offsets and counts of a case file
+-- the form of a file whose bodies are in place: its bodies and its codes
+pub data CaseForm (file : List ℕ) : Type 0 where
+  without-codes : getD file 0 0 ≡ 4 → placed caseBodies file ≡ true → codesOf file ≡ ourCodes → CaseForm file
+  with-codes : getD file 0 0 ≡ 5 → placed (caseBodies ++ codeBody 8 ∷ []) file ≡ true → codesOf file ≡ getD (recordsOf file 4 8) 0 [] → CaseForm file
+
+pub case-form : (file : List ℕ) → casePlaced file ≡ true → CaseForm file
+unfolding casePlaced form formOf codesOf
+case-form file e = by-test (eqb (getD file 0 0) 4)
+    (λ p. without-codes (eqb-true _ 4 p) (rw (casePlaced, p) at e) (rw (codesOf, p)))
+    (λ p. by-test (eqb (getD file 0 0) 5)
+    (λ q. with-codes (eqb-true _ 5 q) (rw (casePlaced, p, q) at e) (rw (codesOf, p, q)))
+    (λ q. absurd (false≢true (rw (casePlaced, p, q) at e))))
+
+-- where the bodies of a case file end, and their counts
 pub record CasePlaces (file : List ℕ) : Type 0 where
-  pub first-byte : getD file 0 0 ≡ 4
-  pub head-offset : offsetOf file 0 ≡ 33
-  pub rules-offset : offsetOf file 1 ≡ 47
-  pub edges-offset : offsetOf file 2 ≡ 47 + countOf file 1 * 5
-  pub moves-offset : offsetOf file 3 ≡ 47 + countOf file 1 * 5 + countOf file 2 * 4
-  pub whole : length file ≡ 47 + countOf file 1 * 5 + countOf file 2 * 4 + countOf file 3 * 19
+  pub long-enough : 33 ≤ length file
+  pub head-ends : offsetOf file 0 + countOf file 0 * 14 ≤ length file
+  pub rules-end : offsetOf file 1 + countOf file 1 * 5 ≤ length file
+  pub edges-end : offsetOf file 2 + countOf file 2 * 4 ≤ length file
+  pub moves-end : offsetOf file 3 + countOf file 3 * 19 ≤ length file
   pub head-count : countOf file 0 ≡ 1
   pub rules-count : countOf file 1 ≤ 256
   pub edges-count : countOf file 2 ≤ 64
   pub moves-count : countOf file 3 ≤ 1024
 
-pub case-places : (file : List ℕ) → placed caseBodies file ≡ true → CasePlaces file
+-- where the record of codes ends
+pub record CodesPlaces (file : List ℕ) : Type 0 where
+  pub line-there : 41 ≤ length file
+  pub codes-end : offsetOf file 4 + 8 ≤ length file
+  pub codes-count : countOf file 4 ≡ 1
+
+-- the four bodies of every case, and what follows them
+four-places : (file : List ℕ) (start : ℕ) (rest : List Body) → 33 ≤ start → bodiesPlaced file 0 start (caseBodies ++ rest) ≡ true
+    → CasePlaces file × (end : ℕ) × (bodiesPlaced file 4 end rest ≡ true)
 unfolding caseBodies
-case-places file e =
-    let a = bodies-first file 0 _ _ _ (placed-bodies caseBodies file e) in
+four-places file start rest l e =
+    let a = bodies-first file 0 _ _ _ e in
     let b = bodies-first file 1 _ _ _ (a .1) in
     let c = bodies-first file 2 _ _ _ (b .1) in
     let d = bodies-first file 3 _ _ _ (c .1) in
-    let end = bodies-end file 4 _ (d .1) in
-    record {
-      first-byte = placed-first caseBodies file e;
-      head-offset = a .0 .offset-is;
-      rules-offset = omega arith;
-      edges-offset = omega arith;
-      moves-offset = omega arith;
-      whole = omega arith;
-      head-count = omega arith;
-      rules-count = b .0 .count-most;
-      edges-count = c .0 .count-most;
-      moves-count = d .0 .count-most;
-    }
+    let within = placed-within file 4 _ rest (d .1) in (
+      record {
+        long-enough = omega arith;
+        head-ends = omega arith;
+        rules-end = omega arith;
+        edges-end = omega arith;
+        moves-end = omega arith;
+        head-count = omega arith;
+        rules-count = b .0 .count-most;
+        edges-count = c .0 .count-most;
+        moves-count = d .0 .count-most;
+      },
+      _,
+      d .1,
+    )
+
+coded-places : (file : List ℕ) → placed (caseBodies ++ codeBody 8 ∷ []) file ≡ true → CasePlaces file × CodesPlaces file
+unfolding caseBodies codeBody
+coded-places file e =
+    let p = four-places file 41 (codeBody 8 ∷ []) (omega arith) (placed-bodies _ file e) in
+    let l = bodies-first file 4 _ _ _ (p .2) in
+    let within = placed-within file 5 _ [] (l .1) in
+    let long = placed-within file 0 _ _ (placed-bodies _ file e) in
+    (p .0, record { line-there = omega arith; codes-end = omega arith; codes-count = omega arith })
+
+pub case-places : (file : List ℕ) → casePlaced file ≡ true → CasePlaces file
+unfolding caseBodies
+case-places file e = elim (case-form file e) [
+  | without-codes x p y ↦ four-places file 33 [] (omega arith) (placed-bodies _ file p) .0
+  | with-codes x p y ↦ coded-places file p .0
+]
+
+-- a file of first byte 5 has the record of codes
+pub codes-places : (file : List ℕ) → casePlaced file ≡ true → getD file 0 0 ≡ 5 → CodesPlaces file
+codes-places file e f = elim (case-form file e) [
+  | without-codes x p y ↦ absurd (omega arith)
+  | with-codes x p y ↦ coded-places file p .1
+]
+
+-- there are eight codes
+pub length-codes : (file : List ℕ) → casePlaced file ≡ true → length (codesOf file) ≡ 8
+unfolding ourCodes recordsOf records
+length-codes file e = elim (case-form file e) [
+  | without-codes x p y ↦ ap length y
+  | with-codes x p y ↦
+      let c : CodesPlaces file = coded-places file p .1 in
+      let l : offsetOf file 4 + 8 ≤ length file = c .codes-end in
+      let d : length (drop (offsetOf file 4) file) ≡ length file - offsetOf file 4 = length-drop (offsetOf file 4) file in
+      ap length y ∙ rw (c .codes-count) (simp length-take (omega arith))
+]
 
 -- the bounds of each record of a case
 pub record CaseBounds (file : List ℕ) : Type 0 where
@@ -98,23 +156,30 @@ entriesWritten file = entryRecords (head file) (edgeRecords file)
 -- ---- a case without a refusal
 
 module _ (file : List ℕ) (sound : caseRefusal file ≡ 0) where
-  pub case-placed : CasePlaces file
+  pub case-in-place : casePlaced file ≡ true
   unfolding caseRefusal caseTests numbered every
-  case-placed = case-places file (not-false (placed caseBodies file) (unrefused file refl sound (List·Memᴰ·head refl)))
+  case-in-place = not-false (casePlaced file) (unrefused file refl sound (List·Memᴰ·head refl))
+
+  pub case-placed : CasePlaces file
+  case-placed = case-places file case-in-place
 
   pub case-head : HeadBounds (head file)
   unfolding caseRefusal caseTests numbered every
   case-head = head-bounds (head file) (not-false (headRight (head file)) (unrefused file refl sound (List·Memᴰ·tail (List·Memᴰ·head refl))))
 
+  pub case-codes : codesRight (codesOf file) ≡ true
+  unfolding caseRefusal caseTests numbered every
+  case-codes = not-false (codesRight (codesOf file)) (unrefused file refl sound (List·Memᴰ·tail (List·Memᴰ·tail (List·Memᴰ·head refl))))
+
   pub case-bounds : CaseBounds file
   unfolding caseRefusal caseTests numbered every
   case-bounds = records-bounds file
-      (not-false (recordsRight file) (unrefused file refl sound (List·Memᴰ·tail (List·Memᴰ·tail (List·Memᴰ·head refl)))))
+      (not-false (recordsRight file) (unrefused file refl sound (List·Memᴰ·tail (List·Memᴰ·tail (List·Memᴰ·tail (List·Memᴰ·head refl))))))
 
   case-increasing : increasing file ≡ true
   unfolding caseRefusal caseTests numbered every
   case-increasing = not-false (increasing file)
-      (unrefused file refl sound (List·Memᴰ·tail (List·Memᴰ·tail (List·Memᴰ·tail (List·Memᴰ·head refl)))))
+      (unrefused file refl sound (List·Memᴰ·tail (List·Memᴰ·tail (List·Memᴰ·tail (List·Memᴰ·tail (List·Memᴰ·head refl))))))
 
   edges-increasing : rising edgeKey (edgeRecords file) && rising entryKey (entriesOf (head file) (edgeRecords file)) ≡ true
   unfolding increasing

@@ -2,7 +2,7 @@
 -- right order.
 -- Assumes nothing.
 use Prim.Native.Nat.{ℕ, zero, suc, _+_, _*_, _<_, _≤_}
-use mathlib.Core.Bool.{Bool, true, _&&_, false≢true}
+use mathlib.Core.Bool.{Bool, true, false, _&&_, and-true, and-false, false≢true}
 use mathlib.Core.Path.{_≡_, refl, ap, sym, _∙_, subst}
 use mathlib.Core.List.{List, [], _∷_, map, List·Memᴰ, List·Memᴰ·head, List·Memᴰ·tail}
 use native.Mathlib.Nat.{add-zero, zero-add, not-suc-le-zero, le-of-suc-le-suc}
@@ -17,9 +17,9 @@ use Rattle.walks.specs.Cell.{Cell, empty1, symbol, empty2, above}
 use Rattle.walks.specs.Cell.Formed.{cellOrder, orderAt, Refers, Formed, formed-below}
 use Rattle.walks.specs.Cell.Values.{getD-map-below}
 use Rattle.files.specs.Bytes.{placed, countOf, offsetOf, recordsOf, firstHit}
-use Rattle.files.specs.Bytes.Laws.{numbered, unrefused, bodies-first, bodies-end, placed-first, placed-bodies, length-recordsOf}
+use Rattle.files.specs.Bytes.Laws.{numbered, unrefused, bodies-first, bodies-end, placed-bodies, placed-within, length-recordsOf}
 use Rattle.files.specs.Case.{head}
-use Rattle.files.specs.Start.{startBodies, Start, CellBytes, cellBytes, startsOf, cellRecords, orderOf, refersTo, cellRight, cellsRight, startRight, Files, startFileRight, startTests, cellOf, cellsOf}
+use Rattle.files.specs.Start.{startBodies, startPlaced, Start, CellBytes, cellBytes, startsOf, cellRecords, orderOf, refersTo, cellRight, cellsRight, startRight, Files, startFileRight, startTests, cellOf, cellsOf}
 
 -- ---- the places of the bodies
 
@@ -34,13 +34,14 @@ pub record StartPlaces (file : List ℕ) : Type 0 where
   pub cells-some : 1 ≤ countOf file 1
   pub cells-few : countOf file 1 ≤ 256
 
-pub start-places : (file : List ℕ) → placed startBodies file ≡ true → StartPlaces file
-unfolding startBodies
+pub start-places : (file : List ℕ) → startPlaced file ≡ true → StartPlaces file
+unfolding startPlaced startBodies
 start-places file e =
-    let a = bodies-first file 0 _ _ _ (placed-bodies startBodies file e) in
+    let two : Bool = eqb (getD file 0 0) 2 in
+    let a = bodies-first file 0 _ _ _ (placed-bodies startBodies file (and-right two _ e)) in
     let b = bodies-first file 1 _ _ _ (a .1) in
     record {
-      first-byte = placed-first startBodies file e;
+      first-byte = eqb-true (getD file 0 0) 2 (and-left two _ e);
       starts-offset = a .0 .offset-is;
       cells-offset = b .0 .offset-is;
       whole = sym (bodies-end file 2 _ (b .1));
@@ -49,6 +50,22 @@ start-places file e =
       cells-some = b .0 .count-least;
       cells-few = b .0 .count-most;
     }
+
+-- ---- the first byte, where the bodies are in place
+
+module _ (file : List ℕ) where
+  pub bodies-wrong : placed startBodies file ≡ false → false ≡ startPlaced file
+  unfolding startPlaced
+  bodies-wrong e = sym (ap (λ (b : Bool). eqb (getD file 0 0) 2 && b) e ∙ and-false (eqb (getD file 0 0) 2))
+
+  pub first-tells : {b : ℕ} → placed startBodies file ≡ true → b ≡ getD file 0 0 → eqb b 2 ≡ startPlaced file
+  unfolding startPlaced
+  first-tells e f =
+      sym (ap (λ (t : Bool). eqb (getD file 0 0) 2 && t) e ∙ and-true (eqb (getD file 0 0) 2) ∙ ap (λ (k : ℕ). eqb k 2) (sym f))
+
+  pub bodies-long : placed startBodies file ≡ true → 17 ≤ length file
+  unfolding startBodies
+  bodies-long e = placed-within file 0 17 startBodies (placed-bodies startBodies file e)
 
 -- ---- one cell
 
@@ -145,7 +162,7 @@ pub record StartFacts (P : ℕ) (cells : List Cell) (x : Start) : Type 0 where
 module _ (f : Files) (sound : firstHit startTests f ≡ 0) where
   pub start-placed : StartPlaces (f .start)
   unfolding startTests numbered every
-  start-placed = start-places (f .start) (not-false (placed startBodies (f .start)) (unrefused f refl sound (List·Memᴰ·head refl)))
+  start-placed = start-places (f .start) (not-false (startPlaced (f .start)) (unrefused f refl sound (List·Memᴰ·head refl)))
 
   start-right : startFileRight f ≡ true
   unfolding startTests numbered every

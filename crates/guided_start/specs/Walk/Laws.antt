@@ -18,6 +18,7 @@ use Rattle.files.specs.Case.{caseRefusal, rulesOf}
 use Rattle.files.specs.Case.Laws.{case-placed}
 use Rattle.files.specs.Start.{cellsOf}
 use Rattle.bytes_in.specs.Records.{bodyOf}
+use Rattle.case_file.specs.Forms.{HoldsRules}
 use Rattle.tables.specs.declared.Table.{Table}
 use Rattle.results.specs.Collecting.{rulesIn}
 use Rattle.saturate.specs.Case.Laws.{rules-are, rules-stand}
@@ -76,15 +77,16 @@ module _ (file : List ℕ) {body : List ℕ} {n : ℕ} (b : body ≡ bodyOf file
 
 -- ---- the case's rules
 
-module _ (case : List ℕ) (sound : caseRefusal case ≡ 0) {body : List ℕ} {count : ℕ} (b : body ≡ bodyOf case 1 5) (c : count ≡ countOf case 1) where
+module _ (case : List ℕ) (sound : caseRefusal case ≡ 0) {body : List ℕ} {count : ℕ} (h : HoldsRules case body count) where
   -- what is asked for the walk
   pub run-stands : {z : Table} {inner entries moves : List ℕ} {k : ℕ} {sizes cells : List ℕ} {most : ℕ} → TablesStand z inner entries moves k sizes
       → most * 68 ≤ length cells → most ≤ 4096 → RunStands z inner entries moves body count sizes k cells most
   run-stands t l m =
       let n = case-placed case sound .rules-count in
+      let e = h .count-is in
       record {
         tables-stand = reading-stands t;
-        rules-stand = rules-stand case sound body count b c;
+        rules-stand = rules-stand case sound body count h;
         rules-few = omega arith;
         sizes-lent = t .sizes-lent;
         cells-lent = l;
@@ -95,4 +97,4 @@ module _ (case : List ℕ) (sound : caseRefusal case ≡ 0) {body : List ℕ} {c
   pub walk-leaves : (T : Saturated) (most n : ℕ) {w v : walks.Walk} {r : Reply} {trace : List ℕ} → w ≡ v
       → Leaves (guided (rulesIn count body) T most n [] w) n r trace → Leaves (guided (rulesOf case) T most n [] v) n r trace
   walk-leaves T most n e =
-      leaves-same (ap₂ (λ (l : List Rule) (u : walks.Walk). guided l T most n [] u) (sym (rules-are case sound body count b c)) (sym e))
+      leaves-same (ap₂ (λ (l : List Rule) (u : walks.Walk). guided l T most n [] u) (sym (rules-are case sound body count h)) (sym e))

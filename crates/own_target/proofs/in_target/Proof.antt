@@ -3,7 +3,7 @@
 use mathlib.Core.Path.{refl, ap₂, _∙_}
 use native.Mathlib.Omega.{arith}
 use Rattle.automata.specs.Acceptance.{inTarget}
-use Rattle.saturate.specs.Case.Laws.{is-placed}
+use Rattle.files.specs.Case.Laws.{case-in-place}
 use Rattle.own_target.specs.Target.Laws.{own-room, own-named}
 use borrow.Author.Needs.{needs}
 use Rattle.own_target.proofs.in_target.Statement.{statement}
@@ -21,7 +21,7 @@ slice-aggregate-load-case-3 c = search needs
 load-case-requires : tie.Need-load-case-requires
 load-case-requires c κs =
     let sound = c .before .before .before .before .before .pre .0 in
-    (is-placed _ sound, own-room _ sound _ _ _ (omega arith) (omega arith) (omega arith))
+    (case-in-place _ sound, own-room _ sound _ _ _ (omega arith) (omega arith) (omega arith))
 
 slice-aggregate-root-accepted : tie.Need-slice-aggregate-root-accepted
 slice-aggregate-root-accepted c = search needs

@@ -3,8 +3,7 @@
 use Prim.Native.Nat.{_-_}
 use lib.ListN.{length}
 use Rattle.words.specs.Copied.{Copied}
-use Rattle.words.specs.Copied.Laws.{copied-none, copied-sets}
-use Rattle.replay_cells.specs.CellBytes.Laws.{copied-next}
+use Rattle.words.specs.Copied.Laws.{copied-none, copied-next, copied-sets}
 use borrow.Author.Needs.{needs}
 use Rattle.replay_cells.proofs.copy_cells.Statement.{statement}
 use Rattle.replay_cells.proofs.copy_cells.Tie as tie

@@ -6,10 +6,8 @@ use mathlib.Core.List.{List, [], _∷_, _++_, map, append-nil, append-assoc}
 use native.Mathlib.Nat.{add-zero, zero-add}
 use native.Mathlib.Numerals.{add-one}
 use native.Mathlib.Omega.{arith}
-use lib.ListN.{length, getD, take, drop, set}
+use lib.ListN.{length, getD, take, drop}
 use lib.Seq.{sets, sets-eq, length-sets, length-take-le, take-at, drop-at}
-use Rattle.words.specs.Copied.{Copied}
-use Rattle.words.specs.Copied.Laws.{copied-more}
 use Rattle.stacks.specs.Stack.{Operation, rewrite, push1, push2, copy, pop1, pop2, collapse1, collapse2}
 use Rattle.walks.specs.Cell.{Cell, empty1, symbol, empty2, above, cellsAfter}
 use Rattle.files.specs.Bytes.{number, field, records}
@@ -22,12 +20,6 @@ use Rattle.cell_steps.specs.Steps.{putFrom, cellNumber, symbolOf}
 use Rattle.cell_steps.specs.Steps.Laws.{AllFit}
 use Rattle.acceptance.specs.Cells.Body.{cellRead, cellsIn}
 use Rattle.replay_cells.specs.CellBytes.{bytesOf, putBytes, cellSymbol}
-
--- ---- a copy from the first byte on
-
-pub copied-next : {t₀ t s : List ℕ} {i : ℕ} → Copied t₀ 0 s i t → i < length t₀ → i < length s → Copied t₀ 0 s (i + 1) (set t i (getD s i 0))
-copied-next {t₀} {t} {s} {i} h l k =
-    subst (λ (j : ℕ). Copied t₀ 0 s (i + 1) (set t j (getD s i 0))) (zero-add i) (copied-more h (subst (λ (j : ℕ). j < length t₀) (sym (zero-add i)) l) k)
 
 -- the cells of a start file, copied
 pub cellsIn-copied : (n : ℕ) (bytes body : List ℕ) → n * 6 ≤ length body → length body ≤ length bytes → cellsIn n (sets bytes 0 body) ≡ cellsIn n body

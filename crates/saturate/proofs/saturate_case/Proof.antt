@@ -2,8 +2,12 @@
 -- Assumes nothing.
 use mathlib.Core.Path.{refl, sym, _∙_}
 use native.Mathlib.Omega.{arith}
+use Prim.Native.Nat.{ℕ}
+use lib.ListN.{length-replicate}
 use borrow.Author.Tests.{not-true, not-false}
-use Rattle.saturate.specs.Case.Laws.{is-placed, long-enough, own-room, given, rules-stand, case-ends, case-over, filled-own, entries-number, moves-number}
+use Rattle.files.specs.Case.Laws.{case-in-place}
+use Rattle.saturate.specs.Case.Laws.{long-enough, own-room, given, rules-stand, case-ends, case-over, filled-own, entries-number, moves-number}
+use Rattle.case_file.specs.Forms.Laws.{holds-rules}
 use Rattle.tables.specs.Layouts.{entryRow, moveRow}
 use borrow.Author.Needs.{needs}
 use Rattle.saturate.proofs.saturate_case.Statement.{statement}
@@ -19,16 +23,22 @@ returns : tie.Need-returns
 returns c = case-over _ (c .before .before .before .before .before .before .before .before .before .pre .0) _ _ (sym (c .before .before .own-fits .ensures) ∙ not-true (c .before .before .own-fits .result) (c .before .if1 .taken)) _ _ _ _ _ _ _ (c .nothing .ensures .0) (omega (arith, (c .nothing .ensures .1)))
 
 load-case-requires : tie.Need-load-case-requires
-load-case-requires c κs = (is-placed _ (c .before .before .before .before .before .before .before .before .before .before .before .pre .0), own-room _ (c .before .before .before .before .before .before .before .before .before .before .before .pre .0) _ _ _ _ _ (c .before .before .before .before .before .before .before .before .before .before .before .pre .1 .inner-room) refl refl (sym (c .before .before .before .before .own-fits .ensures) ∙ not-false (c .before .before .before .before .own-fits .result) (c .before .before .before .if1 .left)))
+load-case-requires c κs = (case-in-place _ (c .before .before .before .before .before .before .before .before .before .before .before .pre .0), own-room _ (c .before .before .before .before .before .before .before .before .before .before .before .pre .0) _ _ _ _ _ (c .before .before .before .before .before .before .before .before .before .before .before .pre .1 .inner-room) refl refl (sym (c .before .before .before .before .own-fits .ensures) ∙ not-false (c .before .before .before .before .own-fits .result) (c .before .before .before .if1 .left)))
 
-rule-body-requires : tie.Need-rule-body-requires
-rule-body-requires c κs = is-placed _ (c .before .before .before .before .before .before .before .before .before .before .before .before .before .before .before .before .before .before .pre .0)
+slice-aggregate-put-rules : tie.Need-slice-aggregate-put-rules
+slice-aggregate-put-rules c = search needs
+
+put-rules-requires : tie.Need-put-rules-requires
+put-rules-requires c κs = (case-in-place _ (c .before .before .before .before .before .before .before .before .before .before .before .before .before .before .before .before .before .before .before .pre .0), omega (arith, length-replicate {A = ℕ} 1280 0))
 
 count-of-requires : tie.Need-count-of-requires
-count-of-requires c κs = omega (arith, long-enough _ (c .before .before .before .before .before .before .before .before .before .before .before .before .before .before .before .before .before .before .before .pre .0))
+count-of-requires c κs = omega (arith, long-enough _ (c .before .before .before .before .before .before .before .before .before .before .before .before .before .before .before .before .before .before .before .before .before .pre .0))
+
+slice-aggregate-saturate-tables : tie.Need-slice-aggregate-saturate-tables
+slice-aggregate-saturate-tables c = search needs
 
 saturate-tables-requires : tie.Need-saturate-tables-requires
-saturate-tables-requires c κs = (given _ (c .before .before .before .before .before .before .before .before .before .before .before .before .before .before .before .before .before .before .before .before .before .before .before .before .before .pre .0) _ _ (c .before .before .before .before .before .before .before .before .before .before .before .before .before .load-case .result) _ _ _ (c .before .before .before .before .before .before .before .before .before .before .before .before .before .load-case .ensures .0) (omega (arith, (c .before .before .before .before .before .before .before .before .before .before .before .before .before .before .before .before .before .before .before .before .before .before .before .before .before .pre .1 .inner-room), (c .before .before .before .before .before .before .before .before .before .before .before .before .before .load-case .kept .1 .0))) (c .before .before .before .before .before .before .before .before .before .before .before .before .before .load-case .kept .1 .1 .0) (c .before .before .before .before .before .before .before .before .before .before .before .before .before .load-case .kept .1 .1 .1 .0) (sym (c .before .before .before .before .before .before .before .before .before .before .before .before .before .before .before .before .before .before .own-fits .ensures) ∙ not-false (c .before .before .before .before .before .before .before .before .before .before .before .before .before .before .before .before .before .before .own-fits .result) (c .before .before .before .before .before .before .before .before .before .before .before .before .before .before .before .before .before .if1 .left)), rules-stand _ (c .before .before .before .before .before .before .before .before .before .before .before .before .before .before .before .before .before .before .before .before .before .before .before .before .before .pre .0) _ _ (c .before .before .before .before .before .before .rule-body .ensures) (c .before .before .before .before .before .count-of .ensures .0), (c .before .before .before .before .before .before .before .before .before .before .before .before .before .before .before .before .before .before .before .before .before .before .before .before .before .pre .1 .pending-room), (c .before .before .before .before .before .before .before .before .before .before .before .before .before .before .before .before .before .before .before .before .before .before .before .before .before .pre .1 .sizes-room))
+saturate-tables-requires c κs = (given _ (c .before .before .before .before .before .before .before .before .before .before .before .before .before .before .before .before .before .before .before .before .before .before .before .before .before .before .before .before .pre .0) _ _ (c .before .before .before .before .before .before .before .before .before .before .before .before .before .before .before .before .load-case .result) _ _ _ (c .before .before .before .before .before .before .before .before .before .before .before .before .before .before .before .before .load-case .ensures .0) (omega (arith, (c .before .before .before .before .before .before .before .before .before .before .before .before .before .before .before .before .before .before .before .before .before .before .before .before .before .before .before .before .pre .1 .inner-room), (c .before .before .before .before .before .before .before .before .before .before .before .before .before .before .before .before .load-case .kept .1 .0))) (c .before .before .before .before .before .before .before .before .before .before .before .before .before .before .before .before .load-case .kept .1 .1 .0) (c .before .before .before .before .before .before .before .before .before .before .before .before .before .before .before .before .load-case .kept .1 .1 .1 .0) (sym (c .before .before .before .before .before .before .before .before .before .before .before .before .before .before .before .before .before .before .before .before .before .own-fits .ensures) ∙ not-false (c .before .before .before .before .before .before .before .before .before .before .before .before .before .before .before .before .before .before .before .before .before .own-fits .result) (c .before .before .before .before .before .before .before .before .before .before .before .before .before .before .before .before .before .before .before .before .if1 .left)), rules-stand _ (c .before .before .before .before .before .before .before .before .before .before .before .before .before .before .before .before .before .before .before .before .before .before .before .before .before .before .before .before .pre .0) _ _ (holds-rules _ (case-in-place _ (c .before .before .before .before .before .before .before .before .before .before .before .before .before .before .before .before .before .before .before .before .before .before .before .before .before .before .before .before .pre .0)) (c .before .before .before .before .before .before .count-of .ensures .0) (c .before .before .before .before .before .before .before .before .put-rules .ensures)), (c .before .before .before .before .before .before .before .before .before .before .before .before .before .before .before .before .before .before .before .before .before .before .before .before .before .before .before .before .pre .1 .pending-room), (c .before .before .before .before .before .before .before .before .before .before .before .before .before .before .before .before .before .before .before .before .before .before .before .before .before .before .before .before .pre .1 .sizes-room))
 
 same-length : tie.Need-same-length
 same-length c = search needs
@@ -46,22 +56,7 @@ same-length-5 : tie.Need-same-length-5
 same-length-5 c = search needs
 
 returns-2 : tie.Need-returns-2
-returns-2 c = case-ends _ (c .before .before .before .before .before .before .before .before .before .before .before .before .before .before .before .before .before .before .before .before .before .before .before .before .before .before .before .before .before .before .before .before .before .before .pre .0) _ _ (c .before .before .before .before .before .before .before .before .before .before .before .before .before .before .before .before .before .before .before .before .before .before .load-case .result) _ _ _ (c .before .before .before .before .before .before .before .before .before .before .before .before .before .before .before .before .before .before .before .before .before .before .load-case .ensures .0) _ _ (c .before .before .before .before .before .before .before .before .before .before .before .before .before .before .before .rule-body .ensures) (c .before .before .before .before .before .before .before .before .before .before .before .before .before .before .count-of .ensures .0) (c .before .before .before .before .before .before .before .before .before .before .before .before .before .before .before .before .before .before .before .before .before .before .load-case .kept .1 .1 .0) (c .before .before .before .before .before .before .before .before .before .before .before .before .before .before .before .before .before .before .before .before .before .before .load-case .kept .1 .1 .1 .0) (filled-own entryRow _ _ _ _ (c .before .before .before .before .before .before .before .before .before .before .before .before .before .before .before .before .before .before .before .before .before .before .before .before .before .before .before .before .before .before .before .before .before .before .pre .1 .entries-zero) (c .before .before .before .before .before .before .before .before .before .before .before .before .before .before .before .before .before .before .before .before .before .before .load-case .ensures .1 .1 .0) (entries-number _ (c .before .before .before .before .before .before .before .before .before .before .before .before .before .before .before .before .before .before .before .before .before .before .before .before .before .before .before .before .before .before .before .before .before .before .pre .0) 0 0 (c .before .before .before .before .before .before .before .before .before .before .before .before .before .before .before .before .before .before .before .before .before .before .load-case .result) _ _ _ (c .before .before .before .before .before .before .before .before .before .before .before .before .before .before .before .before .before .before .before .before .before .before .load-case .ensures .0))) (filled-own moveRow _ _ _ _ (c .before .before .before .before .before .before .before .before .before .before .before .before .before .before .before .before .before .before .before .before .before .before .before .before .before .before .before .before .before .before .before .before .before .before .pre .1 .moves-zero) (c .before .before .before .before .before .before .before .before .before .before .before .before .before .before .before .before .before .before .before .before .before .before .load-case .ensures .1 .1 .1) (moves-number _ (c .before .before .before .before .before .before .before .before .before .before .before .before .before .before .before .before .before .before .before .before .before .before .before .before .before .before .before .before .before .before .before .before .before .before .pre .0) 0 0 (c .before .before .before .before .before .before .before .before .before .before .before .before .before .before .before .before .before .before .before .before .before .before .load-case .result) _ _ _ (c .before .before .before .before .before .before .before .before .before .before .before .before .before .before .before .before .before .before .before .before .before .before .load-case .ensures .0))) _ _ _ _ _ _ (c .before .before .before .before .before .before .before .before .saturate-tables .ensures)
+returns-2 c = case-ends _ (c .before .before .before .before .before .before .before .before .before .before .before .before .before .before .before .before .before .before .before .before .before .before .before .before .before .before .before .before .before .before .before .before .before .before .before .before .before .pre .0) _ _ (c .before .before .before .before .before .before .before .before .before .before .before .before .before .before .before .before .before .before .before .before .before .before .before .before .before .load-case .result) _ _ _ (c .before .before .before .before .before .before .before .before .before .before .before .before .before .before .before .before .before .before .before .before .before .before .before .before .before .load-case .ensures .0) _ _ (holds-rules _ (case-in-place _ (c .before .before .before .before .before .before .before .before .before .before .before .before .before .before .before .before .before .before .before .before .before .before .before .before .before .before .before .before .before .before .before .before .before .before .before .before .before .pre .0)) (c .before .before .before .before .before .before .before .before .before .before .before .before .before .before .before .count-of .ensures .0) (c .before .before .before .before .before .before .before .before .before .before .before .before .before .before .before .before .before .put-rules .ensures)) (c .before .before .before .before .before .before .before .before .before .before .before .before .before .before .before .before .before .before .before .before .before .before .before .before .before .load-case .kept .1 .1 .0) (c .before .before .before .before .before .before .before .before .before .before .before .before .before .before .before .before .before .before .before .before .before .before .before .before .before .load-case .kept .1 .1 .1 .0) (filled-own entryRow _ _ _ _ (c .before .before .before .before .before .before .before .before .before .before .before .before .before .before .before .before .before .before .before .before .before .before .before .before .before .before .before .before .before .before .before .before .before .before .before .before .before .pre .1 .entries-zero) (c .before .before .before .before .before .before .before .before .before .before .before .before .before .before .before .before .before .before .before .before .before .before .before .before .before .load-case .ensures .1 .1 .0) (entries-number _ (c .before .before .before .before .before .before .before .before .before .before .before .before .before .before .before .before .before .before .before .before .before .before .before .before .before .before .before .before .before .before .before .before .before .before .before .before .before .pre .0) 0 0 (c .before .before .before .before .before .before .before .before .before .before .before .before .before .before .before .before .before .before .before .before .before .before .before .before .before .load-case .result) _ _ _ (c .before .before .before .before .before .before .before .before .before .before .before .before .before .before .before .before .before .before .before .before .before .before .before .before .before .load-case .ensures .0))) (filled-own moveRow _ _ _ _ (c .before .before .before .before .before .before .before .before .before .before .before .before .before .before .before .before .before .before .before .before .before .before .before .before .before .before .before .before .before .before .before .before .before .before .before .before .before .pre .1 .moves-zero) (c .before .before .before .before .before .before .before .before .before .before .before .before .before .before .before .before .before .before .before .before .before .before .before .before .before .load-case .ensures .1 .1 .1) (moves-number _ (c .before .before .before .before .before .before .before .before .before .before .before .before .before .before .before .before .before .before .before .before .before .before .before .before .before .before .before .before .before .before .before .before .before .before .before .before .before .pre .0) 0 0 (c .before .before .before .before .before .before .before .before .before .before .before .before .before .before .before .before .before .before .before .before .before .before .before .before .before .load-case .result) _ _ _ (c .before .before .before .before .before .before .before .before .before .before .before .before .before .before .before .before .before .before .before .before .before .before .before .before .before .load-case .ensures .0))) _ _ _ _ _ _ (c .before .before .before .before .before .before .before .before .saturate-tables .ensures)
 
 pub saturate-case-spec : {M : Type 1} → statement M
-saturate-case-spec =
-    tie.close
-    (tie.spec
-    own-fits-requires
-    nothing-requires
-    returns
-    load-case-requires
-    rule-body-requires
-    count-of-requires
-    saturate-tables-requires
-    same-length
-    same-length-2
-    same-length-3
-    same-length-4
-    same-length-5
-    returns-2)
+saturate-case-spec = tie.close (tie.spec own-fits-requires nothing-requires returns load-case-requires slice-aggregate-put-rules put-rules-requires count-of-requires slice-aggregate-saturate-tables saturate-tables-requires same-length same-length-2 same-length-3 same-length-4 same-length-5 returns-2)

@@ -19,13 +19,13 @@ use Rattle.stacks.specs.System.{Rule}
 use Rattle.automata.specs.Automaton.{Automaton, Edge, noEdge, choiceKey}
 use Rattle.automata.specs.Saturation.{within, saturate}
 use Rattle.rounds.specs.Limits.{KeepsLimits, within-keeps, keeps-within, saturateFrom-exceeds}
-use Rattle.files.specs.Bytes.{placed, countOf, offsetOf, recordsOf}
-use Rattle.files.specs.Bytes.Laws.{numbered, unrefused, records-at, length-recordsOf}
-use Rattle.files.specs.Case.{caseBodies, caseTests, caseRefusal, Head, head, entriesOf, ownOf, rulesOf, ruleOf, ruleBytes, ruleRecords, EdgeBytes, innerEdges, edgeRecords, moveOf, moveRecords}
-use Rattle.files.specs.Case.Laws.{CasePlaces, case-placed, case-head, case-rules, case-inner, case-moves-few, case-states-few, case-edges-few, case-table}
+use Rattle.files.specs.Bytes.{countOf, records, recordsOf}
+use Rattle.files.specs.Bytes.Laws.{records-at, length-records, length-recordsOf}
+use Rattle.files.specs.Case.{caseRefusal, Head, head, entriesOf, ownOf, rulesOf, RuleBytes, ruleOf, ruleBytes, EdgeBytes, innerEdges, edgeRecords, moveOf, moveRecords}
+use Rattle.files.specs.Case.Laws.{case-placed, case-head, case-rules, case-inner, case-moves-few, case-states-few, case-edges-few, case-table}
 use Rattle.automata.specs.Facts.Laws.{moveAt-facts}
-use Rattle.bytes_in.specs.Records.{recordAt, bodyOf}
-use Rattle.bytes_in.specs.Records.Laws.{body-fits, records-here}
+use Rattle.bytes_in.specs.Records.{recordAt}
+use Rattle.case_file.specs.Forms.{HoldsRules}
 use Rattle.services.specs.Memory.{lent}
 use Rattle.tables.specs.declared.Table.{Table}
 use Rattle.tables.specs.Rows.{Layout, rowAt, rowsIn, putRow}
@@ -86,12 +86,8 @@ filled-own L t₀ t l n z e q =
     (filled-written L t₀ 0 l (subst (Filled L 0) (sym z) (filled-zeros L (length t₀)))))
 
 module _ (file : List ℕ) (sound : caseRefusal file ≡ 0) where
-  pub is-placed : placed caseBodies file ≡ true
-  unfolding caseRefusal caseTests numbered every
-  is-placed = not-false (placed caseBodies file) (unrefused file refl sound (List·Memᴰ·head refl))
-
   pub long-enough : 33 ≤ length file
-  long-enough = let p : CasePlaces file = case-placed file sound in let w = p .whole in omega arith
+  long-enough = case-placed file sound .long-enough
 
   -- there are no more inner edges than edges
   pub inner-few : length (ownOf file .inner) ≤ 64
@@ -108,20 +104,25 @@ module _ (file : List ℕ) (sound : caseRefusal file ≡ 0) where
 
   -- ---- rules
 
-  module _ (body : List ℕ) (count : ℕ) (eb : body ≡ bodyOf file 1 5) (ec : count ≡ countOf file 1) where
+  module _ (body : List ℕ) (count : ℕ) (h : HoldsRules file body count) where
     noRule : Rule
     noRule = ruleOf (ruleBytes [])
 
     rule-at : (i : ℕ) → i < count → ruleIn body i ≡ getD (rulesOf file) i noRule
-    unfolding ruleIn rulesOf ruleRecords recordAt noRule
-    rule-at i h =
-        ap (λ (x : List ℕ). ruleOf (ruleBytes x)) (sym (records-at count 5 body i h) ∙ ap (λ (l : List (List ℕ)). getD l i []) (records-here file 1 5 body count eb ec))
-        ∙ sym (List·getD-map ruleOf (map ruleBytes (recordsOf file 1 5)) i (ruleBytes [])
-        ∙ ap ruleOf (List·getD-map ruleBytes (recordsOf file 1 5) i []))
+    unfolding ruleIn rulesOf recordAt noRule
+    rule-at i l =
+        ap (λ (x : List ℕ). ruleOf (ruleBytes x)) (sym (records-at count 5 body i l))
+        ∙ sym (List·getD-map ruleOf (map ruleBytes (records count 5 body)) i (ruleBytes [])
+        ∙ ap ruleOf (List·getD-map ruleBytes (records count 5 body) i []))
+        ∙ ap (λ (xs : List RuleBytes). getD (map ruleOf xs) i (ruleOf (ruleBytes []))) (h .rules-are)
 
     rules-number : length (rulesOf file) ≡ count
-    unfolding rulesOf ruleRecords
-    rules-number = length-map (map ruleBytes (recordsOf file 1 5)) ruleOf ∙ length-map (recordsOf file 1 5) ruleBytes ∙ length-recordsOf file 1 5 ∙ sym ec
+    unfolding rulesOf
+    rules-number =
+        ap (λ (xs : List RuleBytes). length (map ruleOf xs)) (sym (h .rules-are))
+        ∙ length-map (map ruleBytes (records count 5 body)) ruleOf
+        ∙ length-map (records count 5 body) ruleBytes
+        ∙ length-records count 5 body
 
     pub rules-are : rulesIn count body ≡ rulesOf file
     unfolding rulesIn
@@ -129,16 +130,13 @@ module _ (file : List ℕ) (sound : caseRefusal file ≡ 0) where
 
     pub rules-stand : RulesStand count body
     rules-stand =
-        let p : CasePlaces file = case-placed file sound in
-        let o : offsetOf file 1 ≡ 47 = p .rules-offset in
-        let w : length file ≡ 47 + countOf file 1 * 5 + countOf file 2 * 4 + countOf file 3 * 19 = p .whole in
         record {
-          rules-lent = body-fits file 1 5 body count (omega arith) eb ec;
-          nexts-small = λ i h.
+          rules-lent = h .rules-fit;
+          nexts-small = λ i l.
               let n : length (rulesOf file) ≡ count = rules-number in
               let f : getD (rulesOf file) i noRule .next < head file .P = case-rules file sound (getD-in (rulesOf file) i noRule (omega arith)) .next-exists in
               let b : head file .P ≤ 8 = case-head file sound .controls-few in
-              let q : ruleIn body i .next ≡ getD (rulesOf file) i noRule .next = ap (λ (ρ : Rule). ρ .next) (rule-at i h) in
+              let q : ruleIn body i .next ≡ getD (rulesOf file) i noRule .next = ap (λ (ρ : Rule). ρ .next) (rule-at i l) in
               omega arith;
         }
 
@@ -243,13 +241,13 @@ module _ (file : List ℕ) (sound : caseRefusal file ≡ 0) where
       -- ---- the end
 
       -- the rounds' end is the case's, where the tables were all zero before
-      pub case-ends : (body : List ℕ) (count : ℕ) → body ≡ bodyOf file 1 5 → count ≡ countOf file 1 → length entries ≡ e → length moves ≡ m
+      pub case-ends : (body : List ℕ) (count : ℕ) → HoldsRules file body count → length entries ≡ e → length moves ≡ m
           → Filled entryRow (z .entries) entries → Filled moveRow (z .moves) moves
           → (fits : Bool) (z′ : Table) (k : ℕ) (entries′ moves′ sizes : List ℕ) → Ends (rulesIn count body) inner z entries moves fits z′ k entries′ moves′ sizes
           → CaseSaturated file m e fits z′ k inner entries′ moves′ sizes
-      case-ends body count eb ec le lm fe fm fits z′ k entries′ moves′ sizes h =
+      case-ends body count r le lm fe fm fits z′ k entries′ moves′ sizes h =
           let same : saturate (rulesIn count body) (lent (length moves) (length entries)) (automatonOf z inner entries moves) ≡ saturate (rulesOf file) (lent m e) (ownOf file) =
-          ap₂ (λ (rules : List Rule) (A : Automaton). saturate rules (lent (length moves) (length entries)) A) (rules-are body count eb ec) own
+          ap₂ (λ (rules : List Rule) (A : Automaton). saturate rules (lent (length moves) (length entries)) A) (rules-are body count r) own
           ∙ ap₂ (λ (x y : ℕ). saturate (rulesOf file) (lent x y) (ownOf file)) lm le in
           record {
             saturated = sym same ∙ h .saturated;

@@ -1,7 +1,7 @@
 -- `sound_files::files_refusal` meets its contract.
 -- Assumes nothing.
 use mathlib.Core.Path.{sym, _∙_}
-use Rattle.saturate.specs.Case.Laws.{is-placed}
+use Rattle.files.specs.Case.Laws.{case-in-place}
 use Rattle.sound_files.specs.Refusal.Laws.{by-case, by-start}
 use borrow.Author.Needs.{needs}
 use Rattle.sound_files.proofs.files_refusal.Statement.{statement}
@@ -14,7 +14,7 @@ returns : tie.Need-returns
 returns c = by-case _ _ (c .before .check-case .ensures) (c .if1 .taken)
 
 head-of-requires : tie.Need-head-of-requires
-head-of-requires c κs = is-placed _ (sym (c .before .check-case .ensures) ∙ c .if1 .left)
+head-of-requires c κs = case-in-place _ (sym (c .before .check-case .ensures) ∙ c .if1 .left)
 
 check-start-requires : tie.Need-check-start-requires
 check-start-requires c κs = search needs

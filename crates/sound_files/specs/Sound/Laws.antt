@@ -10,11 +10,11 @@ use borrow.Author.Tests.{not-false}
 use Rattle.words.specs.Lists.{every}
 use Rattle.words.specs.Lists.Laws.{getD-in}
 use Rattle.walks.specs.Cell.Values.{getD-map-below}
-use Rattle.files.specs.Bytes.{placed, countOf, recordsOf, records}
+use Rattle.files.specs.Bytes.{countOf, recordsOf, records}
 use Rattle.files.specs.Bytes.Laws.{numbered, unrefused, length-records, length-recordsOf, records-at}
 use Rattle.files.specs.Case.{head}
 use Rattle.files.specs.Case.Laws.{case-head}
-use Rattle.files.specs.Start.{Files, Start, startBodies, startTests, startRefusal, startOf, startsOf, cellBytes, cellOf, cellRecords, cellsOf}
+use Rattle.files.specs.Start.{Files, Start, startPlaced, startTests, startRefusal, startOf, startsOf, cellBytes, cellOf, cellRecords, cellsOf}
 use Rattle.files.specs.Start.Laws.{start-places, start-facts, start-cells}
 use Rattle.bytes_in.specs.Records.{recordAt, bodyOf}
 use Rattle.bytes_in.specs.Records.Laws.{body-records, body-fits}
@@ -32,7 +32,7 @@ start-sound {case} {start} h =
     let sound : startRefusal f ≡ 0 = h .sound-start in
     let P : head case .P ≤ 8 = case-head case (h .sound-case) .controls-few in
     record {
-      in-place = not-false (placed startBodies start) (unrefused f refl sound (List·Memᴰ·head refl));
+      in-place = not-false (startPlaced start) (unrefused f refl sound (List·Memᴰ·head refl));
       formed = start-cells f sound;
       facts = λ j.
           let x = start-facts f sound j in
@@ -55,7 +55,7 @@ pub cells-count : (file : List ℕ) → length (cellsOf file) ≡ countOf file 1
 unfolding cellsOf cellRecords
 cells-count file = length-map (cellRecords file) cellOf ∙ length-map (recordsOf file 1 6) cellBytes ∙ length-recordsOf file 1 6
 
-module _ (file : List ℕ) (in-place : placed startBodies file ≡ true) where
+module _ (file : List ℕ) (in-place : startPlaced file ≡ true) where
   pub start-long : 17 ≤ length file
   start-long = let w = start-places file in-place .whole in omega arith
 

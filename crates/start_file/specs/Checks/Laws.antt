@@ -7,9 +7,9 @@ use mathlib.Core.List.{List, _∷_, map}
 use native.Mathlib.Numerals.{add-one}
 use Rattle.words.specs.Lists.{every}
 use Rattle.words.specs.Laws.Tests.{by-test}
-use Rattle.files.specs.Bytes.{placed, firstHit, records}
+use Rattle.files.specs.Bytes.{firstHit, records}
 use Rattle.files.specs.Case.{Head, head}
-use Rattle.files.specs.Start.{startBodies, CellBytes, cellBytes, startsOf, cellRecords, startRight, cellRight, cellsRight, startFileRight, startTests, startRefusal}
+use Rattle.files.specs.Start.{startPlaced, CellBytes, cellBytes, startsOf, cellRecords, startRight, cellRight, cellsRight, startFileRight, startTests, startRefusal}
 use Rattle.bytes_in.specs.Records.{recordAt}
 use Rattle.bytes_in.specs.Records.Laws.{from-first, from-last, from-cons}
 use Rattle.start_file.specs.Checks.{filesOf, CellsFrom, refusalBy, refusalFor}
@@ -42,11 +42,11 @@ cells-last A b n i p e = sym (p ∙ rw (e, from-last))
 
 -- test by test, as the code comes to it
 module _ (P A : ℕ) (start : List ℕ) where
-  pub by-place : placed startBodies start ≡ false → 5 ≡ refusalFor P A start
+  pub by-place : startPlaced start ≡ false → 5 ≡ refusalFor P A start
   unfolding refusalFor refusalBy
   by-place p = rw (refusalFor, p)
 
-  module _ (in-place : placed startBodies start ≡ true) where
+  module _ (in-place : startPlaced start ≡ true) where
     pub by-starts : every (startRight P (cellRecords start)) (startsOf start) ≡ false → 6 ≡ refusalFor P A start
     unfolding refusalFor refusalBy
     by-starts s = rw (refusalFor, in-place, s)
@@ -65,7 +65,7 @@ pub refusal-is : (case start : List ℕ) {h : Head} → h ≡ head case → refu
 unfolding startRefusal startTests firstHit startFileRight refusalFor refusalBy
 refusal-is case start {h} e =
     ap (λ (x : Head). refusalFor (x .P) (x .A) start) e
-    ∙ go (placed startBodies start) (every (startRight (head case .P) (cellRecords start)) (startsOf start))
+    ∙ go (startPlaced start) (every (startRight (head case .P) (cellRecords start)) (startsOf start))
     (cellsRight (head case .A) (cellRecords start) 0 (cellRecords start))
   where
     go : (p s c : Bool) → refusalBy p s c ≡ elim (not p) [ true ↦ 5 | false ↦ elim (not (s && c)) [ true ↦ 6 | false ↦ 0 ] ]

@@ -1,8 +1,9 @@
 -- A copy word by word, from none to all.
 -- Assumes nothing.
 use Prim.Native.Nat.{ℕ, _+_, _≤_, _<_}
-use mathlib.Core.Path.{_≡_, refl, ap, sym, _∙_}
+use mathlib.Core.Path.{_≡_, refl, ap, sym, _∙_, subst}
 use mathlib.Core.List.{List, _++_}
+use native.Mathlib.Nat.{zero-add}
 use native.Mathlib.Numerals.{add-one}
 use native.Mathlib.Omega.{arith}
 use lib.ListN.{length, getD, take, drop, set, length-set}
@@ -20,6 +21,11 @@ copied-more {t₀} {t} {s} {at} {i} h l l′ =
       is = ap (λ (r : List ℕ). set r (at + i) (getD s i 0)) (h .is) ∙ paste-suc t₀ at s i 0 l l′ ∙ ap (paste t₀ at s) (sym (add-one i));
       long = length-set t (at + i) (getD s i 0) ∙ h .long;
     }
+
+-- where the copy begins with the first word
+pub copied-next : {t₀ t s : List ℕ} {i : ℕ} → Copied t₀ 0 s i t → i < length t₀ → i < length s → Copied t₀ 0 s (i + 1) (set t i (getD s i 0))
+copied-next {t₀} {t} {s} {i} h l k =
+    subst (λ (j : ℕ). Copied t₀ 0 s (i + 1) (set t j (getD s i 0))) (zero-add i) (copied-more h (subst (λ (j : ℕ). j < length t₀) (sym (zero-add i)) l) k)
 
 pub copied-all : {t₀ t s : List ℕ} {at i : ℕ} → Copied t₀ at s i t → length s ≤ i → t ≡ paste t₀ at s (length s)
 copied-all {t₀} {t} {s} {at} {i} h l =

@@ -1,0 +1,69 @@
+-- Tools' own codes: "A case with such a body has the marks, trace and refusals from 3 on of the case rewritten to our codes; a code not in the
+-- record is refusal 3." The proofs are in Rewritten/Proof.antt.
+-- Assumes nothing.
+pub mod Proof
+use Prim.Native.Nat.{ℕ}
+use mathlib.Core.Bool.{true}
+use mathlib.Core.Path.{_≡_}
+use mathlib.Core.List.{List, map, List·Memᴰ}
+use lib.ListN.{getD}
+use Rattle.files.specs.Bytes.{recordsOf}
+use Rattle.files.specs.Codes.{inOurCodes}
+use Rattle.files.specs.Case.{casePlaced, head, headRight, codesOf, caseRefusal}
+use Rattle.files.specs.Rewriting.{rewriting, Readable}
+use Rattle.services.specs.Saturate.{saturateService}
+use Rattle.services.specs.Judge.{judgeService}
+use Rattle.services.specs.Guide.{guideService}
+use Rattle.services.specs.Replay.{replayService}
+use Rattle.services.specs.Listing.{listingText}
+use Rattle.services.specs.Run.{runText}
+use Rattle.demands.specs.Refusals.{CodesWrong}
+
+-- ---- the case rewritten
+
+-- "The case rewritten to our codes": of first byte 4, with its bodies in place, the same records in bodies 1, 3 and 4, and in body 2 each rule
+-- with our code.
+pub record IsRewriting (case other : List ℕ) : Type 0 where
+  pub first-byte : getD other 0 0 ≡ 4
+  pub in-place : casePlaced other ≡ true
+  pub heads : recordsOf other 0 14 ≡ recordsOf case 0 14
+  pub rules : recordsOf other 1 5 ≡ map (inOurCodes (codesOf case)) (recordsOf case 1 5)
+  pub edges : recordsOf other 2 4 ≡ recordsOf case 2 4
+  pub moves : recordsOf other 3 19 ≡ recordsOf case 3 19
+
+abbrev pub RewritingIs : Type 0
+RewritingIs = (case : List ℕ) → casePlaced case ≡ true → IsRewriting case (rewriting case)
+
+-- ---- its answers
+
+-- Every service answers the one case as the other, with the same reply and the same words in all that is lent, for every start file, number,
+-- trace and length of what is lent; and both programs print the same.
+pub record AnswersAs (case other : List ℕ) : Type 0 where
+  pub saturates : (moves entries : ℕ)
+      → saturateService (record { case = case; moves = moves; entries = entries }) ≡ saturateService (record { case = other; moves = moves; entries = entries })
+  pub judges : (start : List ℕ) (moves entries answers : ℕ)
+      → judgeService (record { case = case; start = start; moves = moves; entries = entries; answers = answers })
+      ≡ judgeService (record { case = other; start = start; moves = moves; entries = entries; answers = answers })
+  pub guides : (start : List ℕ) (number moves entries cells trace : ℕ)
+      → guideService (record { case = case; start = start; number = number; moves = moves; entries = entries; cells = cells; trace = trace })
+      ≡ guideService (record { case = other; start = start; number = number; moves = moves; entries = entries; cells = cells; trace = trace })
+  pub replays : (start : List ℕ) (number : ℕ) (trace : List ℕ) (cells : ℕ)
+      → replayService (record { case = case; start = start; number = number; trace = trace; cells = cells })
+      ≡ replayService (record { case = other; start = start; number = number; trace = trace; cells = cells })
+  pub lists : (start : List ℕ) → listingText (record { case = case; start = start }) ≡ listingText (record { case = other; start = start })
+  pub runs : (start : List ℕ) (number : ℕ) → runText (record { case = case; start = start }) number ≡ runText (record { case = other; start = start }) number
+
+-- A case that is refused with none of 1, 2 and 12 is answered as its rewriting.
+abbrev pub Rewritten : Type 0
+Rewritten = (case : List ℕ) → Readable case → AnswersAs case (rewriting case)
+
+-- ---- refusals 3 and 12
+
+-- "A code not in the record is refusal 3", also one of our own: x is a rule's record, and its third byte is its code.
+abbrev pub UnlistedCode : Type 0
+UnlistedCode = (case : List ℕ) → Readable case → (x : List ℕ) → List·Memᴰ x (recordsOf case 1 5) → (List·Memᴰ (getD x 2 0) (codesOf case) → ⊥)
+    → caseRefusal case ≡ 3
+
+-- 12 "after 2", whatever else is wrong
+abbrev pub CodesRefused : Type 0
+CodesRefused = (case : List ℕ) → casePlaced case ≡ true → headRight (head case) ≡ true → CodesWrong case → caseRefusal case ≡ 12

@@ -1,0 +1,3 @@
+-- Laws about every service.
+-- Assumes nothing.
+pub mod SameCase

@@ -1,0 +1,212 @@
+-- Two case files with the same refusal that decode to the same case are answered alike by every service, and print the same texts.
+-- Assumes nothing.
+use Prim.Native.Nat.{ℕ, zero, suc, _-_, _*_}
+use mathlib.Core.Bool.{true, false, not}
+use mathlib.Core.Path.{_≡_, refl, ap, ap₂, sym, _∙_}
+use mathlib.Core.Option.{none, some}
+use mathlib.Core.List.{List, [], _∷_, _++_, map}
+use lib.ListN.{length, getD}
+use lib.Dec.{eqb, leb}
+use borrow.Author.Tests.{eqb-true, eqb-false}
+use Rattle.words.specs.Lists.{zeros}
+use Rattle.words.specs.Laws.Tests.{by-test}
+use Rattle.stacks.specs.System.{Rule}
+use Rattle.automata.specs.Automaton.{Automaton}
+use Rattle.automata.specs.Saturation.{Saturated, saturate, roundsAdded}
+use Rattle.automata.specs.Won.{won2}
+use Rattle.replies.specs.Numbers.{answerWord}
+use Rattle.replies.specs.declared.Halt.the-variants.{CellsShort}
+use Rattle.replies.specs.declared.Replayed.the-variants.{Refused}
+use Rattle.walks.specs.Guide.{walkedBy, noRun, startWalk, guided}
+use Rattle.files.specs.Bytes.{Test, firstHit, testsOn}
+use Rattle.files.specs.Case.{caseTests, caseRefusal}
+use Rattle.files.specs.Start.{Files, startTests, startFileRight, startsOf, cellsOf, configurationOf, startAt}
+use Rattle.files.specs.Rewriting.{SameCase}
+use Rattle.services.specs.Memory.{lent}
+use Rattle.services.specs.Saturate.{Lent, saturated, tooLarge, sizeTests, saturateRefusal}
+use Rattle.services.specs.Saturate.{SaturateDone, saturateRefused, saturateFilled, saturateAnswer, saturateService}
+use Rattle.services.specs.Saturate.Laws.{case-first, case-passed}
+use Rattle.services.specs.Judge.{JudgeInput, judgeLent, judgeFiles, answerTests, judgeRefusal, won, mark}
+use Rattle.services.specs.Judge.{JudgeDone, judgeLeft, judgeAnswer, judgeService}
+use Rattle.services.specs.Guide.{GuideInput, guideLent, guideFiles, numberTests, guideRefusal, cellWords, cellsLent, startNamed, guideWalk, accepted, guideRun}
+use Rattle.services.specs.Guide.{GuideDone, guideLeft, refused, guideAnswer, guideService}
+use Rattle.services.specs.Replay.{ReplayInput, replayFiles, replayCells, traceTests, cellTests, replayRefusal, replayRun, replayReply, replayService}
+use Rattle.services.specs.Listing.{listingJudge, listingGuide, sizeLine, replyLine, roundWon, startLine, startLines, refusedText, judgedText, listingText}
+use Rattle.services.specs.Run.{runGuide, answerText, runText}
+
+-- ---- tests
+
+-- each of these tests says the same of x and of y
+unfoldable Alike : {X : Type 0} → List (Test X) → X → X → Type 0
+Alike [] x y = Unit {0}
+Alike (t ∷ ts) x y = (t .fails x ≡ t .fails y) × Alike ts x y
+
+module _ {X : Type 0} where
+  alike-hit : (ts : List (Test X)) (x y : X) → Alike ts x y → firstHit ts x ≡ firstHit ts y
+  unfolding firstHit Alike
+  alike-hit [] x y a = refl
+  alike-hit (t ∷ ts) x y (e, a) = λ i. elim (e i) [ true ↦ t .refusal | false ↦ alike-hit ts x y a i ]
+
+  -- the case's tests, then more: the refusal is the same where the case's is, and where each later test says the same
+  refused-alike : (case : X → List ℕ) (more : List (Test X)) (x y : X) → caseRefusal (case x) ≡ caseRefusal (case y) → Alike more x y
+      → firstHit (testsOn case caseTests ++ more) x ≡ firstHit (testsOn case caseTests ++ more) y
+  refused-alike case more x y e a =
+      by-test (eqb (caseRefusal (case x)) 0)
+      (λ t.
+      let sound = eqb-true _ 0 t in
+      case-passed case more x sound ∙ alike-hit more x y a ∙ sym (case-passed case more y (sym e ∙ sound)))
+      (λ t.
+      let bad = eqb-false _ 0 t in
+      case-first case more x bad ∙ e ∙ sym (case-first case more y (λ z. bad (e ∙ z))))
+
+module _ {one other : List ℕ} (s : SameCase one other) where
+  -- ---- what the tests look at
+
+  module _ (moves entries : ℕ) where
+    abbrev lend : List ℕ → Lent
+    lend case = record { case = case; moves = moves; entries = entries }
+
+    saturated-alike : saturated (lend one) ≡ saturated (lend other)
+    unfolding saturated
+    saturated-alike = ap₂ (λ (rules : List Rule) (own : Automaton). saturate rules (lent moves entries) own) (s .same-rules) (s .same-own)
+
+    large-alike : tooLarge (lend one) ≡ tooLarge (lend other)
+    unfolding tooLarge
+    large-alike = λ i. elim (saturated-alike i) [ none ↦ true | some T ↦ false ]
+
+    -- ---- saturate
+
+    saturate-refused-alike : saturateRefusal (lend one) ≡ saturateRefusal (lend other)
+    unfolding saturateRefusal sizeTests Alike
+    saturate-refused-alike = refused-alike (λ x. x .case) sizeTests (lend one) (lend other) (s .same-refusal) (large-alike, tt)
+
+    pub saturate-alike : saturateService (lend one) ≡ saturateService (lend other)
+    unfolding saturateService saturateAnswer saturateRefused saturateFilled
+    saturate-alike = λ i. elim (eqb (saturate-refused-alike i) 0) [
+      | true ↦ elim (saturated-alike i) [ none ↦ saturateRefused (lend one) 9 | some T ↦ saturateFilled (lend one) T ]
+      | false ↦ saturateRefused (lend one) (saturate-refused-alike i)
+    ]
+
+  start-alike : (start : List ℕ) → startFileRight (record { case = one; start = start }) ≡ startFileRight (record { case = other; start = start })
+  unfolding startFileRight
+  start-alike start = rw (s .same-head)
+
+  -- ---- judge
+
+  mark-alike : (T : Saturated) (start : List ℕ) → mark one T start ≡ mark other T start
+  unfolding mark won
+  mark-alike T start = λ i x. answerWord (won2 (s .same-rules i) (s .same-own i) (roundsAdded T) (configurationOf start x .stack) (x .control))
+
+  module _ (start : List ℕ) (moves entries answers : ℕ) where
+    abbrev judging : List ℕ → JudgeInput
+    judging case = record { case = case; start = start; moves = moves; entries = entries; answers = answers }
+
+    judge-refused-alike : judgeRefusal (judging one) ≡ judgeRefusal (judging other)
+    unfolding judgeRefusal judgeFiles judgeLent startTests answerTests sizeTests testsOn Alike
+    judge-refused-alike =
+        refused-alike (λ x. x .case) _ (judging one) (judging other) (s .same-refusal)
+        (refl, (ap not (start-alike start), (refl, (large-alike moves entries, tt))))
+
+    pub judge-alike : judgeService (judging one) ≡ judgeService (judging other)
+    unfolding judgeService judgeAnswer judgeLent judgeLeft
+    judge-alike = λ i. elim (eqb (judge-refused-alike i) 0) [
+      | true ↦ elim (saturated-alike moves entries i) [
+        | none ↦ judgeLeft (judging one) 9 []
+        | some T ↦ judgeLeft (judging one) 0 (map (mark-alike T start i) (startsOf start))
+      ]
+      | false ↦ judgeLeft (judging one) (judge-refused-alike i) []
+    ]
+
+  -- ---- guide
+
+  module _ (start : List ℕ) (number moves entries cells trace : ℕ) where
+    abbrev guiding : List ℕ → GuideInput
+    guiding case = record { case = case; start = start; number = number; moves = moves; entries = entries; cells = cells; trace = trace }
+
+    guide-refused-alike : guideRefusal (guiding one) ≡ guideRefusal (guiding other)
+    unfolding guideRefusal guideFiles guideLent startTests numberTests sizeTests testsOn Alike
+    guide-refused-alike =
+        refused-alike (λ x. x .case) _ (guiding one) (guiding other) (s .same-refusal)
+        (refl, (ap not (start-alike start), (refl, (large-alike moves entries, tt))))
+
+    run-alike : (T : Saturated) → guideRun (guiding one) T ≡ guideRun (guiding other) T
+    unfolding guideRun guideWalk startNamed cellsLent
+    run-alike T = λ i. elim (accepted (T .table) start (startAt start number)) [
+      | true ↦ elim (leb (length (cellsOf start)) (cellsLent (guiding one))) [
+        | true ↦ guided (s .same-rules i) T (cellsLent (guiding one)) trace []
+            (startWalk (T .table) (cellsOf start) (startAt start number .control) (startAt start number .root))
+        | false ↦ walkedBy (CellsShort (record { steps = 0; cells = 0 })) []
+      ]
+      | false ↦ noRun
+    ]
+
+    pub guide-alike : guideService (guiding one) ≡ guideService (guiding other)
+    unfolding guideService guideAnswer guideLent guideLeft
+    guide-alike = λ i. elim (eqb (guide-refused-alike i) 0) [
+      | true ↦ elim (saturated-alike moves entries i) [
+        | none ↦ guideLeft (guiding one) (refused 9)
+        | some T ↦ guideLeft (guiding one) (run-alike T i)
+      ]
+      | false ↦ guideLeft (guiding one) (refused (guide-refused-alike i))
+    ]
+
+  -- ---- replay
+
+  module _ (start : List ℕ) (number : ℕ) (trace : List ℕ) (cells : ℕ) where
+    abbrev replaying : List ℕ → ReplayInput
+    replaying case = record { case = case; start = start; number = number; trace = trace; cells = cells }
+
+    replay-refused-alike : replayRefusal (replaying one) ≡ replayRefusal (replaying other)
+    unfolding replayRefusal replayFiles replayCells startTests numberTests traceTests cellTests testsOn Alike
+    replay-refused-alike =
+        refused-alike (λ x. x .case) _ (replaying one) (replaying other) (s .same-refusal)
+        (refl, (ap not (start-alike start), (refl, (refl, (refl, tt)))))
+
+    replay-run-alike : replayRun (replaying one) ≡ replayRun (replaying other)
+    unfolding replayRun replayCells
+    replay-run-alike = rw (s .same-rules, s .same-own)
+
+    pub replay-alike : replayService (replaying one) ≡ replayService (replaying other)
+    unfolding replayService replayReply
+    replay-alike = λ i.
+        record {
+          reply = elim (eqb (replay-refused-alike i) 0) [ true ↦ replay-run-alike i | false ↦ Refused (replay-refused-alike i) ];
+          cells = zeros cells;
+        }
+
+  -- ---- the texts
+
+  module _ (start : List ℕ) where
+    abbrev files : List ℕ → Files
+    files case = record { case = case; start = start }
+
+    round-alike : (n : ℕ) → roundWon (files one) n ≡ roundWon (files other) n
+    unfolding roundWon listingJudge
+    round-alike n = ap (λ (d : JudgeDone). getD (d .answers) n 0 - 1) (judge-alike start (1024 * 5) (64 * 2) 64)
+
+    line-alike : (n : ℕ) → startLine (files one) n ≡ startLine (files other) n
+    unfolding startLine listingGuide
+    line-alike n =
+        ap₂ (λ (r : ℕ) (d : GuideDone). replyLine n r (d .reply)) (round-alike n) (guide-alike start n (1024 * 5) (64 * 2) (512 * cellWords) 1024)
+
+    lines-alike : (n k : ℕ) → startLines (files one) n k ≡ startLines (files other) n k
+    unfolding startLines
+    lines-alike n zero = refl
+    lines-alike n (suc k) = ap₂ _++_ (line-alike n) (lines-alike (suc n) k)
+
+    judged-alike : judgedText (files one) ≡ judgedText (files other)
+    unfolding judgedText
+    judged-alike =
+        ap₂ (λ (d : SaturateDone) (lines : List ℕ). sizeLine (d .reply) ++ lines) (saturate-alike (1024 * 5) (64 * 2)) (lines-alike 0 (length (startsOf start)))
+
+    pub listing-alike : listingText (files one) ≡ listingText (files other)
+    unfolding listingText listingJudge
+    listing-alike =
+        ap₂ (λ (d : JudgeDone) (text : List ℕ). elim (eqb (d .code) 0) [ true ↦ text | false ↦ refusedText (d .code) ])
+        (judge-alike start (1024 * 5) (64 * 2) 64) judged-alike
+
+    pub run-text-alike : (n : ℕ) → runText (files one) n ≡ runText (files other) n
+    unfolding runText runGuide
+    run-text-alike n =
+        ap₂ (λ (r : ℕ) (d : GuideDone). answerText n r (d .reply) (d .trace)) (round-alike n)
+        (guide-alike start n (1024 * 5) (64 * 2) (4096 * cellWords) 65536)
