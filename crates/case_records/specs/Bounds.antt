@@ -1,7 +1,6 @@
 -- The bounds of records, part by part.
 -- Assumes nothing.
 pub mod Laws
-use Prim.Native.Nat.{ℕ}
 use mathlib.Core.Bool.{Bool, true, false, _||_}
 use lib.Dec.{eqb, ltb}
 use Rattle.files.specs.Case.{Head, EdgeBytes}

@@ -6,7 +6,6 @@ use mathlib.Core.Bool.{true, false}
 use mathlib.Core.Path.{_≡_}
 use mathlib.Core.List.{List, map}
 use lib.Dec.{eqb}
-use Rattle.stacks.specs.System.{Rule}
 use Rattle.files.specs.Codes.{inOurCodes}
 use Rattle.files.specs.Writing.{Part, encode, decode}
 use Rattle.files.specs.Case.{caseBodies, codesOf, head, caseRefusal, ownOf, rulesOf}

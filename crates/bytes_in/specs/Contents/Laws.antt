@@ -3,15 +3,15 @@
 use Prim.Native.Nat.{ℕ, zero, suc, _+_, _*_, _/_, _-_, _<_, _≤_}
 use mathlib.Core.Bool.{true, false, _&&_}
 use mathlib.Core.Path.{_≡_, refl, ap, ap₂, sym, _∙_}
-use mathlib.Core.List.{List, [], _∷_}
-use lib.ListN.{length, getD}
+use mathlib.Core.List.{List, _∷_}
+use lib.ListN.{length}
 use lib.Dec.{eqb}
 use native.Mathlib.Nat.{mul-le-mul}
 use native.Mathlib.Numerals.{add-one}
 use native.Mathlib.Omega.{arith}
 use Rattle.words.specs.Laws.Tests.{by-test}
 use Rattle.files.specs.Bytes.{Body, countOf, offsetOf, lineRight, bodiesPlaced, placed}
-use Rattle.files.specs.Bytes.Laws.{line-facts, bodies-first, placed-bodies, placed-within}
+use Rattle.files.specs.Bytes.Laws.{line-facts, placed-bodies, placed-within}
 use Rattle.bytes_in.specs.declared.NextBody.the-variants.{At, Wrong}
 use Rattle.bytes_in.specs.Contents.{nextBody, bodyIn, bodiesFrom, bodiesIn, PlacedFrom}
 

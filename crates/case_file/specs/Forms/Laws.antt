@@ -3,7 +3,7 @@
 use Prim.Native.Nat.{ℕ, _+_, _*_, _-_, _≤_}
 use mathlib.Core.Bool.{Bool, true, false, not, false≢true}
 use mathlib.Core.Path.{_≡_, refl, ap, ap₂, sym, _∙_}
-use mathlib.Core.List.{List, [], _∷_, _++_, map}
+use mathlib.Core.List.{List, [], _∷_, _++_, map, map-map}
 use native.Mathlib.Omega.{arith}
 use lib.ListN.{length, getD, take, drop, replicate, length-replicate}
 use lib.Seq.{sets, length-sets}
@@ -15,11 +15,11 @@ use Rattle.files.specs.Bytes.{placed, countOf, offsetOf, records, recordsOf}
 use Rattle.files.specs.Codes.{ourCodes, codesRight, inOurCodes}
 use Rattle.files.specs.Codes.Laws.{ours-right}
 use Rattle.files.specs.Writing.{flat}
-use Rattle.files.specs.Case.{Form, caseBodies, codeBody, formOf, form, casePlaced, codesOf, RuleBytes, ruleBytes, ruleRecords}
-use Rattle.files.specs.Case.Laws.{CaseForm, without-codes, with-codes, case-form, CasePlaces, CodesPlaces, case-places, codes-places, length-codes}
+use Rattle.files.specs.Case.{caseBodies, codeBody, formOf, form, casePlaced, codesOf, ruleBytes, ruleRecords}
+use Rattle.files.specs.Case.Laws.{without-codes, with-codes, case-form, CodesPlaces, case-places, codes-places}
 use Rattle.bytes_in.specs.Contents.{bodiesIn, bodiesFrom}
 use Rattle.bytes_in.specs.Records.{bodyOf}
-use Rattle.bytes_in.specs.Records.Laws.{records-here, length-body}
+use Rattle.bytes_in.specs.Records.Laws.{records-here}
 use Rattle.operations.specs.Laws.Rules.{read-ours}
 use Rattle.case_file.specs.Forms.{linesOf, codesIn, hasCodes, ourRules, HoldsRules}
 
@@ -151,11 +151,7 @@ module _ (file : List ℕ) where
         let few : countOf file 1 ≤ 256 = case-places file in-place .rules-count in
         ap₂ (λ (k : ℕ) (r : List ℕ). map ruleBytes (records k 5 r)) c p
         ∙ ap (map ruleBytes) (read-ours (codesOf file) bytes rules (countOf file 1) (omega arith))
-        ∙ mapped (records (countOf file 1) 5 bytes)
-      where
-        mapped : (l : List (List ℕ)) → map ruleBytes (map (inOurCodes (codesOf file)) l) ≡ map (λ x. ruleBytes (inOurCodes (codesOf file) x)) l
-        mapped [] = refl
-        mapped (x ∷ l) = ap (λ (r : List RuleBytes). ruleBytes (inOurCodes (codesOf file) x) ∷ r) (mapped l)
+        ∙ map-map ruleBytes (inOurCodes (codesOf file)) (records (countOf file 1) 5 bytes)
 
     -- rules that were written into new memory
     pub holds-rules : {out : List ℕ} {n : ℕ} → n ≡ countOf file 1 → out ≡ sets (replicate 1280 0) 0 (ourRules file) → HoldsRules file out n

@@ -8,8 +8,8 @@ use mathlib.Core.Logic.{⊎-elim}
 use mathlib.Core.List.{List, [], _∷_, _++_, map, List·Memᴰ, List·Memᴰ·head, List·Memᴰ·tail, Memᴰ·of-map}
 use native.Mathlib.Nat.{le-trans}
 use native.Mathlib.Omega.{arith}
-use lib.ListN.{length, getD, take, drop, length-map, length-take, length-drop}
-use lib.Dec.{eqb, ltb, leb}
+use lib.ListN.{length, getD, drop, length-map, length-take, length-drop}
+use lib.Dec.{eqb, ltb}
 use borrow.Author.Tests.{eqb-true, eq-eqb, ltb-true, ltb-false, leb-true, not-false}
 use Rattle.words.specs.Lists.{every}
 use Rattle.words.specs.Lists.Laws.{every-in, placesFrom-in, placesFrom-out}
@@ -128,19 +128,22 @@ pub record CaseBounds (file : List ℕ) : Type 0 where
   pub states-few : states1 file ≤ 64
   pub move : {m : Move} → List·Memᴰ m (moveRecords file) → MoveBounds (head file) (states1 file) m
 
+-- the four tests, and what each says
+tests-parts : (a b c d : Bool) → a && b && c && d ≡ true → ((a ≡ true) × (b ≡ true)) × ((c ≡ true) × (d ≡ true))
+tests-parts a b c d e =
+    let abc = and-left (a && b && c) d e in
+    let ab = and-left (a && b) c abc in
+    ((and-left a b ab, and-right a b ab), (and-right (a && b) c abc, and-right (a && b && c) d e))
+
 pub records-bounds : (file : List ℕ) → recordsRight file ≡ true → CaseBounds file
 unfolding recordsRight
 records-bounds file e =
-    let a : Bool = every (ruleRight (head file)) (ruleRecords file) in
-    let b : Bool = a && every (edgeRight (head file)) (edgeRecords file) in
-    let c : Bool = b && leb (states1 file) 64 in
-    let ec = and-left c _ e in
-    let eb = and-left b _ ec in
+    let ((rules, edges), (few, moves)) = tests-parts _ _ _ _ e in
     record {
-      rule = λ {x} j. rule-bounds (head file) x (every-in (ruleRight (head file)) (and-left a _ eb) j);
-      edge = λ {x} j. edge-bounds (head file) x (every-in (edgeRight (head file)) (and-right a _ eb) j);
-      states-few = leb-true (states1 file) 64 (and-right b _ ec);
-      move = λ {m} j. move-bounds (head file) (states1 file) m (every-in (moveRight (head file) (states1 file)) (and-right c _ e) j);
+      rule = λ {x} j. rule-bounds (head file) x (every-in (ruleRight (head file)) rules j);
+      edge = λ {x} j. edge-bounds (head file) x (every-in (edgeRight (head file)) edges j);
+      states-few = leb-true (states1 file) 64 few;
+      move = λ {m} j. move-bounds (head file) (states1 file) m (every-in (moveRight (head file) (states1 file)) moves j);
     }
 
 -- ---- entries as they are written

@@ -1,28 +1,27 @@
 -- A case that is refused with none of 1, 2 and 12 decodes to the same as its rewriting.
 -- Assumes nothing.
 use Prim.Native.Nat.{ℕ, _+_, _*_, _<_, _≤_}
-use mathlib.Core.Bool.{Bool, true, false, not}
+use mathlib.Core.Bool.{true, not}
 use mathlib.Core.Path.{_≡_, refl, ap, ap₂, sym, _∙_}
-use mathlib.Core.List.{List, [], _∷_, _++_, map}
+use mathlib.Core.List.{List, [], _∷_, map}
 use native.Mathlib.Omega.{arith}
 use borrow.Author.Tests.{eq-eqb}
-use lib.ListN.{length, getD, length-map, length-append, length-drop}
-use Rattle.words.specs.Lists.{each}
+use lib.ListN.{length, getD, length-map, length-drop}
 use Rattle.words.specs.Laws.Tests.{by-test}
-use Rattle.files.specs.Bytes.{Body, placed, countOf, offsetOf, recordsOf, Test, firstHit}
-use Rattle.files.specs.Bytes.Laws.{firstHit-fails, firstHit-passes, length-records, length-recordsOf}
+use Rattle.files.specs.Bytes.{placed, countOf, offsetOf, recordsOf}
+use Rattle.files.specs.Bytes.Laws.{firstHit-fails, firstHit-passes, length-recordsOf}
 use Rattle.files.specs.Codes.{ourCodes, codesRight, inOurCodes}
 use Rattle.files.specs.Codes.Laws.{ours-right, ours-again}
-use Rattle.files.specs.Writing.{Part, flat, contents, encode, decode, decodeFrom}
-use Rattle.files.specs.Writing.Laws.{Sized, sized-records, PartFits, PartsFit, length-encode, first-encode, encode-placed, decode-encode}
-use Rattle.files.specs.Case.{caseBodies, codeBody, form, formOf, casePlaced, codesOf, Head, headOf, head, headRight, RuleBytes, ruleBytes, ruleOf, ruleRecords, EdgeBytes, edgeBytes, edgeRecords, entriesOf, moveOf, moveRecords, states1, recordsRight, increasing, caseTests, caseRefusal, ownOf, rulesOf}
+use Rattle.files.specs.Writing.{Part, encode, decode, decodeFrom}
+use Rattle.files.specs.Writing.Laws.{Sized, sized-records, PartsFit, length-encode, first-encode, encode-placed, decode-encode}
+use Rattle.files.specs.Case.{caseBodies, form, formOf, casePlaced, codesOf, Head, headOf, head, headRight, ruleBytes, ruleOf, ruleRecords, EdgeBytes, edgeBytes, edgeRecords, entriesOf, moveOf, moveRecords, states1, recordsRight, increasing, caseTests, caseRefusal, ownOf, rulesOf}
 use Rattle.files.specs.Case.Laws.{CasePlaces, case-places, length-codes}
 use Rattle.files.specs.Case.Refusal.{refusalBy, refusal-is}
 use Rattle.files.specs.Rewriting.{ruled, rewriting, Readable, SameCase}
 
 -- ---- the parts of the rewriting
 
-sized-rules : (codes : List ℕ) (xs : List (List ℕ)) → Sized 5 (map (inOurCodes codes) xs)
+pub sized-rules : (codes : List ℕ) (xs : List (List ℕ)) → Sized 5 (map (inOurCodes codes) xs)
 unfolding inOurCodes
 sized-rules codes [] = tt
 sized-rules codes (x ∷ xs) = (refl, sized-rules codes xs)

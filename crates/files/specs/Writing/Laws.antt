@@ -1,7 +1,7 @@
 -- A file that is written from its parts has its bodies in place, and reading it gives the parts.
 -- Assumes nothing.
-use Prim.Native.Nat.{ℕ, zero, suc, _+_, _*_, _/_, _%_, _^_, _-_, _<_, _≤_}
-use mathlib.Core.Bool.{true, _&&_}
+use Prim.Native.Nat.{ℕ, zero, suc, _+_, _*_, _/_, _^_, _-_, _<_, _≤_}
+use mathlib.Core.Bool.{true}
 use mathlib.Core.Path.{_≡_, refl, ap, ap₂, sym, _∙_}
 use mathlib.Core.List.{List, [], _∷_, _++_, map, append-nil, append-assoc}
 use native.Mathlib.Omega.{arith}
@@ -9,10 +9,9 @@ use native.Mathlib.Nat.{zero-mul, suc-mul, add-comm}
 use lib.ListN.{length, getD, take, drop, length-append, length-map, length-take, length-drop}
 use lib.Pow.{pow-add}
 use lib.Seq.{take-at, drop-at}
-use lib.Dec.{eqb, leb}
 use borrow.Author.Tests.{eq-eqb, le-leb}
 use Rattle.words.specs.Lists.{each}
-use Rattle.files.specs.Bytes.{number, field, records, Body, kindOf, countOf, offsetOf, lineRight, bodiesPlaced, placed, recordsOf}
+use Rattle.files.specs.Bytes.{number, field, records, kindOf, countOf, offsetOf, lineRight, bodiesPlaced, placed, recordsOf}
 use Rattle.files.specs.Writing.{bytesOf, Part, flat, line, contents, encode, decodeFrom, decode}
 
 -- ---- numbers

@@ -1,7 +1,6 @@
 -- `operations::put_our_codes` meets its contract.
 -- Assumes nothing.
 use Prim.Native.Nat.{_-_}
-use native.Mathlib.Omega.{arith}
 use Rattle.words.specs.Copied.{Copied}
 use Rattle.words.specs.Copied.Laws.{copied-none, copied-next}
 use Rattle.files.specs.Codes.{ourCodes}

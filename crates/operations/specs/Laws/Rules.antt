@@ -2,19 +2,19 @@
 -- Assumes nothing.
 use Prim.Native.Nat.{ℕ, suc, _+_, _*_, _<_, _≤_}
 use mathlib.Core.Path.{_≡_, refl, ap, ap₂, sym, _∙_}
-use mathlib.Core.List.{List, [], _∷_, _++_, map, append-nil}
-use native.Mathlib.Nat.{add-zero, zero-add}
-use native.Mathlib.Numerals.{add-one}
+use mathlib.Core.List.{List, [], _∷_, _++_, map}
+use native.Mathlib.Nat.{add-zero}
 use native.Mathlib.Omega.{arith}
-use lib.ListN.{length, getD, take, drop, set, length-map, length-append}
+use lib.ListN.{length, drop, set, length-map}
 use lib.Seq.{sets, sets-eq, length-sets}
 use Rattle.words.specs.Lists.{each}
 use Rattle.words.specs.Lists.Laws.{each-append, each-one}
 use Rattle.files.specs.Bytes.{records}
 use Rattle.files.specs.Bytes.Laws.{length-records}
-use Rattle.files.specs.Codes.{ourCode, inOurCodes}
+use Rattle.files.specs.Codes.{inOurCodes}
 use Rattle.files.specs.Writing.{flat}
-use Rattle.files.specs.Writing.Laws.{Sized, length-flat, records-flat}
+use Rattle.files.specs.Writing.Laws.{length-flat, records-flat}
+use Rattle.files.specs.Rewriting.Laws.{sized-rules}
 use Rattle.bytes_in.specs.Records.{recordAt}
 use Rattle.bytes_in.specs.Records.Laws.{map-more}
 
@@ -24,12 +24,6 @@ sets-append [] ws l i = ap (λ (k : ℕ). sets l k ws) (sym (add-zero i))
 sets-append (v ∷ vs) ws l i =
     let e : suc i + length vs ≡ i + suc (length vs) = omega arith in
     sets-append vs ws (set l i v) (suc i) ∙ ap (λ (k : ℕ). sets (sets (set l i v) (suc i) vs) k ws) e
-
--- the rules are five bytes each
-pub sized-ours : (codes : List ℕ) (xs : List (List ℕ)) → Sized 5 (map (inOurCodes codes) xs)
-unfolding inOurCodes
-sized-ours codes [] = tt
-sized-ours codes (x ∷ xs) = (refl, sized-ours codes xs)
 
 -- the first i rules of the body are written
 pub record RulesPut (codes body rules₀ : List ℕ) (n i : ℕ) (rules : List ℕ) : Type 0 where
@@ -48,7 +42,7 @@ put-more {codes} {body} {rules₀} {rules} {out} {n} {i} p l e =
     let xs : List (List ℕ) = map (inOurCodes codes) (records i 5 body) in
     let x : List ℕ = inOurCodes codes (recordAt 5 i body) in
     let count : length xs ≡ i = length-map (records i 5 body) (inOurCodes codes) ∙ length-records i 5 body in
-    let bytes : length (flat xs) ≡ length xs * 5 = length-flat 5 xs (sized-ours codes (records i 5 body)) in
+    let bytes : length (flat xs) ≡ length xs * 5 = length-flat 5 xs (sized-rules codes (records i 5 body)) in
     let at : 0 + length (flat xs) ≡ i * 5 = omega arith in
     let all : flat (map (inOurCodes codes) (records (i + 1) 5 body)) ≡ flat xs ++ x =
     ap flat (map-more (inOurCodes codes) 5 body i) ∙ each-append xs (x ∷ []) (λ y. y) ∙ ap (λ (r : List ℕ). flat xs ++ r) (each-one x (λ y. y)) in
@@ -75,7 +69,7 @@ pub read-ours : (codes body rules₀ : List ℕ) (n : ℕ) → n * 5 ≤ length 
 read-ours codes body rules₀ n l =
     let xs : List (List ℕ) = map (inOurCodes codes) (records n 5 body) in
     let count : length xs ≡ n = length-map (records n 5 body) (inOurCodes codes) ∙ length-records n 5 body in
-    let bytes : length (flat xs) ≡ length xs * 5 = length-flat 5 xs (sized-ours codes (records n 5 body)) in
+    let bytes : length (flat xs) ≡ length xs * 5 = length-flat 5 xs (sized-rules codes (records n 5 body)) in
     let fits : 0 + length (flat xs) ≤ length rules₀ = omega arith in
     ap₂ (λ (k : ℕ) (r : List ℕ). records k 5 r) (sym count) (sets-eq (flat xs) rules₀ 0 fits)
-    ∙ records-flat 5 xs (drop (0 + length (flat xs)) rules₀) (sized-ours codes (records n 5 body))
+    ∙ records-flat 5 xs (drop (0 + length (flat xs)) rules₀) (sized-rules codes (records n 5 body))

@@ -13,7 +13,6 @@ use Rattle.words.specs.Laws.Tests.{by-test, and-left, and-right}
 use Rattle.stacks.specs.Stack.{newCells}
 use Rattle.files.specs.Case.{operationOf}
 use Rattle.files.specs.Codes.{ourCodes}
-use Rattle.operations.specs.declared.Operand.{Operand}
 use Rattle.operations.specs.declared.Operand.the-variants.{Symbol, Zero}
 use Rattle.operations.specs.declared.Line.{Line}
 use Rattle.operations.specs.Table.{isSymbol, LineOf, operandRight}

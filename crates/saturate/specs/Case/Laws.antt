@@ -1,16 +1,16 @@
 -- What a sound case gives for the rounds on its tables.
 -- Assumes nothing.
-use Prim.Native.Nat.{ℕ, suc, _+_, _*_, _/_, _≤_, _<_, min}
+use Prim.Native.Nat.{ℕ, suc, _+_, _/_, _≤_, _<_, min}
 use mathlib.Core.Bool.{Bool, true, false, not, false≢true}
-use mathlib.Core.Path.{_≡_, refl, ap, ap₂, sym, _∙_, subst, subst₂}
-use mathlib.Core.List.{List, [], _∷_, map, List·Memᴰ·head}
+use mathlib.Core.Path.{_≡_, ap, ap₂, sym, _∙_, subst, subst₂}
+use mathlib.Core.List.{List, [], _∷_, map}
 use native.Mathlib.Nat.{min-le-left, le-min, zero-add, add-zero}
 use native.Mathlib.Numerals.{add-one}
 use native.Mathlib.Omega.{arith}
 use lib.ListN.{length, getD, length-map, List·getD-map}
 use lib.Dec.{leb, ltb}
-use borrow.Author.Tests.{not-false, leb-true, leb-false}
-use Rattle.words.specs.Lists.{only, every, zeros}
+use borrow.Author.Tests.{leb-true, leb-false}
+use Rattle.words.specs.Lists.{only, zeros}
 use Rattle.words.specs.Lists.Laws.{getD-in, only-yes, only-no}
 use Rattle.words.specs.Laws.Tests.{by-test}
 use Rattle.words.specs.Order.{insert, sorted}
