@@ -62,7 +62,7 @@ impl Limits {
 
     pub const NUMBER_BYTES: usize = 2;
 
-    // ---- the numbers of the bodies, from 0: five of a case, the last only where it has a record of operation codes, two of a start file
+    // ---- the numbers of the bodies, from 0: five of a case, the last only where it has a record of operation codes; two of a start file
 
     pub const HEAD_BODY: usize = 0;
 
@@ -103,7 +103,8 @@ impl Limits {
 
     pub const CELL_WORDS: usize = Limits::FIELD_WORDS + Limits::STATES1;
 
-    // ---- working memory: the rules in our codes, inner edges, the results of a round, the sizes after round 0 and each round that adds a move, the memo table
+    // ---- working memory: the rules in our codes, inner edges, the results of a round, the sizes after round 0 and each round that adds a move,
+    // the memo table
 
     pub const RULE_TABLE: usize = Limits::RULES * Limits::RULE_BYTES;
 

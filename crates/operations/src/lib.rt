@@ -1,7 +1,7 @@
 // The table of operations, and the codes that a tool's record gives in the place of ours.
 ghost use mathlib.Core.Path.{_≡_};
 ghost use mathlib.Core.List.{[], _∷_, map};
-ghost use Prim.Native.Nat.{_<_, _≤_, _+_, _*_};
+ghost use Prim.Native.Nat.{_≤_, _+_, _*_};
 ghost use lib.ListN.{length};
 ghost use lib.Seq.{sets};
 ghost use Rattle.files.specs.Bytes.{records};
@@ -25,43 +25,51 @@ pub struct Line {
     pub cells: usize,
 }
 
-// Rewrite, push of order 1, push of order 2, copy, pop 1, pop 2, collapse 1, collapse 2.
+// Document 01's table of operations.
 const OPERATIONS: [Line; Limits::OPERATIONS] = [
+    // rewrite
     Line {
         code: 1,
         operand: Operand::Symbol,
         cells: 2,
     },
+    // push, order 1
     Line {
         code: 2,
         operand: Operand::Symbol,
         cells: 3,
     },
+    // push, order 2
     Line {
         code: 3,
         operand: Operand::Symbol,
         cells: 3,
     },
+    // copy
     Line {
         code: 4,
         operand: Operand::Zero,
         cells: 4,
     },
+    // pop 1
     Line {
         code: 5,
         operand: Operand::Zero,
         cells: 1,
     },
+    // pop 2
     Line {
         code: 6,
         operand: Operand::Zero,
         cells: 0,
     },
+    // collapse 1
     Line {
         code: 7,
         operand: Operand::Zero,
         cells: 1,
     },
+    // collapse 2
     Line {
         code: 8,
         operand: Operand::Zero,

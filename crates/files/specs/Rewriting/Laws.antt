@@ -13,7 +13,7 @@ use Rattle.files.specs.Bytes.Laws.{firstHit-fails, firstHit-passes, leng
 use Rattle.files.specs.Codes.{ourCodes, codesRight, inOurCodes}
 use Rattle.files.specs.Codes.Laws.{ours-right, ours-again}
 use Rattle.files.specs.Writing.{Part, encode, decode, decodeFrom}
-use Rattle.files.specs.Writing.Laws.{Sized, sized-records, PartsFit, length-encode, first-encode, encode-placed, decode-encode}
+use Rattle.files.specs.Writing.Laws.{Sized, sized-records, PartFits, PartsFit, length-encode, first-encode, encode-placed, decode-encode}
 use Rattle.files.specs.Case.{caseBodies, form, formOf, casePlaced, codesOf, Head, headOf, head, headRight, ruleBytes, ruleOf, ruleRecords, EdgeBytes, edgeBytes, edgeRecords, entriesOf, moveOf, moveRecords, states1, recordsRight, increasing, caseTests, caseRefusal, ownOf, rulesOf}
 use Rattle.files.specs.Case.Laws.{CasePlaces, case-places, length-codes}
 use Rattle.files.specs.Case.Refusal.{refusalBy, refusal-is}
@@ -32,6 +32,11 @@ sized-of file n size l =
     let d = length-drop (offsetOf file n) file in
     sized-records (countOf file n) size _ (omega arith)
 
+-- a part whose numbers are in range
+part-fits : (x : Part) → x .body .kind < 65536 → x .body .most < 65536 → x .body .least ≤ length (x .records) → length (x .records) ≤ x .body .most
+    → Sized (x .body .size) (x .records) → PartFits x
+part-fits x k m l h s = record { kind-fits = k; count-fits = omega arith; count-least = l; count-most = h; sized = s }
+
 noPart : Part
 noPart = record { body = record { kind = 0; least = 0; most = 0; size = 0 }; records = [] }
 
@@ -39,42 +44,39 @@ module _ (file : List ℕ) (p : CasePlaces file) where
   parts : List Part
   parts = map (ruled (codesOf file)) (decode caseBodies file)
 
+  -- how many records each part has
+  record PartCounts : Type 0 where
+    pub heads : length (recordsOf file 0 14) ≡ 1
+    pub rules : length (map (inOurCodes (codesOf file)) (recordsOf file 1 5)) ≤ 256
+    pub edges : length (recordsOf file 2 4) ≤ 64
+    pub moves : length (recordsOf file 3 19) ≤ 1024
+
+  part-counts : PartCounts
+  part-counts =
+      record {
+        heads = length-recordsOf file 0 14 ∙ p .head-count;
+        rules = rw (length-map (recordsOf file 1 5) (inOurCodes (codesOf file)), length-recordsOf file 1 5) (p .rules-count);
+        edges = rw (length-recordsOf file 2 4) (p .edges-count);
+        moves = rw (length-recordsOf file 3 19) (p .moves-count);
+      }
+
   parts-short : PartsFit parts → length (encode 4 parts) < 4294967296
   unfolding parts ruled decode decodeFrom caseBodies
   parts-short f =
-      let h : length (recordsOf file 0 14) ≡ countOf file 0 = length-recordsOf file 0 14 in
-      let r : length (recordsOf file 1 5) ≡ countOf file 1 = length-recordsOf file 1 5 in
-      let r′ : length (map (inOurCodes (codesOf file)) (recordsOf file 1 5)) ≡ length (recordsOf file 1 5) = length-map (recordsOf file 1 5) _ in
-      let e : length (recordsOf file 2 4) ≡ countOf file 2 = length-recordsOf file 2 4 in
-      let m : length (recordsOf file 3 19) ≡ countOf file 3 = length-recordsOf file 3 19 in
-      let ch : countOf file 0 ≡ 1 = p .head-count in
-      let cr : countOf file 1 ≤ 256 = p .rules-count in
-      let ce : countOf file 2 ≤ 64 = p .edges-count in
-      let cm : countOf file 3 ≤ 1024 = p .moves-count in
-      let l : length (encode 4 parts) ≡ 1 + 8 * 4 + (length (recordsOf file 0 14) * 14 + (length (map (inOurCodes (codesOf file)) (recordsOf file 1 5)) * 5 + (length (recordsOf file 2 4) * 4 + (length (recordsOf file 3 19) * 19 + 0)))) = length-encode 4 parts f in
+      let n : PartCounts = part-counts in
+      let l = length-encode 4 parts f in
       omega arith
 
   parts-fit : PartsFit parts
   unfolding parts ruled decode decodeFrom caseBodies
   parts-fit =
-      let h : length (recordsOf file 0 14) ≡ countOf file 0 = length-recordsOf file 0 14 in
-      let r : length (recordsOf file 1 5) ≡ countOf file 1 = length-recordsOf file 1 5 in
-      let r′ : length (map (inOurCodes (codesOf file)) (recordsOf file 1 5)) ≡ length (recordsOf file 1 5) = length-map (recordsOf file 1 5) _ in
-      let e : length (recordsOf file 2 4) ≡ countOf file 2 = length-recordsOf file 2 4 in
-      let m : length (recordsOf file 3 19) ≡ countOf file 3 = length-recordsOf file 3 19 in
-      let ch : countOf file 0 ≡ 1 = p .head-count in
-      let cr : countOf file 1 ≤ 256 = p .rules-count in
-      let ce : countOf file 2 ≤ 64 = p .edges-count in
-      let cm : countOf file 3 ≤ 1024 = p .moves-count in (
-        record { kind-fits = omega arith; count-fits = omega arith; count-least = omega arith; count-most = omega arith; sized = sized-of file 0 14 (p .head-ends) },
+      let n : PartCounts = part-counts in (
+        part-fits _ (omega arith) (omega arith) (omega arith) (omega arith) (sized-of file 0 14 (p .head-ends)),
         (
-          record { kind-fits = omega arith; count-fits = omega arith; count-least = omega arith; count-most = omega arith; sized = sized-rules (codesOf file) (recordsOf file 1 5) },
+          part-fits _ (omega arith) (omega arith) (omega arith) (omega arith) (sized-rules (codesOf file) (recordsOf file 1 5)),
           (
-            record { kind-fits = omega arith; count-fits = omega arith; count-least = omega arith; count-most = omega arith; sized = sized-of file 2 4 (p .edges-end) },
-            (
-              record { kind-fits = omega arith; count-fits = omega arith; count-least = omega arith; count-most = omega arith; sized = sized-of file 3 19 (p .moves-end) },
-              tt,
-            ),
+            part-fits _ (omega arith) (omega arith) (omega arith) (omega arith) (sized-of file 2 4 (p .edges-end)),
+            (part-fits _ (omega arith) (omega arith) (omega arith) (omega arith) (sized-of file 3 19 (p .moves-end)), tt),
           ),
         ),
       )
