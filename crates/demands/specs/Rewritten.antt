@@ -11,13 +11,15 @@ use Rattle.files.specs.Bytes.{recordsOf}
 use Rattle.files.specs.Codes.{inOurCodes}
 use Rattle.files.specs.Case.{casePlaced, head, headRight, codesOf, caseRefusal}
 use Rattle.files.specs.Rewriting.{rewriting, Readable}
-use Rattle.services.specs.Saturate.{saturateService}
-use Rattle.services.specs.Judge.{judgeService}
-use Rattle.services.specs.Guide.{guideService}
-use Rattle.services.specs.Replay.{replayService}
+use Rattle.services.specs.Saturate.{SaturateDone, saturateService}
+use Rattle.services.specs.Judge.{JudgeDone, judgeService}
+use Rattle.services.specs.Guide.{GuideDone, guideService}
+use Rattle.services.specs.Replay.{ReplayDone, replayService}
 use Rattle.services.specs.Listing.{listingText}
 use Rattle.services.specs.Run.{runText}
 use Rattle.demands.specs.Refusals.{CodesWrong}
+use Rattle.demands.specs.Demand1.{SaturateStates, JudgeStates, GuideStates, ReplayStates}
+use Rattle.demands.specs.Demand3.{Guides}
 
 -- ---- the case rewritten
 
@@ -56,6 +58,33 @@ pub record AnswersAs (case other : List ℕ) : Type 0 where
 -- A case that is refused with none of 1, 2 and 12 is answered as its rewriting.
 abbrev pub Rewritten : Type 0
 Rewritten = (case : List ℕ) → Readable case → AnswersAs case (rewriting case)
+
+-- ---- answers of any program
+
+-- Whatever answer meets the demands for the one case, and whatever meets them for the other, are the same: demand 1 of saturate, judge and
+-- replay, demands 1 and 3 of guide.
+pub record SharesAnswers (case other : List ℕ) : Type 0 where
+  pub saturates : (moves entries : ℕ) (d e : SaturateDone)
+      → SaturateStates (record { case = case; moves = moves; entries = entries }) d
+      → SaturateStates (record { case = other; moves = moves; entries = entries }) e
+      → d ≡ e
+  pub judges : (start : List ℕ) (moves entries answers : ℕ) (d e : JudgeDone)
+      → JudgeStates (record { case = case; start = start; moves = moves; entries = entries; answers = answers }) d
+      → JudgeStates (record { case = other; start = start; moves = moves; entries = entries; answers = answers }) e
+      → d ≡ e
+  pub guides : (start : List ℕ) (number moves entries cells trace : ℕ) (d e : GuideDone)
+      → GuideStates (record { case = case; start = start; number = number; moves = moves; entries = entries; cells = cells; trace = trace }) d
+      → Guides (record { case = case; start = start; number = number; moves = moves; entries = entries; cells = cells; trace = trace }) d
+      → GuideStates (record { case = other; start = start; number = number; moves = moves; entries = entries; cells = cells; trace = trace }) e
+      → Guides (record { case = other; start = start; number = number; moves = moves; entries = entries; cells = cells; trace = trace }) e
+      → d ≡ e
+  pub replays : (start : List ℕ) (number : ℕ) (trace : List ℕ) (cells : ℕ) (d e : ReplayDone)
+      → ReplayStates (record { case = case; start = start; number = number; trace = trace; cells = cells }) d
+      → ReplayStates (record { case = other; start = start; number = number; trace = trace; cells = cells }) e
+      → d ≡ e
+
+abbrev pub Shared : Type 0
+Shared = (case : List ℕ) → Readable case → SharesAnswers case (rewriting case)
 
 -- ---- refusals 3 and 12
 

@@ -2,7 +2,7 @@
 -- Assumes nothing.
 use Prim.Native.Nat.{ℕ, _≤_}
 use mathlib.Core.Bool.{false}
-use mathlib.Core.Path.{_≡_, _∙_}
+use mathlib.Core.Path.{_≡_, sym, _∙_}
 use mathlib.Core.List.{List, List·Memᴰ, Memᴰ·map}
 use native.Mathlib.Omega.{arith}
 use lib.ListN.{getD}
@@ -18,7 +18,8 @@ use Rattle.files.specs.Rewriting.Laws.{same-heads, rules-rewritten, same-edges,
 use Rattle.files.specs.Rewriting.Laws.{is-placed, head-in-range, codes-differ, same-case}
 use Rattle.services.specs.Laws.SameCase.{saturate-alike, judge-alike, guide-alike, replay-alike, listing-alike, run-text-alike}
 use Rattle.demands.specs.Refusals.Codes.{codes-wrong}
-use Rattle.demands.specs.Rewritten.{RewritingIs, AnswersAs, Rewritten, UnlistedCode, CodesRefused}
+use Rattle.demands.specs.Determined.{saturate-only, judge-only, guide-only, replay-only}
+use Rattle.demands.specs.Rewritten.{RewritingIs, AnswersAs, Rewritten, SharesAnswers, Shared, UnlistedCode, CodesRefused}
 
 -- ---- the case rewritten
 
@@ -49,6 +50,21 @@ answers-as s =
 
 pub rewritten : Rewritten
 rewritten case r = answers-as (same-case case r)
+
+-- ---- answers of any program
+
+shares-answers : {case other : List ℕ} → AnswersAs case other → SharesAnswers case other
+shares-answers a =
+    record {
+      saturates = λ moves entries d e s t. saturate-only _ d s ∙ a .saturates moves entries ∙ sym (saturate-only _ e t);
+      judges = λ start moves entries answers d e s t. judge-only _ d s ∙ a .judges start moves entries answers ∙ sym (judge-only _ e t);
+      guides = λ start number moves entries cells trace d e s f t g.
+          guide-only _ d s f ∙ a .guides start number moves entries cells trace ∙ sym (guide-only _ e t g);
+      replays = λ start number trace cells d e s t. replay-only _ d s ∙ a .replays start number trace cells ∙ sym (replay-only _ e t);
+    }
+
+pub shared : Shared
+shared case r = shares-answers (rewritten case r)
 
 -- ---- refusals 3 and 12
 
