@@ -35,8 +35,9 @@
  * for state n. A missing file is one of length 0.
  *
  * A case whose first byte is 5 carries a record of eight bytes, its tool's codes
- * for our operations 1 to 8; its rules are read by these codes alone. Every call
- * answers it as the case of first byte 4 with the same bodies and our codes.
+ * for our operations 1 to 8; its rules are read by these codes alone. Unless it is
+ * refused with 1, 2 or 12, every call answers it as the case of first byte 4 with
+ * the same other bodies and our codes.
  *
  * A refusal is a number from 1 to 255 (ANALYSER_REFUSALS says what each means);
  * no other answer is. The first of a service's numbers that applies is returned,
