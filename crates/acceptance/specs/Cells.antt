@@ -1,6 +1,5 @@
 -- Since when each cell of a start file is accepted from each state.
 -- Assumes nothing.
-pub mod Body
 pub mod Laws
 pub mod Turns
 use Prim.Native.Nat.{ℕ, _+_, _*_, _≤_, _<_}

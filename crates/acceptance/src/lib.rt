@@ -12,13 +12,13 @@ ghost use Rattle.tables.specs.Layouts.{moveRow};
 ghost use Rattle.tables.specs.Held.{edgesIn, EdgesStand, EntriesStand};
 ghost use Rattle.saturation.specs.Layout.{sizeRow};
 ghost use Rattle.saturation.specs.Held.{saturatedIn};
-ghost use Rattle.walks.specs.Cell.Formed.{Formed, cellOrder, orderAt};
+ghost use Rattle.walks.specs.Cell.Formed.{Formed};
 ghost use Rattle.cell_memory.specs.Memory.{cellOf};
 ghost use Rattle.acceptance_words.specs.Rows.{roundIn};
 ghost use Rattle.acceptance.specs.Put.{withMove, RowZero, RowPut};
 ghost use Rattle.acceptance.specs.Named.{MovesNamed, EdgesNamed, TablesNamed};
 ghost use Rattle.acceptance.specs.Cells.{annotationOrderAt, PartsBelow, cellRound, RoundsFilled};
-ghost use Rattle.acceptance.specs.Cells.Body.{cellsIn};
+ghost use Rattle.start_records.specs.Body.{cellsIn};
 use cell_memory::Cell;
 use limits::Limits;
 use replies::Acceptance;
@@ -156,29 +156,6 @@ fn put_cell(
 
 // ---- cells in the form of a start file
 
-// The order of the stack that a cell stands for.
-fn cell_order(cell: Cell) -> u64
-    ensures { λ r. ⌜ r ≡ cellOrder (cellOf cell) ⌝ }
-{
-    match cell {
-        Cell::Empty1 => 1,
-        Cell::Symbol(_, _, _) => 1,
-        Cell::Empty2 => 2,
-        Cell::Above(_, _) => 2,
-    }
-}
-
-// The order of cell i, of the first n in the body, and 1 where there is none.
-pub fn order_at(body: &[u8], n: usize, i: usize) -> u64
-    requires { ⌜ n * 6 ≤ length (now body) ⌝ }
-    ensures { λ r. ⌜ r ≡ orderAt (cellsIn n (now (body .entry))) i ⌝ }
-{
-    if n <= i {
-        return 1;
-    }
-    cell_order(start_records::cell_at(body, i))
-}
-
 // The order of the annotation of a symbol.
 pub fn annotation_order(body: &[u8], n: usize, cell: Cell) -> u64
     requires { ⌜ n * 6 ≤ length (now body) ⌝ }
@@ -186,7 +163,7 @@ pub fn annotation_order(body: &[u8], n: usize, cell: Cell) -> u64
 {
     match cell {
         Cell::Empty1 => 0,
-        Cell::Symbol(_, u, _) => order_at(body, n, u as usize),
+        Cell::Symbol(_, u, _) => start_records::order_at(body, n, u as usize),
         Cell::Empty2 => 0,
         Cell::Above(_, _) => 0,
     }

@@ -12,6 +12,8 @@ use Rattle.replies.specs.declared.Reply.{Reply}
 use Rattle.replies.specs.declared.Reply.the-variants.{Refused, NoRun, Walked}
 use Rattle.replies.specs.declared.Replayed.{Replayed}
 use Rattle.replies.specs.declared.Replayed.the-variants as Replayed
+use Rattle.replies.specs.declared.Brackets.{Brackets}
+use Rattle.replies.specs.declared.Brackets.the-variants as Brackets
 use Rattle.replies.specs.Numbers.{countsOf}
 use Rattle.words.specs.Lists.{zeros}
 use Rattle.files.specs.Start.{startsOf}
@@ -20,9 +22,10 @@ use Rattle.services.specs.Saturate.{Lent, SaturateDone, saturateService}
 use Rattle.services.specs.Judge.{JudgeInput, JudgeDone, judgeService}
 use Rattle.services.specs.Guide.{GuideInput, GuideDone, guideService}
 use Rattle.services.specs.Replay.{ReplayInput, ReplayDone, replayService}
+use Rattle.services.specs.Brackets.{BracketsInput, rootText, BracketsDone, bracketsService}
 use Rattle.demands.specs.Reach.{Runs, Marks}
 use Rattle.demands.specs.Size.{SaturatedTable}
-use Rattle.demands.specs.Refusals.{Returned, saturateRefusals, judgeRefusals, guideRefusals, replayRefusals}
+use Rattle.demands.specs.Refusals.{Returned, saturateRefusals, judgeRefusals, guideRefusals, replayRefusals, bracketsRefusals}
 use Rattle.demands.specs.Traces.{RealFault, StepFails}
 use Rattle.demands.specs.FullRun.{fullTrace}
 
@@ -105,6 +108,20 @@ pub record ReplayStates (x : ReplayInput) (d : ReplayDone) : Type 0 where
   pub answered : ReplayAnswered x (d .reply)
   pub cells-zero : d .cells ≡ zeros (x .cells)
 
+-- ---- brackets
+
+-- the number and the text of each answer: a refusal's number is the first that applies and its text zero; where none applies, "the reply is the text's
+-- length; bytes after it are zero", of the text of the start's root
+abbrev pub BracketsAnswered : BracketsInput → Brackets → List ℕ → Type 0
+BracketsAnswered x (Brackets.Refused n) text = Returned bracketsRefusals x n × (n ≡ 0 → ⊥) × (text ≡ zeros (x .text))
+BracketsAnswered x (Brackets.Printed k) text =
+    Returned bracketsRefusals x 0 × (k ≡ length (rootText x)) × (text ≡ padded (x .text) (rootText x))
+
+-- what document 02 states of brackets' answer d to x
+pub record BracketsStates (x : BracketsInput) (d : BracketsDone) : Type 0 where
+  pub answered : BracketsAnswered x (d .reply) (d .text)
+  pub text-length : length (d .text) ≡ x .text
+
 -- for every input of each service
 abbrev pub Demand1 : Type 0
 Demand1 =
@@ -112,3 +129,4 @@ Demand1 =
     × ((x : JudgeInput) → JudgeStates x (judgeService x))
     × ((x : GuideInput) → GuideStates x (guideService x))
     × ((x : ReplayInput) → ReplayStates x (replayService x))
+    × ((x : BracketsInput) → BracketsStates x (bracketsService x))

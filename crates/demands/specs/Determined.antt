@@ -1,4 +1,4 @@
--- The demands leave nothing open: demand 1 leaves saturate, judge and replay one answer to each input, and demands 1 and 3 leave guide one.
+-- The demands leave nothing open: demand 1 leaves saturate, judge, replay and brackets one answer to each input, and demands 1 and 3 leave guide one.
 -- Assumes nothing.
 use Prim.Native.Nat.{ℕ, zero, suc, _≤_, _<_}
 use mathlib.Core.Path.{_≡_, refl, ap, ap₂, sym, _∙_, subst}
@@ -15,6 +15,8 @@ use Rattle.replies.specs.declared.Reply.{Reply}
 use Rattle.replies.specs.declared.Reply.the-variants.{Refused, NoRun, Walked}
 use Rattle.replies.specs.declared.Replayed.{Replayed}
 use Rattle.replies.specs.declared.Replayed.the-variants as Replayed
+use Rattle.replies.specs.declared.Brackets.{Brackets}
+use Rattle.replies.specs.declared.Brackets.the-variants as Brackets
 use Rattle.files.specs.Case.{rulesOf}
 use Rattle.files.specs.Start.{startsOf, cellsOf}
 use Rattle.services.specs.Memory.{padded, moveTable, entryTable}
@@ -22,16 +24,17 @@ use Rattle.services.specs.Saturate.{Lent, SaturateDone, saturateService}
 use Rattle.services.specs.Judge.{JudgeInput, JudgeDone, judgeService}
 use Rattle.services.specs.Guide.{GuideInput, GuideDone, cellsLent, guideService}
 use Rattle.services.specs.Replay.{ReplayInput, ReplayDone, replayService}
+use Rattle.services.specs.Brackets.{BracketsInput, BracketsDone, bracketsService}
 use Rattle.guidance.specs.Halt.{Reason, haltBy}
 use Rattle.demands.specs.Reach.{Runs, WonIn, Marks}
 use Rattle.demands.specs.Size.Laws.{one-saturated}
-use Rattle.demands.specs.Refusals.{Returned, saturateRefusals, judgeRefusals, guideRefusals, replayRefusals}
+use Rattle.demands.specs.Refusals.{Returned, saturateRefusals, judgeRefusals, guideRefusals, replayRefusals, bracketsRefusals}
 use Rattle.demands.specs.Refusals.Laws.{returned-one}
 use Rattle.demands.specs.Traces.Laws.{fails-once, fault-fails-not}
 use Rattle.demands.specs.FullRun.{used, HaltsAfter, has-arrived, is-full, is-short, Stops}
 use Rattle.demands.specs.FullRun.Laws.{one-full-run}
-use Rattle.demands.specs.Demand1.{SaturateStates, JudgeStates, Answered, GuideStates, ReplayAnswered, ReplayStates}
-use Rattle.demands.specs.Demand1.Proof.{demand1-saturate, demand1-judge, demand1-guide, demand1-replay}
+use Rattle.demands.specs.Demand1.{SaturateStates, JudgeStates, Answered, GuideStates, ReplayAnswered, ReplayStates, BracketsAnswered, BracketsStates}
+use Rattle.demands.specs.Demand1.Proof.{demand1-saturate, demand1-judge, demand1-guide, demand1-replay, demand1-brackets}
 use Rattle.demands.specs.Demand2.{judgeFor}
 use Rattle.demands.specs.Demand3.{MarkedYes, AnswersRun, Guides}
 use Rattle.demands.specs.Demand3.Proof.{guides, runs-marked}
@@ -193,3 +196,21 @@ pub replay-only : (x : ReplayInput) (d : ReplayDone) → ReplayStates x d → d 
 replay-only x d s =
     let t = demand1-replay x in
     replay-done (replayed-one x (d .reply) (replayService x .reply) (s .answered) (t .answered)) (s .cells-zero ∙ sym (t .cells-zero))
+
+-- ---- brackets
+
+brackets-done : {d e : BracketsDone} → (d .reply ≡ e .reply) × (d .text ≡ e .text) → d ≡ e
+brackets-done (r, t) = λ i. record { reply = r i; text = t i }
+
+brackets-one : (x : BracketsInput) {d e : BracketsDone} → BracketsStates x d → BracketsStates x e → d ≡ e
+brackets-one x {d} {e} s t = brackets-done (same (d .reply) (d .text) (e .reply) (e .text) (s .answered) (t .answered))
+  where
+    same : (u : Brackets) (v : List ℕ) (w : Brackets) (z : List ℕ) → BracketsAnswered x u v → BracketsAnswered x w z → (u ≡ w) × (v ≡ z)
+    same (Brackets.Refused n) v (Brackets.Refused m) z (a, _, b) (c, _, f) = (ap Brackets.Refused (returned-one bracketsRefusals x a c), b ∙ sym f)
+    same (Brackets.Refused n) v (Brackets.Printed m) z (a, bad, b) (c, _, f) = absurd (bad (returned-one bracketsRefusals x a c))
+    same (Brackets.Printed k) v (Brackets.Refused m) z (a, _, b) (c, bad, f) = absurd (bad (returned-one bracketsRefusals x c a))
+    same (Brackets.Printed k) v (Brackets.Printed m) z (a, l, b) (c, h, f) = (ap Brackets.Printed (l ∙ sym h), b ∙ sym f)
+
+-- Demand 1 leaves brackets one answer.
+pub brackets-only : (x : BracketsInput) (d : BracketsDone) → BracketsStates x d → d ≡ bracketsService x
+brackets-only x d s = brackets-one x s (demand1-brackets x)

@@ -1,6 +1,8 @@
 -- Document 01's idle programs, those that report another round, those that replay in another way, and those that take finished scripts or
--- tools' codes in another way. The answer that each gives at a worked model contradicts the demand's statement, read alone.
+-- tools' codes in another way; in Idle/Brackets.antt those that print in another way. The answer that each gives at a worked model contradicts
+-- the demand's statement, read alone.
 -- Assumes nothing.
+pub mod Brackets
 use Prim.Native.Nat.{ℕ, _+_, _*_}
 use mathlib.Core.Bool.{false≢true}
 use mathlib.Core.Path.{_≡_, refl, ap, sym, _∙_, subst}

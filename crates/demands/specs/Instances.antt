@@ -1,24 +1,31 @@
 -- The demands at models A, B and C: their hypotheses are met by the models' files, by computation, and what follows.
 -- Assumes nothing.
-use Prim.Native.Nat.{ℕ, _*_}
-use mathlib.Core.Path.{refl, subst}
+use Prim.Native.Nat.{ℕ, _*_, _≤_, _<_}
+use mathlib.Core.Path.{_≡_, refl, ap, subst}
 use mathlib.Core.List.{List, _++_}
 use lib.Dec.{lit<}
 use borrow.Author.Tests.{eqb-false}
+use Rattle.replies.specs.declared.Brackets.the-variants.{Refused, Printed}
+use Rattle.words.specs.Lists.{zeros}
 use Rattle.files.specs.Rewriting.{Readable}
 use Rattle.services.specs.Judge.{JudgeInput}
 use Rattle.services.specs.Replay.{ReplayInput}
+use Rattle.services.specs.Listing.{ascii}
+use Rattle.services.specs.Brackets.{BracketsInput, BracketsDone, bracketsService}
 use Rattle.models.specs.Computing.{computed}
 use Rattle.models.specs.Examples.{tool-rewritten}
 use Rattle.models.specs.Files.{two, caseA, startA, caseB, startB, caseBFinal, caseC, startC, caseTool}
 use Rattle.demands.specs.Reach.{Runs, WonIn}
-use Rattle.demands.specs.Refusals.{Returned, judgeRefusals}
+use Rattle.demands.specs.Refusals.{Returned, judgeRefusals, bracketsEarly}
 use Rattle.demands.specs.Traces.{RealFault}
+use Rattle.demands.specs.Demand1.{BracketsStates}
 use Rattle.demands.specs.Demand1.Proof.{demand1-judge}
 use Rattle.demands.specs.Demand2.Proof.{judge-marks}
 use Rattle.demands.specs.Demand3.{MarkedYes, GuidedRun}
 use Rattle.demands.specs.Demand3.Proof.{demand3}
 use Rattle.demands.specs.Replays.Proof.{replay-answers}
+use Rattle.demands.specs.Determined.{brackets-only}
+use Rattle.demands.specs.Brackets.Proof.{brackets-exactly}
 use Rattle.demands.specs.Rewritten.{AnswersAs}
 use Rattle.demands.specs.Rewritten.Proof.{rewritten}
 
@@ -103,6 +110,29 @@ replayA n trace cells = record { case = caseA; start = startA; number = n; trace
 pub fault-A : RealFault (replayA 0 (two 0 ++ two 1) (9 * 6))
 unfolding computed replayA
 fault-A = replay-answers (replayA 0 (two 0 ++ two 1) (9 * 6)) .accepted .0 refl .1
+
+-- brackets of start n of model A, with so many bytes lent
+unfoldable pub bracketsA : ℕ → ℕ → BracketsInput
+bracketsA n text = record { case = caseA; start = startA; number = n; text = text }
+
+-- "Cell 3 of model A prints as `[[1 1{[]}]]`", the root of start 1: whatever answer meets demand 1 with 14 bytes lent has printed it, and 0 after it
+pub prints-A : (d : BracketsDone) → BracketsStates (bracketsA 1 14) d → (d .reply ≡ Printed 11) × (d .text ≡ ascii "[[1 1{[]}]]" ++ zeros 3)
+unfolding computed bracketsA
+prints-A d s = let e = brackets-only (bracketsA 1 14) d s in (ap (λ (z : BracketsDone). z .reply) e, ap (λ (z : BracketsDone). z .text) e)
+
+-- none of 1 to 7 and 12 applies to start 1, whatever is lent
+early-A : (text : ℕ) → Returned bracketsEarly (bracketsA 1 text) 0
+unfolding computed bracketsA Returned
+early-A text = brackets-exactly (bracketsA 1 11) .printed 11 .0 refl .0
+
+-- so it is printed in 11 bytes and in more, and refused with 13 in fewer
+pub printed-A : (text : ℕ) → 11 ≤ text → bracketsService (bracketsA 1 text) .reply ≡ Printed 11
+unfolding computed bracketsA
+printed-A text h = brackets-exactly (bracketsA 1 text) .printed 11 .1 (early-A text, refl, h)
+
+pub longer-A : (text : ℕ) → text < 11 → bracketsService (bracketsA 1 text) .reply ≡ Refused 13
+unfolding computed bracketsA
+longer-A text h = brackets-exactly (bracketsA 1 text) .longer .1 (early-A text, h)
 
 -- model A in a tool's codes is refused with none of 1, 2 and 12, so it is answered as model A
 pub readable-tool : Readable caseTool

@@ -7,6 +7,7 @@ pub mod Demand1
 pub mod Demand2
 pub mod Demand3
 pub mod Replays
+pub mod Brackets
 pub mod Finished
 pub mod Rewritten
 pub mod Determined

@@ -2,6 +2,7 @@
 -- Assumes nothing.
 pub mod Codes
 pub mod Laws
+pub mod Brackets
 use Prim.Native.Nat.{ℕ, _%_, _≤_, _<_}
 use mathlib.Core.Bool.{Bool, false}
 use mathlib.Core.Path.{_≡_}
@@ -16,6 +17,7 @@ use Rattle.services.specs.Saturate.{Lent}
 use Rattle.services.specs.Judge.{JudgeInput, judgeLent, judgeFiles}
 use Rattle.services.specs.Guide.{GuideInput, guideLent, guideFiles}
 use Rattle.services.specs.Replay.{ReplayInput, replayFiles}
+use Rattle.services.specs.Brackets.{BracketsInput, bracketsFiles, rootText}
 use Rattle.demands.specs.Size.{Exceeds}
 use Rattle.demands.specs.Traces.{CellsMissing}
 
@@ -118,6 +120,10 @@ TraceOdd x = length (x .trace) % 2 ≡ 1
 
 -- 11 is `CellsMissing` in Traces.antt.
 
+-- 13, "after 7": "the text is longer than the bytes lent".
+abbrev pub TextLonger : BracketsInput → Type 0
+TextLonger x = x .text < length (rootText x)
+
 -- ---- the numbers of each service, in the order of the tests
 
 abbrev pub caseRefusals : {X : Type 0} → (X → List ℕ) → List (Refusal X)
@@ -153,3 +159,11 @@ earlyRefusals =
 
 abbrev pub replayRefusals : List (Refusal ReplayInput)
 replayRefusals = earlyRefusals ++ (refusal 11 CellsMissing ∷ [])
+
+-- of brackets, 13 left out
+abbrev pub bracketsEarly : List (Refusal BracketsInput)
+bracketsEarly = caseRefusals (λ x. x .case) ++ (startRefusals bracketsFiles ++ (refusal 7 (λ x. StartMissing (x .start) (x .number)) ∷ []))
+
+-- "1 to 7 and 12 hold here too."
+abbrev pub bracketsRefusals : List (Refusal BracketsInput)
+bracketsRefusals = bracketsEarly ++ (refusal 13 TextLonger ∷ [])

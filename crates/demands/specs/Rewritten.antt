@@ -17,8 +17,9 @@ use Rattle.services.specs.Guide.{GuideDone, guideService}
 use Rattle.services.specs.Replay.{ReplayDone, replayService}
 use Rattle.services.specs.Listing.{listingText}
 use Rattle.services.specs.Run.{runText}
+use Rattle.services.specs.Brackets.{BracketsDone, bracketsService, showText}
 use Rattle.demands.specs.Refusals.{CodesWrong}
-use Rattle.demands.specs.Demand1.{SaturateStates, JudgeStates, GuideStates, ReplayStates}
+use Rattle.demands.specs.Demand1.{SaturateStates, JudgeStates, GuideStates, ReplayStates, BracketsStates}
 use Rattle.demands.specs.Demand3.{Guides}
 
 -- ---- the case rewritten
@@ -39,7 +40,7 @@ RewritingIs = (case : List ℕ) → casePlaced case ≡ true → IsRewriting cas
 -- ---- its answers
 
 -- Every service answers the one case as the other, with the same reply and the same words in all that is lent, for every start file, number,
--- trace and length of what is lent; and both programs print the same.
+-- trace and length of what is lent; and the three programs print the same.
 pub record AnswersAs (case other : List ℕ) : Type 0 where
   pub saturates : (moves entries : ℕ)
       → saturateService (record { case = case; moves = moves; entries = entries }) ≡ saturateService (record { case = other; moves = moves; entries = entries })
@@ -52,8 +53,12 @@ pub record AnswersAs (case other : List ℕ) : Type 0 where
   pub replays : (start : List ℕ) (number : ℕ) (trace : List ℕ) (cells : ℕ)
       → replayService (record { case = case; start = start; number = number; trace = trace; cells = cells })
       ≡ replayService (record { case = other; start = start; number = number; trace = trace; cells = cells })
+  pub prints : (start : List ℕ) (number text : ℕ)
+      → bracketsService (record { case = case; start = start; number = number; text = text })
+      ≡ bracketsService (record { case = other; start = start; number = number; text = text })
   pub lists : (start : List ℕ) → listingText (record { case = case; start = start }) ≡ listingText (record { case = other; start = start })
   pub runs : (start : List ℕ) (number : ℕ) → runText (record { case = case; start = start }) number ≡ runText (record { case = other; start = start }) number
+  pub shows : (start : List ℕ) (number : ℕ) → showText (record { case = case; start = start }) number ≡ showText (record { case = other; start = start }) number
 
 -- A case that is refused with none of 1, 2 and 12 is answered as its rewriting.
 abbrev pub Rewritten : Type 0
@@ -61,8 +66,8 @@ Rewritten = (case : List ℕ) → Readable case → AnswersAs case (rewriting ca
 
 -- ---- answers of any program
 
--- Whatever answer meets the demands for the one case, and whatever meets them for the other, are the same: demand 1 of saturate, judge and
--- replay, demands 1 and 3 of guide.
+-- Whatever answer meets the demands for the one case, and whatever meets them for the other, are the same: demand 1 of saturate, judge, replay
+-- and brackets, demands 1 and 3 of guide.
 pub record SharesAnswers (case other : List ℕ) : Type 0 where
   pub saturates : (moves entries : ℕ) (d e : SaturateDone)
       → SaturateStates (record { case = case; moves = moves; entries = entries }) d
@@ -81,6 +86,10 @@ pub record SharesAnswers (case other : List ℕ) : Type 0 where
   pub replays : (start : List ℕ) (number : ℕ) (trace : List ℕ) (cells : ℕ) (d e : ReplayDone)
       → ReplayStates (record { case = case; start = start; number = number; trace = trace; cells = cells }) d
       → ReplayStates (record { case = other; start = start; number = number; trace = trace; cells = cells }) e
+      → d ≡ e
+  pub prints : (start : List ℕ) (number text : ℕ) (d e : BracketsDone)
+      → BracketsStates (record { case = case; start = start; number = number; text = text }) d
+      → BracketsStates (record { case = other; start = start; number = number; text = text }) e
       → d ≡ e
 
 abbrev pub Shared : Type 0

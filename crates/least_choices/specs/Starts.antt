@@ -21,7 +21,7 @@ use Rattle.cell_memory.specs.Memory.{valueOf, withCell}
 use Rattle.acceptance_words.specs.Rows.{roundIn}
 use Rattle.acceptance.specs.Named.{TablesNamed}
 use Rattle.acceptance.specs.Cells.{annotationOrderAt}
-use Rattle.acceptance.specs.Cells.Body.{cellsIn}
+use Rattle.start_records.specs.Body.{cellsIn}
 use Rattle.least_choices.specs.Choices.{leastMet}
 
 -- The numbers of moves and of edges fit 16 bits, the entries being at most 64.

@@ -11,7 +11,7 @@ ghost use Rattle.cell_memory.specs.Memory.{cellOf, guidedIn};
 ghost use Rattle.acceptance_words.specs.Rows.{roundIn};
 ghost use Rattle.acceptance.specs.Named.{MovesNamed, EdgesNamed, TablesNamed};
 ghost use Rattle.acceptance.specs.Cells.{PartsBelow};
-ghost use Rattle.acceptance.specs.Cells.Body.{cellsIn};
+ghost use Rattle.start_records.specs.Body.{cellsIn};
 ghost use Rattle.least_choices.specs.Choices.{choiceIf, leastMet};
 ghost use Rattle.least_choices.specs.Starts.{Few, Prepared, moveMet, edgeMet, choicesBy, withStart, startCells};
 use cell_memory::Cell;

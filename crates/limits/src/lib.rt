@@ -155,4 +155,10 @@ impl Limits {
     pub const RUN_TRACE: usize = 65536;
 
     pub const RUN_TEXT: usize = Limits::RUN_TRACE * 6 + 80;
+
+    // ---- what the program `show` lends, and the bytes of its text: with a line end
+
+    pub const SHOW_BYTES: usize = 65536;
+
+    pub const SHOW_TEXT: usize = Limits::SHOW_BYTES + 1;
 }

@@ -10,6 +10,7 @@ use Rattle.files.specs.Rewriting
 use Rattle.files.specs.Start
 use Rattle.files.specs.Writing
 use Rattle.replies.specs.Numbers
+use Rattle.services.specs.Brackets
 use Rattle.services.specs.Guide
 use Rattle.services.specs.Judge
 use Rattle.services.specs.Listing
@@ -39,6 +40,10 @@ open-start = 0
 unfoldable pub open-rewriting : ℕ
 unfolding Writing.bytesOf Writing.flat Writing.line Writing.contents Writing.encode Writing.decodeFrom Writing.decode Rewriting.ruled Rewriting.rewriting
 open-rewriting = 0
+
+unfoldable pub open-brackets : ℕ
+unfolding Brackets.between Brackets.symbolsText Brackets.stackText Brackets.bracketsFiles Brackets.rootText Brackets.lengthTests Brackets.bracketsRefusal Brackets.bracketsAnswer Brackets.bracketsService Brackets.showInput Brackets.shown Brackets.showText
+open-brackets = 0
 
 unfoldable pub open-guide : ℕ
 unfolding Guide.guideLent Guide.guideFiles Guide.numberTests Guide.guideRefusal Guide.cellWords Guide.cellsLent Guide.startNamed Guide.guideWalk Guide.accepted Guide.guideRun Guide.guideLeft Guide.refused Guide.guideAnswer Guide.guideService
@@ -73,9 +78,9 @@ unfolding Saturate.saturated Saturate.tooLarge Saturate.sizeTests Saturate.satur
 open-saturate = 0
 
 unfoldable pub open-files : ℕ
-unfolding Files.two Files.line Files.headWith Files.head Files.rule Files.entry Files.finalEntry Files.plain Files.start Files.empty1 Files.symbol Files.empty2 Files.above Files.caseA Files.startA Files.caseBWith Files.caseB Files.startB Files.caseBFinal Files.startLone Files.startEmpty Files.caseBTwice Files.caseBNamed Files.caseBOther Files.caseFinished Files.startFinished Files.caseC Files.startC Files.startCC Files.caseCircle Files.casePast Files.caseCollapse Files.startCollapse Files.caseCoded Files.toolCodes Files.toolRules Files.caseTool Files.zeroCodes Files.twiceCodes Files.caseToolZero Files.caseToolTwice Files.caseToolBroken Files.caseToolSymbols Files.caseToolOurs Files.caseToolEarly Files.caseToolFour Files.caseAFive Files.caseTurned Files.times Files.startsA Files.rulesA Files.itselfA
+unfolding Files.two Files.line Files.headWith Files.head Files.rule Files.entry Files.finalEntry Files.plain Files.start Files.empty1 Files.symbol Files.empty2 Files.above Files.caseA Files.startA Files.caseBWith Files.caseB Files.startB Files.caseBFinal Files.startLone Files.startEmpty Files.caseBTwice Files.caseBNamed Files.caseBOther Files.caseFinished Files.startFinished Files.caseC Files.startC Files.startCC Files.caseCircle Files.casePast Files.caseCollapse Files.startCollapse Files.caseBrackets Files.startBrackets Files.caseCoded Files.toolCodes Files.toolRules Files.caseTool Files.zeroCodes Files.twiceCodes Files.caseToolZero Files.caseToolTwice Files.caseToolBroken Files.caseToolSymbols Files.caseToolOurs Files.caseToolEarly Files.caseToolFour Files.caseAFive Files.caseTurned Files.times Files.startsA Files.rulesA Files.itselfA
 open-files = 0
 
 unfoldable pub computed : ℕ
-unfolding open-bytes open-codes open-case open-start open-rewriting open-replies open-guide open-judge open-listing open-memory open-replay open-run open-saturate open-files Computing.computed
+unfolding open-bytes open-codes open-case open-start open-rewriting open-replies open-brackets open-guide open-judge open-listing open-memory open-replay open-run open-saturate open-files Computing.computed
 computed = 0

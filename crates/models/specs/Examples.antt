@@ -13,6 +13,8 @@ use Rattle.replies.specs.declared.Reply.{Reply}
 use Rattle.replies.specs.declared.Reply.the-variants.{NoRun, Walked}
 use Rattle.replies.specs.declared.Replayed.{Replayed}
 use Rattle.replies.specs.declared.Replayed.the-variants.{Refused, Accepted, FailsAt}
+use Rattle.replies.specs.declared.Brackets.{Brackets}
+use Rattle.replies.specs.declared.Brackets.the-variants as Brackets
 use Rattle.files.specs.Case.{ownOf, rulesOf}
 use Rattle.files.specs.Rewriting.{rewriting}
 use Rattle.words.specs.Lists.{zeros}
@@ -22,9 +24,10 @@ use Rattle.services.specs.Guide.{guideService}
 use Rattle.services.specs.Replay.{replayService}
 use Rattle.services.specs.Listing.{listingText, ascii}
 use Rattle.services.specs.Run.{runText, numberNamed}
+use Rattle.services.specs.Brackets.{bracketsService, showText}
 use Rattle.models.specs.Computing.{computed}
 use Rattle.models.specs.Files.{two, caseA, startA, caseB, startB, caseBFinal, startLone, startEmpty, caseBTwice, caseBNamed, caseBOther, caseFinished, startFinished, caseC, startC, startCC, casePast, caseCollapse, startCollapse, startsA, rulesA, itselfA}
-use Rattle.models.specs.Files.{caseTool, caseToolZero, caseToolTwice, caseToolBroken, caseToolSymbols, caseToolOurs, caseToolEarly, caseToolFour, caseAFive, caseTurned}
+use Rattle.models.specs.Files.{caseBrackets, startBrackets, caseTool, caseToolZero, caseToolTwice, caseToolBroken, caseToolSymbols, caseToolOurs, caseToolEarly, caseToolFour, caseAFive, caseTurned}
 
 -- ---- what an example says
 
@@ -44,6 +47,10 @@ pub data Example : Type 0 where
   lists : List ℕ → List ℕ → List ℕ → Example
   -- the text that the program `run` prints for the number that these bytes name
   runs : List ℕ → List ℕ → List ℕ → List ℕ → Example
+  -- brackets of the start of this number, with so many bytes lent for the text: its reply, and what these bytes hold
+  prints : List ℕ → List ℕ → ℕ → ℕ → Brackets → List ℕ → Example
+  -- the text that the program `show` prints for the start of this number
+  shows : List ℕ → List ℕ → ℕ → List ℕ → Example
 
 -- The example is what the definitions give. All other lent memory is zero.
 abbrev pub Holds : Example → Type 0
@@ -62,6 +69,9 @@ Holds (replays case start number trace cells reply) =
     ≡ record { reply = reply; cells = zeros cells }
 Holds (lists case start text) = listingText (record { case = case; start = start }) ≡ text
 Holds (runs case start argument text) = runText (record { case = case; start = start }) (numberNamed argument) ≡ text
+Holds (prints case start number lent reply text) =
+    bracketsService (record { case = case; start = start; number = number; text = lent }) ≡ record { reply = reply; text = text }
+Holds (shows case start number text) = showText (record { case = case; start = start }) number ≡ text
 
 abbrev pub AllHold : List Example → Type 0
 AllHold [] = Unit {0}
@@ -190,6 +200,31 @@ examples =
     ∷ saturates caseToolEarly 17 1 0 0 (zeros 17) (zeros 7)
     ∷ saturates caseToolFour 17 1 0 0 (zeros 17) (zeros 7)
     ∷ saturates caseAFive 17 1 0 0 (zeros 17) (zeros 7)
+    -- Document 02, 6: "cell 3 of model A prints as `[[1 1{[]}]]`", the root of start 1. "The reply is the text's length; bytes after it are zero."
+    ∷ prints caseA startA 1 14 (Brackets.Printed 11) (ascii "[[1 1{[]}]]" ++ zeros 3)
+    ∷ prints caseA startA 1 11 (Brackets.Printed 11) (ascii "[[1 1{[]}]]")
+    -- 13: "the text is longer than the bytes lent, after 7"
+    ∷ prints caseA startA 1 10 (Brackets.Refused 13) (zeros 10)
+    ∷ prints caseA startA 3 0 (Brackets.Refused 7) []
+    -- "1 to 7 and 12 hold here too": a byte twice in a tool's record of codes, a cell that names itself
+    ∷ prints caseToolTwice startA 1 14 (Brackets.Refused 12) (zeros 14)
+    ∷ prints caseA itselfA 0 14 (Brackets.Refused 6) (zeros 14)
+    -- "Top first", "nothing between stacks": the root of start 0 is cell 5, which is 4 on 3.
+    ∷ prints caseA startA 0 20 (Brackets.Printed 20) (ascii "[[0 1{[]}][1 1{[]}]]")
+    -- the empty order-2 stack, and the empty order-1 stack alone
+    ∷ prints caseB startEmpty 2 4 (Brackets.Printed 2) (ascii "[]" ++ zeros 2)
+    ∷ prints caseB startEmpty 0 4 (Brackets.Printed 4) (ascii "[[]]")
+    -- "A symbol's annotation may hold either. The annotation's order, 1 or 2, stands before its brace, after the symbol and a space."
+    ∷ prints caseBrackets startBrackets 0 11 (Brackets.Printed 11) (ascii "[[0 1{[]}]]")
+    ∷ prints caseBrackets startBrackets 1 11 (Brackets.Printed 11) (ascii "[[0 2{[]}]]")
+    ∷ prints caseCollapse startCollapse 0 18 (Brackets.Printed 18) (ascii "[[0 1{[0 1{[]}]}]]")
+    ∷ prints caseCollapse startCollapse 1 20 (Brackets.Printed 20) (ascii "[[0 2{[[0 1{[]}]]}]]")
+    -- "Each symbol as its number, a space between symbols"; "shared cells are written out each time".
+    ∷ prints caseBrackets startBrackets 2 60 (Brackets.Printed 58) (ascii "[[10 2{[[][0 2{[]}]]} 31 1{[0 1{[]}]} 0 1{[]}][][0 2{[]}]]" ++ zeros 2)
+    -- `show` prints the text and a line end, or a refusal.
+    ∷ shows caseA startA 0 (ascii "[[0 1{[]}][1 1{[]}]]\n")
+    ∷ shows caseA startA 1 (ascii "[[1 1{[]}]]\n")
+    ∷ shows caseA startA 3 (ascii "refused 7\n")
     -- "At the edges: 64 starts pass, 65 give 5; 256 rules pass, 257 give 1; a cell naming itself gives 6."
     ∷ judges caseA (startsA 64) 64 0 (replicate 64 1)
     ∷ judges caseA (startsA 65) 65 5 (zeros 65)
@@ -203,4 +238,4 @@ examples =
 pub all-hold : AllHold examples
 unfolding computed Models.ownA Models.firstA Models.tableA
 all-hold =
-    (refl, (refl, (refl, (refl, (refl, (refl, (refl, (refl, (refl, (refl, (refl, (refl, (refl, (refl, (refl, (refl, (refl, (refl, (refl, (refl, (refl, (refl, (refl, (refl, (refl, (refl, (refl, (refl, (refl, (refl, (refl, (refl, (refl, (refl, (refl, (refl, (refl, (refl, (refl, (refl, (refl, (refl, (refl, (refl, (refl, (refl, (refl, (refl, (refl, (refl, (refl, (refl, (refl, (refl, (refl, (refl, (refl, (refl, (refl, (refl, (refl, (refl, (refl, (refl, (refl, (refl, (refl, (refl, (refl, (refl, (refl, (refl, (refl, (refl, (refl, (refl, tt))))))))))))))))))))))))))))))))))))))))))))))))))))))))))))))))))))))))))))
+    (refl, (refl, (refl, (refl, (refl, (refl, (refl, (refl, (refl, (refl, (refl, (refl, (refl, (refl, (refl, (refl, (refl, (refl, (refl, (refl, (refl, (refl, (refl, (refl, (refl, (refl, (refl, (refl, (refl, (refl, (refl, (refl, (refl, (refl, (refl, (refl, (refl, (refl, (refl, (refl, (refl, (refl, (refl, (refl, (refl, (refl, (refl, (refl, (refl, (refl, (refl, (refl, (refl, (refl, (refl, (refl, (refl, (refl, (refl, (refl, (refl, (refl, (refl, (refl, (refl, (refl, (refl, (refl, (refl, (refl, (refl, (refl, (refl, (refl, (refl, (refl, (refl, (refl, (refl, (refl, (refl, (refl, (refl, (refl, (refl, (refl, (refl, (refl, (refl, (refl, (refl, (refl, (refl, tt)))))))))))))))))))))))))))))))))))))))))))))))))))))))))))))))))))))))))))))))))))))))))))))

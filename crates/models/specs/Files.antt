@@ -235,6 +235,32 @@ startCollapse =
     ++ symbol 0 3 0
     ++ above 6 2
 
+-- ---- a start as brackets
+
+-- P 1, I 0, J 0, A 32; no rule, edge or move
+unfoldable pub caseBrackets : List ℕ
+caseBrackets = (4 ∷ []) ++ line 1 1 33 ++ line 2 0 47 ++ line 3 0 47 ++ line 4 0 47 ++ head 1 0 0 32
+
+-- For it: symbol 0 annotated by the empty order-1 stack, by the empty order-2 stack, and a stack on cells that are shared. Cells: 0 empty order-1; 1 empty
+-- order-2; 2 symbol 0 on 0 annotated 0; 3 is 2 on 1; 4 symbol 0 on 0 annotated 1; 5 is 4 on 1; 6 symbol 31 on 2 annotated 2; 7 is 0 on 5; 8 symbol 10 on 6
+-- annotated 7; 9 is 8 on 7.
+unfoldable pub startBrackets : List ℕ
+startBrackets =
+    (2 ∷ []) ++ line 1 3 17 ++ line 2 10 26
+    ++ start 0 3
+    ++ start 0 5
+    ++ start 0 9
+    ++ empty1
+    ++ empty2
+    ++ symbol 0 0 0
+    ++ above 2 1
+    ++ symbol 0 1 0
+    ++ above 4 1
+    ++ symbol 31 2 2
+    ++ above 0 5
+    ++ symbol 10 7 6
+    ++ above 8 7
+
 -- ---- tools' own codes
 
 -- Model A's bodies and a fifth, this record of codes, behind this first byte, the first body at this offset: with so many symbols in its head

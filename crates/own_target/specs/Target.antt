@@ -5,7 +5,7 @@ use Prim.Native.Nat.{ℕ}
 use mathlib.Core.List.{List}
 use Rattle.stacks.specs.System.{Configuration}
 use Rattle.walks.specs.Cell.{order2, stackAt, stacks}
-use Rattle.acceptance.specs.Cells.Body.{cellsIn}
+use Rattle.start_records.specs.Body.{cellsIn}
 
 -- this control with the stack of cell `root`, of the first n
 abbrev pub configurationIn : ℕ → List ℕ → ℕ → ℕ → Configuration

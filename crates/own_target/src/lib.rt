@@ -7,7 +7,7 @@ ghost use Rattle.walks.specs.Cell.Formed.{Formed, orderAt};
 ghost use Rattle.files.specs.Case.{caseRefusal, ownOf};
 ghost use Rattle.tables.specs.Held.{automatonOf};
 ghost use Rattle.acceptance.specs.Named.{TablesNamed};
-ghost use Rattle.acceptance.specs.Cells.Body.{cellsIn};
+ghost use Rattle.start_records.specs.Body.{cellsIn};
 ghost use Rattle.own_target.specs.Target.{configurationIn};
 use limits::Limits;
 use tables::Table;

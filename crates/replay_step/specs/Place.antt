@@ -12,7 +12,7 @@ use Rattle.walks.specs.Cell.{order2, stackAt, stacks, cellsAfter, rootAfter}
 use Rattle.walks.specs.Cell.Formed.{Formed, orderAt}
 use Rattle.services.specs.Replay.{Taken, taken}
 use Rattle.cell_steps.specs.declared.Top.{Top}
-use Rattle.acceptance.specs.Cells.Body.{cellsIn}
+use Rattle.start_records.specs.Body.{cellsIn}
 use Rattle.replay_step.specs.declared.Place.{Place}
 use Rattle.replay_step.specs.declared.Stepped.{Stepped}
 use Rattle.replay_step.specs.declared.Stepped.the-variants.{Fails, Short, To}

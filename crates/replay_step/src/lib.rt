@@ -7,7 +7,7 @@ ghost use Rattle.case_records.specs.Values.{theOperation, theRule};
 ghost use Rattle.results.specs.Collecting.{rulesIn, RulesStand};
 ghost use Rattle.cell_memory.specs.Memory.{cellOf};
 ghost use Rattle.cell_steps.specs.Steps.{cellNumber, symbolOf};
-ghost use Rattle.acceptance.specs.Cells.Body.{cellsIn};
+ghost use Rattle.start_records.specs.Body.{cellsIn};
 ghost use Rattle.replay_step.specs.Top.{foundTop, topOn, topIn, takesOrder, ruleFits};
 ghost use Rattle.replay_step.specs.Place.{PlaceStands, Moved, RuleAnswers, StepAnswers};
 use case_records::Operation;
@@ -139,7 +139,7 @@ fn step_by(rule: Rule, x: Top, cells: &mut [u8], most: usize, w: Place) -> Stepp
     requires { ⌜ (w .cells ≤ most) × (most * 6 ≤ length (now cells)) × (most ≤ 4096) ⌝ }
     ensures { λ r. ⌜ RuleAnswers (theRule rule) most w (now (cells .entry)) r (now (cells .exit)) ⌝ }
 {
-    let order = acceptance::order_at(cells, w.cells, x.annotation as usize);
+    let order = start_records::order_at(cells, w.cells, x.annotation as usize);
     if !rule_fits(rule, w.control, x.symbol, order) {
         return Stepped::Fails;
     }

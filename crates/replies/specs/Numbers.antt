@@ -11,6 +11,8 @@ use Rattle.replies.specs.declared.Reply.{Reply}
 use Rattle.replies.specs.declared.Reply.the-variants.{Refused, NoRun, Walked}
 use Rattle.replies.specs.declared.Replayed.{Replayed}
 use Rattle.replies.specs.declared.Replayed.the-variants as Replayed
+use Rattle.replies.specs.declared.Brackets.{Brackets}
+use Rattle.replies.specs.declared.Brackets.the-variants as Brackets
 
 -- "0 for no, otherwise that round plus 1."
 unfoldable pub answerWord : Acceptance → ℕ
@@ -57,3 +59,13 @@ abbrev pub replayStep : Replayed → ℕ
 replayStep (Replayed.Refused n) = 0
 replayStep Replayed.Accepted = 0
 replayStep (Replayed.FailsAt n) = n
+
+-- The same for what brackets answers: document 02's number of a refusal, and 0 for a text that is printed.
+abbrev pub bracketsNumber : Brackets → ℕ
+bracketsNumber (Brackets.Refused n) = n
+bracketsNumber (Brackets.Printed k) = 0
+
+-- "The reply is the text's length", 0 in a refusal.
+abbrev pub bracketsLength : Brackets → ℕ
+bracketsLength (Brackets.Refused n) = 0
+bracketsLength (Brackets.Printed k) = k

@@ -39,3 +39,9 @@ pub enum Replayed {
     Accepted,
     FailsAt(u64),
 }
+
+// What brackets answers: a refusal, or the length of the text that it has printed.
+pub enum Brackets {
+    Refused(u64),
+    Printed(usize),
+}

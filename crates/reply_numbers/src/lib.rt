@@ -1,6 +1,7 @@
-// The answers of guide and replay as numbers, for a caller that has no enums.
+// The answers of guide, replay and brackets as numbers, for a caller that has no enums.
 ghost use mathlib.Core.Path.{_≡_};
-ghost use Rattle.replies.specs.Numbers.{numberOf, replyCounts, replayNumber, replayStep};
+ghost use Rattle.replies.specs.Numbers.{numberOf, replyCounts, replayNumber, replayStep, bracketsNumber, bracketsLength};
+use replies::Brackets;
 use replies::Counts;
 use replies::Halt;
 use replies::Replayed;
@@ -55,5 +56,25 @@ pub fn replay_step(reply: Replayed) -> u64
         Replayed::Refused(_) => 0,
         Replayed::Accepted => 0,
         Replayed::FailsAt(n) => n,
+    }
+}
+
+// The number of an answer of brackets.
+pub fn brackets_number(reply: Brackets) -> u64
+    ensures { λ r. ⌜ r ≡ bracketsNumber reply ⌝ }
+{
+    match reply {
+        Brackets::Refused(n) => n,
+        Brackets::Printed(_) => 0,
+    }
+}
+
+// The length of the text that brackets has printed, and 0 where it has printed none.
+pub fn brackets_length(reply: Brackets) -> usize
+    ensures { λ r. ⌜ r ≡ bracketsLength reply ⌝ }
+{
+    match reply {
+        Brackets::Refused(_) => 0,
+        Brackets::Printed(length) => length,
     }
 }

@@ -5,4 +5,5 @@ pub mod Guide
 pub mod Replay
 pub mod Listing
 pub mod Run
+pub mod Brackets
 pub mod Laws

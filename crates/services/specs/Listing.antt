@@ -1,5 +1,6 @@
 -- The text that the printing program prints for a case file and a start file.
 -- Assumes nothing.
+pub mod Decimal
 use Prim.Native.Nat.{ℕ, zero, suc, _+_, _-_, _*_, _/_, _%_}
 use Prim.Native.Char.{code}
 use Prim.Native.String.{String}

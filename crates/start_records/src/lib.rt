@@ -6,8 +6,10 @@ ghost use lib.ListN.{length};
 ghost use Rattle.files.specs.Bytes.{records};
 ghost use Rattle.files.specs.Start.{startOf, cellBytes, orderOf, refersTo, cellRight, startRight, cellOf};
 ghost use Rattle.bytes_in.specs.Records.{recordAt};
+ghost use Rattle.walks.specs.Cell.Formed.{cellOrder, orderAt};
 ghost use Rattle.cell_memory.specs.Memory;
 ghost use Rattle.start_records.specs.Values.{theStart, theFields, FieldsSmall};
+ghost use Rattle.start_records.specs.Body.{cellsIn};
 ghost use Rattle.start_records.specs.Cells.{emptyRight, symbolRight, aboveRight};
 use cell_memory::Cell;
 use limits::Limits;
@@ -94,6 +96,29 @@ pub fn cell_at(body: &[u8], i: usize) -> Cell
     ensures { λ r. ⌜ Memory.cellOf r ≡ cellOf (cellBytes (recordAt 6 i (now (body .entry)))) ⌝ }
 {
     cell_of(fields_at(body, i))
+}
+
+// The order of the stack that a cell stands for.
+fn cell_order(cell: Cell) -> u64
+    ensures { λ r. ⌜ r ≡ cellOrder (Memory.cellOf cell) ⌝ }
+{
+    match cell {
+        Cell::Empty1 => 1,
+        Cell::Symbol(_, _, _) => 1,
+        Cell::Empty2 => 2,
+        Cell::Above(_, _) => 2,
+    }
+}
+
+// The order of cell i, of the first n in the body, and 1 where there is none.
+pub fn order_at(body: &[u8], n: usize, i: usize) -> u64
+    requires { ⌜ n * 6 ≤ length (now body) ⌝ }
+    ensures { λ r. ⌜ r ≡ orderAt (cellsIn n (now (body .entry))) i ⌝ }
+{
+    if n <= i {
+        return 1;
+    }
+    cell_order(cell_at(body, i))
 }
 
 // ---- bounds

@@ -1,8 +1,8 @@
 -- The words of a start file's cells say since when each start is accepted.
 -- Assumes nothing.
 use Prim.Native.Nat.{ℕ, _<_}
-use mathlib.Core.Path.{_≡_, ap, sym, _∙_}
-use mathlib.Core.List.{List, map, map-map}
+use mathlib.Core.Path.{_≡_, ap, _∙_}
+use mathlib.Core.List.{List}
 use lib.ListN.{length}
 use Rattle.automata.specs.Saturation.{Saturated}
 use Rattle.replies.specs.declared.Acceptance.{Acceptance}
@@ -10,20 +10,10 @@ use Rattle.rounds.specs.Won.{round1, round2, roundOfStack}
 use Rattle.walks.specs.Cell.{stacks, stackAt}
 use Rattle.walks.specs.Cell.Laws.{stack-order, annotation-of2}
 use Rattle.walks.specs.Cell.Formed.{orderAt}
-use Rattle.files.specs.Bytes.{countOf, recordsOf}
-use Rattle.files.specs.Start.{Start, cellBytes, cellOf, cellRecords, cellsOf, configurationOf}
-use Rattle.bytes_in.specs.Records.{bodyOf}
-use Rattle.bytes_in.specs.Records.Laws.{body-records}
+use Rattle.files.specs.Start.{Start, cellsOf, configurationOf}
 use Rattle.acceptance_words.specs.Rows.{roundIn}
 use Rattle.acceptance.specs.Cells.{RoundsStand}
 use Rattle.acceptance.specs.Cells.Laws.{StatesBelow, round-filled}
-use Rattle.acceptance.specs.Cells.Body.{cellRead, cellsIn}
-
--- the cells of the file are those of its second body
-pub cells-body : (file : List ℕ) → cellsIn (countOf file 1) (bodyOf file 1 6) ≡ cellsOf file
-unfolding cellsIn cellsOf cellRecords
-cells-body file =
-    ap (map cellRead) (sym (body-records file 1 6)) ∙ sym (map-map cellOf cellBytes (recordsOf file 1 6))
 
 -- the word of the root and the control says since when the start is accepted
 pub start-round : (T : Saturated) → StatesBelow (T .table) → (file : List ℕ) {rounds : List ℕ} {n : ℕ} → RoundsStand T (cellsOf file) rounds n

@@ -9,12 +9,16 @@ use mathlib.Core.List.{List, [], _∷_, map}
 use native.Mathlib.Nat.{le-trans, lt-irrefl, lt-of-lt-of-le}
 use native.Mathlib.Omega.{arith}
 use lib.ListN.{length, length-map}
-use borrow.Author.Tests.{eqb-false}
+use lib.Dec.{eqb}
+use borrow.Author.Tests.{eqb-true, eqb-false}
+use Rattle.words.specs.Lists.{zeros}
 use Rattle.words.specs.Lists.Laws.{length-zeros}
+use Rattle.words.specs.Laws.Tests.{by-test}
 use Rattle.automata.specs.Saturation.{Saturated}
 use Rattle.rounds.specs.Limits.{KeepsLimits, saturate-some, within-keeps}
 use Rattle.replies.specs.declared.Replayed.{Replayed}
 use Rattle.replies.specs.declared.Replayed.the-variants as Replayed
+use Rattle.replies.specs.declared.Brackets.the-variants as Brackets
 use Rattle.replies.specs.Numbers.{countsOf}
 use Rattle.walks.specs.Guide.{Report, walkedBy, noRun}
 use Rattle.files.specs.Case.{caseRefusal, ownOf, rulesOf}
@@ -29,16 +33,19 @@ use Rattle.services.specs.Guide.{GuideInput, GuideDone, accepted, guideFiles, g
 use Rattle.services.specs.Guide.Laws.{GuideCase, Started, start-missing, no-run, cells-short, walked, guide-cases, walk-goes, walk-short}
 use Rattle.services.specs.Replay.{ReplayInput, ReplayDone, replayFiles, replayRun, replayService}
 use Rattle.services.specs.Replay.Laws.{Replays, replies, ReplayCase, trace-odd, start-short, replays, replay-cases}
+use Rattle.services.specs.Brackets.{BracketsInput, rootText, bracketsRefusal, bracketsService}
+use Rattle.services.specs.Brackets.Laws.{answer-refused, answer-printed}
 use Rattle.demands.specs.Size.{Exceeds}
 use Rattle.demands.specs.Size.Laws.{saturated-table, none-exceeds, exceeds-none}
 use Rattle.demands.specs.Traces.{CellsMissing}
 use Rattle.demands.specs.Traces.Laws.{Ends, accepts, fails-at, is-short, replay-ends, fault-fits, fails-fits}
 use Rattle.demands.specs.Refusals.{Refusal, refusal, Returned, AnswersShort, StartMissing, TraceOdd}
-use Rattle.demands.specs.Refusals.{saturateRefusals, judgeRefusals, guideRefusals, replayRefusals}
+use Rattle.demands.specs.Refusals.{saturateRefusals, judgeRefusals, guideRefusals, replayRefusals, bracketsRefusals}
 use Rattle.demands.specs.Refusals.Laws.{case-returned, past-case, files-case, files-start, past-files, applies-here, applies-not, none-applies}
+use Rattle.demands.specs.Refusals.Brackets.{brackets-returned, text-fits}
 use Rattle.demands.specs.FullRun.{fullTrace}
 use Rattle.demands.specs.FullRun.Laws.{full-short}
-use Rattle.demands.specs.Demand1.{SaturateStates, JudgeStates, Answered, GuideStates, ReplayAnswered, ReplayStates, Demand1}
+use Rattle.demands.specs.Demand1.{SaturateStates, JudgeStates, Answered, GuideStates, ReplayAnswered, ReplayStates, BracketsStates, Demand1}
 use Rattle.demands.specs.Laws.Accepted.{table-marks, mark-at, started-runs, started-none}
 use Rattle.demands.specs.Demand3.Answer.{walk-report}
 
@@ -251,5 +258,23 @@ module _ (x : ReplayInput) where
           (past-files x (λ y. y .case) replayFiles traceLines 11 s f (there-replay 11 t (even-replay 11 e (applies-here shortLine [] x (inl h)))))
       go d (replays p) = record { answered = ended-answered p (replayRun x) (replay-ends x (p .start-fits)); cells-zero = refl }
 
+-- ---- brackets
+
+module _ (x : BracketsInput) where
+  pub prints-states : (k : ℕ) → k ≡ length (rootText x) → Returned bracketsRefusals x 0
+      → BracketsStates x (record { reply = Brackets.Printed k; text = padded (x .text) (rootText x) })
+  prints-states k e r = record { answered = (r, e, refl); text-length = length-padded (x .text) (rootText x) (text-fits x r) }
+
+  pub refuses-states : (n : ℕ) → (n ≡ 0 → ⊥) → Returned bracketsRefusals x n → BracketsStates x (record { reply = Brackets.Refused n; text = zeros (x .text) })
+  refuses-states n bad r = record { answered = (r, bad, refl); text-length = length-zeros (x .text) }
+
+  pub demand1-brackets : BracketsStates x (bracketsService x)
+  unfolding bracketsService
+  demand1-brackets =
+      let r = brackets-returned x in
+      by-test (eqb (bracketsRefusal x) 0)
+      (λ z. let e = eqb-true _ 0 z in subst (BracketsStates x) (sym (answer-printed x _ e)) (prints-states _ refl (subst (Returned bracketsRefusals x) e r)))
+      (λ z. let bad = eqb-false _ 0 z in subst (BracketsStates x) (sym (answer-refused x _ bad)) (refuses-states _ bad r))
+
 pub demand1 : Demand1
-demand1 = (demand1-saturate, demand1-judge, demand1-guide, demand1-replay)
+demand1 = (demand1-saturate, demand1-judge, demand1-guide, demand1-replay, demand1-brackets)

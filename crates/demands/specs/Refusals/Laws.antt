@@ -312,7 +312,7 @@ both : {A B C : Type 0} → A ↔ B → B ↔ C → A ↔ C
 both (f, g) (h, k) = (λ a. h (f a), λ c. g (k c))
 
 module _ {X : Type 0} (x : X) where
-  case-agrees : (part : X → List ℕ) → Agree (testsOn part caseTests) (caseRefusals part) x
+  pub case-agrees : (part : X → List ℕ) → Agree (testsOn part caseTests) (caseRefusals part) x
   unfolding Agree testsOn caseTests
   case-agrees part =
       let rise = both (not-true (increasing (part x))) (not-increasing (part x)) in
@@ -323,7 +323,7 @@ module _ {X : Type 0} (x : X) where
         λ e. (refl, not-true (headRight (head (part x))), λ f. (refl, codes, λ g. (refl, bounds, λ h. (refl, rise, λ k. tt)))),
       )
 
-  start-agrees : (part : X → Files) → Agree (testsOn part startTests) (startRefusals part) x
+  pub start-agrees : (part : X → Files) → Agree (testsOn part startTests) (startRefusals part) x
   unfolding Agree testsOn startTests
   start-agrees part =
       let wrong = both (not-true (startFileRight (part x))) (start-wrong (part x)) in

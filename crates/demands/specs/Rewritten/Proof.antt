@@ -16,9 +16,9 @@ use Rattle.files.specs.Case.Refusal.{refusalBy, refusal-is}
 use Rattle.files.specs.Rewriting.{SameCase}
 use Rattle.files.specs.Rewriting.Laws.{same-heads, rules-rewritten, same-edges, same-moves, rewriting-first, rewriting-placed}
 use Rattle.files.specs.Rewriting.Laws.{is-placed, head-in-range, codes-differ, same-case}
-use Rattle.services.specs.Laws.SameCase.{saturate-alike, judge-alike, guide-alike, replay-alike, listing-alike, run-text-alike}
+use Rattle.services.specs.Laws.SameCase.{saturate-alike, judge-alike, guide-alike, replay-alike, brackets-alike, listing-alike, run-text-alike, show-alike}
 use Rattle.demands.specs.Refusals.Codes.{codes-wrong}
-use Rattle.demands.specs.Determined.{saturate-only, judge-only, guide-only, replay-only}
+use Rattle.demands.specs.Determined.{saturate-only, judge-only, guide-only, replay-only, brackets-only}
 use Rattle.demands.specs.Rewritten.{RewritingIs, AnswersAs, Rewritten, SharesAnswers, Shared, UnlistedCode, CodesRefused}
 
 -- ---- the case rewritten
@@ -44,8 +44,10 @@ answers-as s =
       judges = judge-alike s;
       guides = guide-alike s;
       replays = replay-alike s;
+      prints = brackets-alike s;
       lists = listing-alike s;
       runs = run-text-alike s;
+      shows = show-alike s;
     }
 
 pub rewritten : Rewritten
@@ -61,6 +63,7 @@ shares-answers a =
       guides = λ start number moves entries cells trace d e s f t g.
           guide-only _ d s f ∙ a .guides start number moves entries cells trace ∙ sym (guide-only _ e t g);
       replays = λ start number trace cells d e s t. replay-only _ d s ∙ a .replays start number trace cells ∙ sym (replay-only _ e t);
+      prints = λ start number text d e s t. brackets-only _ d s ∙ a .prints start number text ∙ sym (brackets-only _ e t);
     }
 
 pub shared : Shared

@@ -26,7 +26,7 @@ use Rattle.cell_memory.specs.Memory.{guidedIn}
 use Rattle.rounds.specs.Won.{acceptsStack}
 use Rattle.saturation.specs.Held.{saturatedIn}
 use Rattle.acceptance.specs.Cells.Laws.{states-below, cell-won}
-use Rattle.acceptance.specs.Cells.Body.{cellsIn}
+use Rattle.start_records.specs.Body.{cellsIn}
 use Rattle.least_choices.specs.Starts.{Prepared, startCells}
 use Rattle.guided_step.specs.declared.Walk.{Walk}
 use Rattle.guided_step.specs.Walks.{walkIn}

@@ -11,7 +11,7 @@ use Rattle.services.specs.Memory.{padded}
 use Rattle.words.specs.Lists.{zeros}
 use Rattle.services.specs.Saturate.{saturated}
 use Rattle.services.specs.Judge.{JudgeInput, JudgeDone, judgeLent, judgeLeft, judgeService, mark}
-use Rattle.tables.specs.Laws.Filled.{drop-zeros}
+use Rattle.words.specs.Lists.Laws.{drop-zeros}
 use Rattle.services.specs.Memory.Laws.{padded-none}
 use Rattle.sound_files.specs.Refusal.{FilesSound, refusedBefore}
 use Rattle.sound_files.specs.Saturated.{lentOf}

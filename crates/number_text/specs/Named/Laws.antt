@@ -13,7 +13,7 @@ use borrow.Author.Tests.{le-leb, lt-leb, ltb-true, ltb-false}
 use Rattle.words.specs.Laws.Tests.{by-test}
 use Rattle.words.specs.Lists.Laws.{length-zero}
 use Rattle.services.specs.Listing.{decimal}
-use Rattle.text.specs.Laws.Decimal.{decimal-one, decimal-more, length-more}
+use Rattle.services.specs.Listing.Decimal.{decimal-one, decimal-more, length-more}
 use Rattle.services.specs.Run.{noStart, withDigit, numberNamed}
 use Rattle.number_text.specs.Named.{ReadTo}
 

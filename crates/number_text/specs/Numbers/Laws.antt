@@ -11,7 +11,7 @@ use lib.Seq.{take-all}
 use Rattle.words.specs.Lists.{each}
 use Rattle.words.specs.Lists.Laws.{each-take, length-zero}
 use Rattle.services.specs.Listing.{ascii, decimal}
-use Rattle.text.specs.Laws.Decimal.{decimal-length}
+use Rattle.services.specs.Listing.Decimal.{decimal-length}
 use Rattle.text.specs.Written.{Written}
 use Rattle.text.specs.Written.Laws.{written-then, written-same, written-length}
 use Rattle.services.specs.Run.{spacedNumbers, numbersText}

@@ -29,7 +29,7 @@ use Rattle.acceptance.specs.Named.{TablesNamed}
 use Rattle.acceptance.specs.Table.{AutomatonSmall}
 use Rattle.acceptance.specs.Table.Laws.{stands}
 use Rattle.acceptance.specs.Cells.{RoundsStand}
-use Rattle.acceptance.specs.Cells.Body.{cellsIn, length-cellsIn}
+use Rattle.start_records.specs.Body.{cellsIn, length-cellsIn}
 use Rattle.acceptance.specs.Cells.Laws.{StatesBelow, cell-won}
 use Rattle.own_target.specs.Target.{configurationIn}
 

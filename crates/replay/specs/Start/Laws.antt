@@ -14,7 +14,7 @@ use Rattle.files.specs.Start.{Start, startOf, startsOf, cellsOf, startAt, confi
 use Rattle.files.specs.Start.Laws.{start-places}
 use Rattle.bytes_in.specs.Records.{recordAt, bodyOf}
 use Rattle.bytes_in.specs.Records.Laws.{length-body}
-use Rattle.acceptance.specs.Cells.Body.{cellsIn}
+use Rattle.start_records.specs.Body.{cellsIn}
 use Rattle.sound_files.specs.Sound.{StartSound}
 use Rattle.sound_files.specs.Sound.Laws.{cells-count}
 use Rattle.sound_files.specs.Sound.Rounds.{cells-are, start-read, start-listed}

@@ -17,7 +17,7 @@ use Rattle.cell_memory.specs.declared.Cell as Value
 use Rattle.cell_memory.specs.Memory as Memory
 use Rattle.cell_steps.specs.Steps.{putFrom, cellNumber, symbolOf}
 use Rattle.cell_steps.specs.Steps.Laws.{AllFit}
-use Rattle.acceptance.specs.Cells.Body.{cellRead, cellsIn}
+use Rattle.start_records.specs.Body.{cellRead, cellsIn}
 use Rattle.replay_cells.specs.CellBytes.{bytesOf, putBytes, cellSymbol}
 
 -- the cells of a start file, copied

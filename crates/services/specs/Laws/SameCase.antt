@@ -33,6 +33,8 @@ use Rattle.services.specs.Guide.{GuideDone, guideLeft, refused, guideAns
 use Rattle.services.specs.Replay.{ReplayInput, replayFiles, replayCells, traceTests, cellTests, replayRefusal, replayRun, replayReply, replayService}
 use Rattle.services.specs.Listing.{listingJudge, listingGuide, sizeLine, replyLine, roundWon, startLine, startLines, refusedText, judgedText, listingText}
 use Rattle.services.specs.Run.{runGuide, answerText, runText}
+use Rattle.services.specs.Brackets.{BracketsInput, bracketsFiles, rootText, lengthTests, bracketsRefusal, BracketsDone, bracketsAnswer, bracketsService}
+use Rattle.services.specs.Brackets.{showInput, shown, showText}
 
 -- ---- tests
 
@@ -174,6 +176,21 @@ module _ {one other : List ℕ} (s : SameCase one other) where
           cells = zeros cells;
         }
 
+  -- ---- brackets
+
+  module _ (start : List ℕ) (number text : ℕ) where
+    abbrev printing : List ℕ → BracketsInput
+    printing case = record { case = case; start = start; number = number; text = text }
+
+    brackets-refused-alike : bracketsRefusal (printing one) ≡ bracketsRefusal (printing other)
+    unfolding bracketsRefusal bracketsFiles rootText startTests numberTests lengthTests testsOn Alike
+    brackets-refused-alike =
+        refused-alike (λ x. x .case) _ (printing one) (printing other) (s .same-refusal) (refl, (ap not (start-alike start), (refl, (refl, tt))))
+
+    pub brackets-alike : bracketsService (printing one) ≡ bracketsService (printing other)
+    unfolding bracketsService bracketsAnswer rootText
+    brackets-alike = ap (bracketsAnswer (printing one)) brackets-refused-alike
+
   -- ---- the texts
 
   module _ (start : List ℕ) where
@@ -210,3 +227,7 @@ module _ {one other : List ℕ} (s : SameCase one other) where
     run-text-alike n =
         ap₂ (λ (r : ℕ) (d : GuideDone). answerText n r (d .reply) (d .trace)) (round-alike n)
         (guide-alike start n (1024 * 5) (64 * 2) (4096 * cellWords) 65536)
+
+    pub show-alike : (n : ℕ) → showText (files one) n ≡ showText (files other) n
+    unfolding showText showInput
+    show-alike n = ap (λ (d : BracketsDone). shown (d .reply) (d .text)) (brackets-alike start n 65536)

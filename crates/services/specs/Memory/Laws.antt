@@ -1,13 +1,14 @@
--- How long the words of lent memory are, and where they stand.
+-- How long the words of lent memory are, where they stand, and words written over zeros.
 -- Assumes nothing.
 use Prim.Native.Nat.{ℕ, zero, suc, _+_, _-_, _*_, _≤_}
 use mathlib.Core.Path.{_≡_, refl, ap, sym, _∙_}
 use mathlib.Core.List.{List, [], _∷_, _++_}
-use native.Mathlib.Nat.{zero-mul, suc-mul, sub-zero}
+use native.Mathlib.Nat.{zero-add, zero-mul, suc-mul, sub-zero}
 use native.Mathlib.Omega.{arith}
-use lib.ListN.{length, getD, length-append}
+use lib.ListN.{length, getD, drop, length-append}
+use lib.Seq.{sets, sets-eq}
 use Rattle.words.specs.Lists.{each, zeros}
-use Rattle.words.specs.Lists.Laws.{length-zeros}
+use Rattle.words.specs.Lists.Laws.{length-zeros, drop-zeros}
 use Rattle.automata.specs.Automaton.{Automaton}
 use Rattle.services.specs.Memory.{padded, moveWords, entryWords, moveTable, entryTable}
 
@@ -20,6 +21,15 @@ unfolding padded
 length-padded n ws h =
     let e : length (padded n ws) ≡ length ws + (n - length ws) = length-append ws (zeros (n - length ws)) ∙ ap (λ (k : ℕ). length ws + k) (length-zeros (n - length ws)) in
     omega arith
+
+-- words written from the start of a slice that is all zero
+pub sets-zeros : (n : ℕ) (ws : List ℕ) → length ws ≤ n → sets (zeros n) 0 ws ≡ padded n ws
+unfolding padded
+sets-zeros n ws h =
+    let l : length (zeros n) ≡ n = length-zeros n in
+    sets-eq ws (zeros n) 0 (omega arith)
+    ∙ ap (λ (k : ℕ). ws ++ drop k (zeros n)) (zero-add (length ws))
+    ∙ ap (λ (zs : List ℕ). ws ++ zs) (drop-zeros (length ws) n)
 
 -- zeros behind words change none, as there is 0 past their end
 getD-zeros : (ws : List ℕ) (k i : ℕ) → getD (ws ++ zeros k) i 0 ≡ getD ws i 0

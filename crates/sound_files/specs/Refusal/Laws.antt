@@ -1,16 +1,20 @@
 -- The refusal by the two files and the number of starts, test by test.
 -- Assumes nothing.
 use Prim.Native.Nat.{ℕ, _≤_, _<_}
-use mathlib.Core.Path.{_≡_, sym, _∙_}
-use mathlib.Core.List.{List}
+use mathlib.Core.Path.{_≡_, refl, ap, sym, _∙_}
+use mathlib.Core.List.{List, _++_}
 use native.Mathlib.Omega.{arith}
 use lib.ListN.{length}
-use lib.Dec.{eqb, ltb}
-use borrow.Author.Tests.{eq-eqb, ne-eqb, eqb-true, eqb-false, lt-ltb, le-ltb, ltb-true, ltb-false}
+use lib.Dec.{eqb, ltb, leb}
+use borrow.Author.Tests.{eq-eqb, ne-eqb, eqb-true, eqb-false, lt-ltb, le-ltb, ltb-true, ltb-false, le-leb, lt-leb}
 use Rattle.words.specs.Laws.Tests.{by-test}
-use Rattle.files.specs.Bytes.{countOf}
-use Rattle.files.specs.Case.{Head, caseRefusal, head}
-use Rattle.files.specs.Start.{startRefusal, startsOf}
+use Rattle.files.specs.Bytes.{countOf, Test, firstHit, testsOn}
+use Rattle.files.specs.Bytes.Laws.{firstHit-fails, firstHit-passes}
+use Rattle.files.specs.Case.{Head, caseTests, caseRefusal, head}
+use Rattle.files.specs.Start.{Files, startTests, startRefusal, startsOf}
+use Rattle.services.specs.Saturate.Laws.{case-first, case-passed}
+use Rattle.services.specs.Judge.Laws.{start-first, start-passed}
+use Rattle.services.specs.Guide.{numberTests}
 use Rattle.start_file.specs.Checks.{filesOf, refusalFor}
 use Rattle.start_file.specs.Checks.Laws.{refusal-is}
 use Rattle.sound_files.specs.Refusal.{firstOf, filesRefusal, FilesSound, startsRefusal, refusedBefore}
@@ -18,11 +22,11 @@ use Rattle.sound_files.specs.Sound.Laws.{starts-count}
 
 -- ---- one refusal after another
 
-first-stays : (n m : ℕ) → (n ≡ 0 → ⊥) → firstOf n m ≡ n
+pub first-stays : (n m : ℕ) → (n ≡ 0 → ⊥) → firstOf n m ≡ n
 unfolding firstOf
 first-stays n m h = rw (firstOf, ne-eqb n 0 h)
 
-first-passes : (n m : ℕ) → n ≡ 0 → firstOf n m ≡ m
+pub first-passes : (n m : ℕ) → n ≡ 0 → firstOf n m ≡ m
 unfolding firstOf
 first-passes n m e = rw (firstOf, eq-eqb n 0 e)
 
@@ -124,3 +128,46 @@ module _ (case start : List ℕ) (k below past : ℕ) where
     pub not-past : (past ≡ 0 → ⊥) → k < length (startsOf start)
     not-past h =
         by-test (ltb k (length (startsOf start))) (λ t. ltb-true _ _ t) (λ t. absurd (h (sym (before-past sound-before (ltb-false _ _ t)) ∙ none)))
+
+-- ---- the tests of a service
+
+-- tests of the case, of the start file and of the number of a start, then more
+module _ {X : Type 0} (case start : X → List ℕ) (number : X → ℕ) (more : List (Test X)) (x : X) where
+  abbrev files : X → Files
+  files y = filesOf (case y) (start y)
+
+  number-past : length (startsOf (start x)) ≤ number x → firstHit (numberTests start number ++ more) x ≡ 7
+  unfolding numberTests
+  number-past h = firstHit-fails (record { fails = λ (y : X). leb (length (startsOf (start y))) (number y); refusal = 7 }) more x (le-leb _ _ h)
+
+  number-there : number x < length (startsOf (start x)) → firstHit (numberTests start number ++ more) x ≡ firstHit more x
+  unfolding numberTests
+  number-there h = firstHit-passes (record { fails = λ (y : X). leb (length (startsOf (start y))) (number y); refusal = 7 }) more x (lt-leb _ _ h)
+
+  pub tests-first : firstHit (testsOn case caseTests ++ (testsOn files startTests ++ (numberTests start number ++ more))) x
+      ≡ firstOf (refusedBefore (case x) (start x) (number x) 0 7) (firstHit more x)
+  tests-first =
+      let later = firstHit more x in
+      by-test (eqb (caseRefusal (case x)) 0)
+      (λ c.
+      let sound = eqb-true _ 0 c in
+      case-passed case _ x sound
+      ∙ by-test (eqb (startRefusal (files x)) 0)
+      (λ s.
+      let both : FilesSound (case x) (start x) = record { sound-case = sound; sound-start = eqb-true _ 0 s } in
+      start-passed files _ x (eqb-true _ 0 s)
+      ∙ by-test (ltb (number x) (length (startsOf (start x))))
+      (λ t.
+      let e = before-below (case x) (start x) (number x) 0 7 both (ltb-true _ _ t) in
+      number-there (ltb-true _ _ t) ∙ sym (first-passes _ later e))
+      (λ t.
+      let e = before-past (case x) (start x) (number x) 0 7 both (ltb-false _ _ t) in
+      number-past (ltb-false _ _ t) ∙ sym (ap (λ (n : ℕ). firstOf n later) e ∙ first-stays 7 later (eqb-false 7 0 refl))))
+      (λ s.
+      let no = eqb-false _ 0 s in
+      let e = before-start (case x) (start x) (number x) 0 7 sound no in
+      start-first files _ x no ∙ sym (ap (λ (n : ℕ). firstOf n later) e ∙ first-stays _ later no)))
+      (λ c.
+      let no = eqb-false _ 0 c in
+      let e = before-case (case x) (start x) (number x) 0 7 no in
+      case-first case _ x no ∙ sym (ap (λ (n : ℕ). firstOf n later) e ∙ first-stays _ later no))

@@ -17,9 +17,9 @@ use Rattle.files.specs.Start.{Start, startOf, startsOf, cellsOf, configurationO
 use Rattle.bytes_in.specs.Records.{recordAt, bodyOf}
 use Rattle.acceptance_words.specs.Rows.{roundIn}
 use Rattle.acceptance.specs.Cells.{RoundsStand, RoundsFilled}
-use Rattle.acceptance.specs.Cells.Body.{cellsIn}
+use Rattle.start_records.specs.Body.{cellsIn, cells-body}
 use Rattle.acceptance.specs.Cells.Laws.{StatesBelow}
-use Rattle.acceptance.specs.Laws.Starts.{cells-body, start-round}
+use Rattle.acceptance.specs.Laws.Starts.{start-round}
 use Rattle.sound_files.specs.Starts.{startRound}
 use Rattle.sound_files.specs.Sound.{StartSound}
 use Rattle.sound_files.specs.Sound.Laws.{starts-count, cells-count, start-at}

@@ -1,23 +1,18 @@
 -- Tables with zeros behind their last row: what the services leave in lent memory.
 -- Assumes nothing.
-use Prim.Native.Nat.{ℕ, zero, suc, _+_, _-_, _*_, _≤_}
+use Prim.Native.Nat.{ℕ, _+_, _-_, _*_, _≤_}
 use mathlib.Core.Path.{_≡_, ap, ap₂, sym, _∙_}
 use mathlib.Core.List.{List, _++_}
-use native.Mathlib.Nat.{sub-zero, suc-mul}
+use native.Mathlib.Nat.{suc-mul}
 use native.Mathlib.Numerals.{add-one}
 use native.Mathlib.Omega.{arith}
-use lib.ListN.{length, drop, replicate, length-replicate}
-use lib.Seq.{drop-drop, drop-nil}
+use lib.ListN.{length, drop, length-replicate}
+use lib.Seq.{drop-drop}
 use Rattle.words.specs.Lists.{each, zeros}
+use Rattle.words.specs.Lists.Laws.{drop-zeros}
 use Rattle.services.specs.Memory.{padded}
 use Rattle.tables.specs.Rows.{Layout, rowsIn, putRow}
 use Rattle.tables.specs.Rows.Laws.{length-rowsIn, length-putRow, drop-putRow, rowsIn-whole, length-each-words}
-
-pub drop-zeros : (k n : ℕ) → drop k (zeros n) ≡ zeros (n - k)
-unfolding zeros
-drop-zeros zero n = ap (λ (m : ℕ). replicate m 0) (sym (sub-zero n))
-drop-zeros (suc k) zero = drop-nil (suc k) ∙ ap (λ (m : ℕ). replicate m 0) (let z : 0 ≡ 0 - suc k = omega arith in z)
-drop-zeros (suc k) (suc n) = drop-zeros k n ∙ ap (λ (m : ℕ). replicate m 0) (let z : n - k ≡ suc n - suc k = omega arith in z)
 
 module _ {A : Type 0} (L : Layout A) where
   -- behind the first n rows all words are zero

@@ -3,7 +3,7 @@
 use mathlib.Core.Path.{sym}
 use native.Mathlib.Omega.{arith}
 use Rattle.text.specs.Written.Laws.{written-then, written-same}
-use Rattle.text.specs.Laws.Decimal.{decimal-one, decimal-more, length-one, length-more}
+use Rattle.services.specs.Listing.Decimal.{decimal-one, decimal-more, length-one, length-more}
 use borrow.Author.Needs.{needs}
 use Prim.Native.Nat.{ℕ, _<_}
 use borrow.Fn.Kinds.{In}

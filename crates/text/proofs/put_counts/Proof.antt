@@ -3,7 +3,7 @@
 use native.Mathlib.Omega.{arith}
 use Rattle.services.specs.Listing.{ascii, countsText}
 use Rattle.text.specs.Written.Laws.{written-then}
-use Rattle.text.specs.Laws.Decimal.{decimal-length}
+use Rattle.services.specs.Listing.Decimal.{decimal-length}
 use borrow.Author.Needs.{needs}
 use Rattle.text.proofs.put_counts.Statement.{statement}
 use Rattle.text.proofs.put_counts.Tie as tie

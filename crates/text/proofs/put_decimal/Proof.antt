@@ -1,7 +1,7 @@
 -- `text::put_decimal` meets its contract.
 -- Assumes nothing.
 use native.Mathlib.Omega.{arith}
-use Rattle.text.specs.Laws.Decimal.{decimal-length64}
+use Rattle.services.specs.Listing.Decimal.{decimal-length64}
 use borrow.Author.Needs.{needs}
 use Rattle.text.proofs.put_decimal.Statement.{statement}
 use Rattle.text.proofs.put_decimal.Tie as tie

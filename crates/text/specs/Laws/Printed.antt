@@ -5,28 +5,22 @@ use mathlib.Core.Path.{_≡_, ap, sym, _∙_}
 use mathlib.Core.List.{List, _++_}
 use native.Mathlib.Nat.{zero-add}
 use native.Mathlib.Omega.{arith}
-use lib.ListN.{length, take, drop, replicate, length-append, length-replicate}
+use lib.ListN.{length, take, replicate, length-append}
 use lib.Seq.{take-at}
 use Rattle.services.specs.Memory.{padded}
+use Rattle.services.specs.Memory.Laws.{sets-zeros}
 use Rattle.words.specs.Lists.{zeros}
 use Rattle.text.specs.Written.{Written}
-use Rattle.text.specs.Written.Laws.{written-parts, written-same}
-use Rattle.tables.specs.Laws.Filled.{drop-zeros}
+use Rattle.text.specs.Written.Laws.{written-same}
 
 -- n being the number of the bytes
 pub printed : {n : ℕ} {line text after : List ℕ} {end : ℕ} → line ≡ text → Written (replicate n 0) 0 line after end → end ≤ n
     → (after ≡ padded n text) × ((end ≡ length text) × (end ≤ n))
-unfolding zeros padded
+unfolding zeros
 printed {n} {line} {text} {after} {end} same written h =
     let w = written-same same written in
     let e : end ≡ length text = w .place ∙ zero-add (length text) in
-    let len : length {A = ℕ} (replicate n 0) ≡ n = length-replicate n 0 in
-    let room : 0 + length text ≤ length {A = ℕ} (replicate n 0) = omega arith in (
-      written-parts w room
-          ∙ ap (λ (k : ℕ). text ++ drop k (replicate n 0)) (zero-add (length text))
-          ∙ ap (λ (b : List ℕ). text ++ b) (drop-zeros (length text) n),
-      (e, h),
-    )
+    (w .is ∙ sets-zeros n text (omega arith), (e, h))
 
 -- the answer counts bytes at the start of the text
 pub printed-counts : (n : ℕ) (text : List ℕ) {after : List ℕ} {end : ℕ} → after ≡ padded n text → end ≡ length text

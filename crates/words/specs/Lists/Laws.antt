@@ -1,16 +1,16 @@
 -- What holds of the lists of Lists.antt. Membership is data: `List·Memᴰ x l` is a place of x in l.
 -- Assumes nothing.
-use Prim.Native.Nat.{ℕ, zero, suc, _+_, _*_, _<_, _≤_, suc-le-suc}
+use Prim.Native.Nat.{ℕ, zero, suc, _+_, _-_, _*_, _<_, _≤_, suc-le-suc}
 use mathlib.Core.Bool.{Bool, true, false, not, _&&_, _||_, false≢true, and-assoc, or-assoc, or-true, or-false}
 use mathlib.Core.Path.{_≡_, refl, ap, ap₂, sym, _∙_, subst}
 use mathlib.Core.Logic.{_⊎_, inl, inr, ⊎-elim}
 use mathlib.Core.Option.{Option, some, Option·some-injective, Option·none-ne-some, Option·some-ne-none}
 use mathlib.Core.List.{List, [], _∷_, _++_, map, append-nil, append-assoc, Memᴰ·append-left, Memᴰ·append-right, Memᴰ·cast}
 use mathlib.Core.List.{List·Memᴰ, List·Memᴰ·head, List·Memᴰ·tail, List·Memᴰ·not-nil, List·Memᴰ·append-cases, List·Memᴰ·eq-of-singleton}
-use native.Mathlib.Nat.{not-suc-le-zero, le-of-suc-le-suc, zero-add, add-zero}
+use native.Mathlib.Nat.{not-suc-le-zero, le-of-suc-le-suc, zero-add, add-zero, sub-zero}
 use native.Mathlib.Omega.{arith}
-use lib.ListN.{length, getD, getElem?, take, length-append, length-replicate, List·getD-append}
-use lib.Seq.{take-suc, length-take-le, getD-at}
+use lib.ListN.{length, getD, getElem?, take, drop, replicate, length-append, length-replicate, List·getD-append}
+use lib.Seq.{take-suc, length-take-le, getD-at, drop-nil}
 use lib.Dec.{ltb}
 use borrow.Author.Tests.{ltb-true, ltb-false}
 use Rattle.words.specs.Order.{rising, risingFrom}
@@ -23,6 +23,12 @@ use Rattle.words.specs.Lists.{zeros, each, when, only, every, some-of, f
 pub length-zeros : (n : ℕ) → length (zeros n) ≡ n
 unfolding zeros
 length-zeros n = length-replicate n 0
+
+pub drop-zeros : (k n : ℕ) → drop k (zeros n) ≡ zeros (n - k)
+unfolding zeros
+drop-zeros zero n = ap (λ (m : ℕ). replicate m 0) (sym (sub-zero n))
+drop-zeros (suc k) zero = drop-nil (suc k) ∙ ap (λ (m : ℕ). replicate m 0) (let z : 0 ≡ 0 - suc k = omega arith in z)
+drop-zeros (suc k) (suc n) = drop-zeros k n ∙ ap (λ (m : ℕ). replicate m 0) (let z : n - k ≡ suc n - suc k = omega arith in z)
 
 -- ---- each
 

@@ -1,9 +1,9 @@
--- `acceptance::order_at` meets its contract.
+-- `start_records::order_at` meets its contract.
 -- Assumes nothing.
-use Rattle.acceptance.specs.Cells.Body.{order-none, order-there}
+use Rattle.start_records.specs.Body.{order-none, order-there}
 use borrow.Author.Needs.{needs}
-use Rattle.acceptance.proofs.order_at.Statement.{statement}
-use Rattle.acceptance.proofs.order_at.Tie as tie
+use Rattle.start_records.proofs.order_at.Statement.{statement}
+use Rattle.start_records.proofs.order_at.Tie as tie
 
 returns : tie.Need-returns
 returns c = order-none _ _ (c .if1 .taken)

@@ -1,10 +1,10 @@
--- `acceptance::cell_order` meets its contract.
+-- `start_records::cell_order` meets its contract.
 -- Assumes nothing.
 use Rattle.walks.specs.Cell.Formed.{cellOrder}
 use Rattle.cell_memory.specs.Memory.{cellOf}
 use borrow.Author.Needs.{needs}
-use Rattle.acceptance.proofs.cell_order.Statement.{statement}
-use Rattle.acceptance.proofs.cell_order.Tie as tie
+use Rattle.start_records.proofs.cell_order.Statement.{statement}
+use Rattle.start_records.proofs.cell_order.Tie as tie
 
 enum-told : tie.Need-enum-told
 enum-told c = search needs

@@ -2,17 +2,18 @@
 -- Assumes nothing.
 use Prim.Native.Nat.{ℕ, _≤_, _<_}
 use mathlib.Core.Path.{_≡_, ap, sym, _∙_}
-use mathlib.Core.List.{List, [], map}
+use mathlib.Core.List.{List, [], map, map-map}
 use native.Mathlib.Omega.{arith}
 use lib.ListN.{length, length-map, List·getD-eq-default}
 use Rattle.walks.specs.Cell as walks
 use Rattle.walks.specs.Cell.{empty1}
 use Rattle.walks.specs.Cell.Formed.{cellOrder, cellAt, orderAt}
 use Rattle.walks.specs.Cell.Values.{getD-map-below}
-use Rattle.files.specs.Bytes.{records}
+use Rattle.files.specs.Bytes.{countOf, records, recordsOf}
 use Rattle.files.specs.Bytes.Laws.{length-records, records-at}
-use Rattle.bytes_in.specs.Records.{recordAt}
-use Rattle.files.specs.Start.{cellBytes}
+use Rattle.bytes_in.specs.Records.{recordAt, bodyOf}
+use Rattle.bytes_in.specs.Records.Laws.{body-records}
+use Rattle.files.specs.Start.{cellBytes, cellRecords, cellsOf}
 use Rattle.files.specs.Start as files
 
 -- the cell of a record
@@ -43,3 +44,9 @@ pub order-there : (n : ℕ) (body : List ℕ) {i k : ℕ} {c : walks.Cell} → i
     → k ≡ orderAt (cellsIn n body) i
 unfolding orderAt
 order-there n body h e f = f ∙ ap cellOrder (cellsIn-at n body h e)
+
+-- the cells of the file are those of its second body
+pub cells-body : (file : List ℕ) → cellsIn (countOf file 1) (bodyOf file 1 6) ≡ cellsOf file
+unfolding cellsIn cellsOf cellRecords
+cells-body file =
+    ap (map cellRead) (sym (body-records file 1 6)) ∙ sym (map-map files.cellOf cellBytes (recordsOf file 1 6))

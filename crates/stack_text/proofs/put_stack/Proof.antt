@@ -1,0 +1,83 @@
+-- `stack_text::put_stack` meets its contract.
+-- Assumes nothing.
+use borrow.Author.Needs.{needs}
+use Rattle.services.specs.Listing.{ascii}
+use Rattle.walks.specs.Cell.{order2}
+use Rattle.services.specs.Brackets.{stacksText, stackText}
+use Rattle.stack_text.specs.Cells.{stackIn}
+use Rattle.bounded_text.specs.Page.Laws.{prints-then, prints-on, prints-to}
+use borrow.Author.Needs.{needs}
+use Rattle.stack_text.proofs.put_stack.Statement.{statement}
+use Rattle.stack_text.proofs.put_stack.Tie as tie
+use Rattle.stack_text.proofs.put_stack.Reads as reads
+use Rattle.stack_text.proofs.put_stack.Lts as lts
+use Rattle.bounded_text.proofs.put_bytes.Reads as put-bytes-reads
+use Rattle.stack_text.proofs.put_stacks.Reads as put-stacks-reads
+
+slice-aggregate-put-bytes : tie.Need-slice-aggregate-put-bytes
+slice-aggregate-put-bytes c = search needs
+
+put-bytes-requires : tie.Need-put-bytes-requires
+put-bytes-requires c κs = search needs
+
+enum-known-opened : tie.Need-enum-known-opened
+enum-known-opened c = search needs
+
+enum-told : tie.Need-enum-told
+enum-told c = search needs
+
+same-length : tie.Need-same-length
+same-length c = search needs
+
+returns : tie.Need-returns
+unfolding ascii stackText
+returns c = prints-on _ (prints-on (stacksText (order2 (stackIn _ _ _))) (prints-to (c .enum-told .given .1) (c .before .before .before .before .put-bytes .ensures)))
+
+put-stacks-requires : tie.Need-put-stacks-requires
+put-stacks-requires c κs = search needs
+
+enum-known-printed : tie.Need-enum-known-printed
+enum-known-printed c = search needs
+
+enum-told-2 : tie.Need-enum-told-2
+enum-told-2 c = search needs
+
+same-length-2 : tie.Need-same-length-2
+same-length-2 c = search needs
+
+returns-2 : tie.Need-returns-2
+unfolding ascii stackText
+returns-2 c = prints-on _ (prints-then (prints-to (c .before .before .before .before .before .before .before .opened .given .1) (c .before .before .before .before .before .before .before .before .before .before .before .put-bytes .ensures)) (prints-to (c .enum-told2 .given .1) (c .before .before .before .before .put-stacks .ensures)))
+
+slice-aggregate-put-bytes-2 : tie.Need-slice-aggregate-put-bytes-2
+slice-aggregate-put-bytes-2 c = search needs
+
+put-bytes-requires-2 : tie.Need-put-bytes-requires-2
+put-bytes-requires-2 c κs = search needs
+
+same-length-3 : tie.Need-same-length-3
+same-length-3 c = search needs
+
+returns-3 : tie.Need-returns-3
+unfolding ascii stackText
+returns-3 c = prints-then (prints-then (prints-to (c .before .before .before .before .before .before .before .before .before .before .before .before .before .opened .given .1) (c .before .before .before .before .before .before .before .before .before .before .before .before .before .before .before .before .before .put-bytes .ensures)) (prints-to (c .before .before .before .before .before .before .printed .given .1) (c .before .before .before .before .before .before .before .before .before .before .put-stacks .ensures))) (c .before .before .put-bytes2 .ensures)
+
+pub put-stack-spec : {M : Type 1} → statement M
+put-stack-spec =
+    tie.close
+    (tie.spec
+    slice-aggregate-put-bytes
+    put-bytes-requires
+    enum-known-opened
+    enum-told
+    same-length
+    returns
+    put-stacks-requires
+    enum-known-printed
+    enum-told-2
+    same-length-2
+    returns-2
+    slice-aggregate-put-bytes-2
+    put-bytes-requires-2
+    same-length-3
+    returns-3)
