@@ -1,9 +1,9 @@
 /*
  * The script analyser for the bench host: target/staticlib/libexports.a, which
- * `rt staticlib exports` writes. Documents 01 and 02 (requests 1 to 5) say what
- * the four services do; this page says the same for a caller in C. crates/exports
+ * `rt staticlib exports` writes. Documents 01 and 02 (requests 1 to 6) say what
+ * the five services do; this page says the same for a caller in C. crates/exports
  * proves each call equal to its definition; what this page says of numbers, words,
- * rounds and runs are the theorems of crates/demands about these definitions
+ * rounds, runs and texts are the theorems of crates/demands about these definitions
  * (docs/PROMISES.md).
  *
  * What is asked of the caller: each pointer points to as many elements as the
@@ -30,6 +30,8 @@
  *   cells    for guide 68 words of 16 bits a cell, for replay 6 bytes a cell. At
  *            most 4,096 cells count.
  *   trace    for guide a word of 16 bits a step.
+ *   text     for brackets any number of bytes, for the listing as many as
+ *            ANALYSER_LISTING_BYTES.
  *
  * Files, and the trace that replay reads, are only read. A set is a word with bit n
  * for state n. A missing file is one of length 0.
@@ -41,8 +43,9 @@
  *
  * A refusal is a number from 1 to 255 (ANALYSER_REFUSALS says what each means);
  * no other answer is. The first of a service's numbers that applies is returned,
- * in this order: 1, 2, 12, 3, 4, 5, 6, 7, 8, 10, 11, 9. After a refusal every lent
- * word and byte is zero, and so are the counts and the step.
+ * in this order: 1, 2, 12, 3, 4, 5, 6, 7, 8, 10, 11, 13, 9; no service has all of
+ * them. After a refusal every lent word and byte is zero, and so are the counts,
+ * the step and the length.
  */
 #ifndef ANALYSER_H
 #define ANALYSER_H
@@ -65,8 +68,8 @@ extern "C" {
 #define ANALYSER_LISTING_BYTES 4280
 
 /* The documents' sentence for each refusal; 3 is for a code that is not in the
-   record too, 4 for a second entry, 7 for replay, and 8 counts words, as document
-   02 asks: REFUSAL(number, sentence). */
+   record too, 4 for a second entry, 7 for replay and brackets, and 8 counts words,
+   as document 02 asks: REFUSAL(number, sentence). */
 #define ANALYSER_REFUSALS(REFUSAL) \
     REFUSAL(1, "the case's first byte, contents table, a count or the length is wrong") \
     REFUSAL(2, "a field of case body 1 is out of range") \
@@ -74,12 +77,13 @@ extern "C" {
     REFUSAL(4, "edges or moves are not strictly increasing, or an entry is a second one for its state and S") \
     REFUSAL(5, "the start file's first byte, contents table, a count or the length is wrong") \
     REFUSAL(6, "a start or cell is out of range, refers to a cell of the wrong order, or fills an unused field") \
-    REFUSAL(7, "guide, replay: the start named is not in the file") \
+    REFUSAL(7, "guide, replay, brackets: the start named is not in the file") \
     REFUSAL(8, "judge: fewer answer words than starts") \
     REFUSAL(9, "the saturated table has more moves than lent or than 1,024, more entries than lent, or more than 64 order-1 states") \
     REFUSAL(10, "the trace has an odd number of bytes") \
     REFUSAL(11, "the replay needs more cells than lent or than 4,096") \
-    REFUSAL(12, "the eight bytes of the record of operation codes are not all different, or one is zero")
+    REFUSAL(12, "the eight bytes of the record of operation codes are not all different, or one is zero") \
+    REFUSAL(13, "the text is longer than the bytes lent")
 
 /* Answers of the guide that are no refusals. */
 #define ANALYSER_ARRIVED 0
@@ -113,8 +117,9 @@ uint64_t analyser_saturate(
  * from the start into the target, otherwise 1 more than the least round whose
  * table accepts the start; the words after them are zero. Round 0 is the case's
  * own table, and a word is at most 1,025. The word of a start whose stack is empty,
- * or whose top order-1 stack is, is 1 if it lies in the target and otherwise 0. After a refusal answers is zero. moves
- * and entries are working memory, zero after every call.
+ * or whose top order-1 stack is, is 1 if it lies in the target and otherwise 0.
+ * After a refusal answers is zero. moves and entries are working memory, zero after
+ * every call.
  */
 uint64_t analyser_judge(
     const uint8_t *case_file, size_t case_length,
@@ -195,6 +200,39 @@ uint64_t analyser_replay(
     const uint8_t *trace, size_t trace_length,
     uint8_t *cells, size_t cells_length,
     uint64_t *step);
+
+/*
+ * Brackets: prints the stack of one start as nested square brackets. Starts are
+ * numbered from 0 in file order.
+ *
+ * Returns 0, or the refusal 1 to 7, 12 or 13. After 0, text begins with the *length
+ * bytes that stand for the stack in the start's root cell, and the bytes after them
+ * are zero. 13 means that these bytes are more than lent. After a refusal text is
+ * zero, and *length is 0.
+ *
+ *   order-2 stack  its order-1 stacks, top first, nothing between them, in [ ]
+ *   order-1 stack  its symbols, top first, a space between them, in [ ]
+ *   symbol         its number, a space, the order of its annotation, 1 or 2, and
+ *                  the annotation in { }
+ *
+ * Numbers are decimal, without zeros before them; no line end is printed. Cell 3 of
+ * document 01's model A is [[1 1{[]}]].
+ *
+ * No two different order-2 stacks print alike. What is printed of a start depends
+ * neither on the case nor on the bytes lent, and it is printed exactly if the bytes
+ * lent suffice and none of 1 to 7 and 12 applies.
+ *
+ * A cell is written out each time that it is met, so few cells can stand for more
+ * bytes than any memory has: 243 for about 2 to the power 243. The call stops where
+ * the bytes lent are passed, so they and the lengths of the files bound its work;
+ * this bound is not proved.
+ */
+uint64_t analyser_brackets(
+    const uint8_t *case_file, size_t case_length,
+    const uint8_t *start_file, size_t start_length,
+    uint64_t number,
+    uint8_t *text, size_t text_length,
+    size_t *length);
 
 /*
  * Listing: the text that the printing program prints for two files, with the

@@ -1,13 +1,13 @@
 /*
- * A small bench host: reads a case file and a start file, saturates, judges, and
- * guides from each start that is marked yes. A run that arrived is replayed, as the
- * guide wrote it and with a rule number behind it that no case has. Prints what it
- * gets.
+ * A small bench host: reads a case file and a start file, saturates, judges, prints
+ * the stack of each start as brackets, and guides from each that is marked yes. A
+ * run that arrived is replayed, as the guide wrote it and with a rule number behind
+ * it that no case has. Prints what it gets.
  *
  * usage: bench CASE START
  *
- * Its status is 0, or 2 for wrong use, 3 for a refusal, 5 where not all could be
- * written to standard output.
+ * Its status is 0, or 2 for wrong use, 3 where saturate or judge refuses, 5 where
+ * not all could be written to standard output.
  */
 #include "analyser.h"
 
@@ -24,6 +24,7 @@
 #define STARTS 64
 #define CELLS 512
 #define STEPS 1024
+#define TEXT_BYTES 65536
 
 struct file {
     uint8_t bytes[MOST_BYTES];
@@ -39,6 +40,7 @@ static uint16_t answers[STARTS];
 static uint16_t cells[CELLS * ANALYSER_CELL_WORDS];
 static uint16_t trace[STEPS];
 static uint8_t replay_cells[CELLS * ANALYSER_REPLAY_CELL_BYTES];
+static uint8_t text[TEXT_BYTES];
 
 /* What the guide wrote, as bytes, with room for one more rule number. */
 static uint8_t recorded[2 * (STEPS + 1)];
@@ -141,6 +143,22 @@ static uint64_t judge(void)
     return answer;
 }
 
+static void brackets(uint64_t number)
+{
+    size_t length;
+    uint64_t answer = analyser_brackets(
+        case_file.bytes, case_file.length,
+        start_file.bytes, start_file.length,
+        number,
+        text, TEXT_BYTES,
+        &length);
+    if (answer != 0) {
+        printf("brackets: %s\n", words_for(answer));
+        return;
+    }
+    printf("brackets: %.*s\n", (int)length, (const char *)text);
+}
+
 /* Replays the first rule numbers of what is recorded, with as many cells as the
    guide used. */
 static void replay(const char *what, uint64_t number, size_t rules, uint64_t cells_used)
@@ -209,8 +227,10 @@ static int bench(void)
     for (size_t i = 0; i < starts(); i++) {
         if (answers[i] == 0) {
             printf("start %zu: no\n", i);
+            brackets(i);
         } else {
             printf("start %zu: yes, round %d\n", i, answers[i] - 1);
+            brackets(i);
             guide(i);
         }
     }

@@ -2,7 +2,8 @@
  * Measures the stack that calls take: each call runs in a thread whose stack is
  * painted before, and the deepest byte that has lost its paint is looked up
  * after. Prints for each function the most bytes that a call took, over all
- * pairs of files.
+ * pairs of files. Brackets is called for a start file of 256 cells too, in which
+ * annotations nest as deep as they can.
  *
  * usage: stack CASE START [CASE START]..
  *
@@ -31,6 +32,9 @@
 #define REPLAY_CELLS_LENGTH (4096 * ANALYSER_REPLAY_CELL_BYTES)
 #define STEPS 65536
 
+/* Long enough for a listing and for the deepest stack as brackets. */
+#define TEXT_BYTES 65536
+
 static uint8_t case_file[MOST_BYTES], start_file[MOST_BYTES];
 static size_t case_length, start_length;
 
@@ -41,13 +45,42 @@ static const uint8_t one_start[] = {
 };
 
 static uint64_t moves[MOVES_LENGTH], entries[ENTRIES_LENGTH];
-static uint8_t text[ANALYSER_LISTING_BYTES];
+static uint8_t text[TEXT_BYTES];
 static uint16_t answers[STARTS], cells[CELLS_LENGTH], trace[STEPS];
 
 /* The longest trace that the guide wrote, as bytes. */
 static uint8_t recorded[2 * STEPS];
 static size_t recorded_length;
 static uint8_t replay_cells[REPLAY_CELLS_LENGTH];
+
+/* A start file of the most cells, for brackets: one start, whose stack is cell 255.
+   nest_cells writes the cells from 2 on. */
+#define CELL_BODY 20
+#define CELL_BYTES 6
+static uint8_t deep_start[CELL_BODY + 256 * CELL_BYTES] = {
+    2, 1, 0, 1, 0, 17, 0, 0, 0, 2, 0, 0, 1, 20, 0, 0, 0, /* contents */
+    0, 255, 0,                                           /* control 0, cell 255 */
+    3, 0, 0, 0, 0, 0,                                    /* an empty order-2 stack */
+    1, 0, 0, 0, 0, 0,                                    /* an empty order-1 stack */
+};
+
+static void write_cell(uint8_t number, uint8_t kind, uint8_t first, uint8_t second)
+{
+    uint8_t *cell = deep_start + CELL_BODY + number * CELL_BYTES;
+    cell[0] = kind;
+    cell[2] = first;
+    cell[4] = second;
+}
+
+/* Symbols on cell 1, each annotated by the cell before it; the last one is the
+   root's only symbol. */
+static void nest_cells(void)
+{
+    for (uint8_t number = 2; number < 255; number++) {
+        write_cell(number, 2, number - 1, 1);
+    }
+    write_cell(255, 4, 254, 0);
+}
 
 static void saturate(void)
 {
@@ -95,6 +128,17 @@ static void replay(void)
     }
 }
 
+static void brackets(void)
+{
+    size_t length;
+    for (uint64_t number = 0; number < STARTS; number++) {
+        analyser_brackets(case_file, case_length, start_file, start_length, number, text,
+                          TEXT_BYTES, &length);
+    }
+    analyser_brackets(case_file, case_length, deep_start, sizeof deep_start, 0, text,
+                      TEXT_BYTES, &length);
+}
+
 static void listing(void)
 {
     analyser_listing(case_file, case_length, start_file, start_length, text);
@@ -106,8 +150,8 @@ static struct measured {
     void (*call)(void);
     size_t most;
 } measured[] = {
-    {"saturate", saturate, 0}, {"judge", judge, 0},     {"guide", guide, 0},
-    {"replay", replay, 0},     {"listing", listing, 0},
+    {"saturate", saturate, 0}, {"judge", judge, 0},       {"guide", guide, 0},
+    {"replay", replay, 0},     {"brackets", brackets, 0}, {"listing", listing, 0},
 };
 
 #define FUNCTIONS (sizeof measured / sizeof measured[0])
@@ -180,6 +224,7 @@ int main(int count, char **words)
         fprintf(stderr, "usage: stack CASE START [CASE START]..\n");
         return 2;
     }
+    nest_cells();
     stack = aligned_alloc(4096, STACK_BYTES);
     if (stack == NULL) {
         fail("memory");

@@ -1,6 +1,6 @@
 # shellcheck shell=bash disable=SC2154
-# What ./analyse and ./guide share: prove and build a program of the repository where it is not built yet, run it on a case file and a start
-# file, and hand on its text. The script that sources this file has set
+# What ./analyse, ./guide and ./brackets share: prove and build a program of the repository where it is not built yet, run it on a case file
+# and a start file, and hand on its text. The script that sources this file has set
 #   name     its own name, for messages
 #   program  the crate of the program
 #   usage    how it is called
@@ -216,4 +216,17 @@ run_program() { # CASE START [WORD..]
     attend cat "$room/text" || leave "$LOST" "output is lost: not all of the text could be written to standard output"
     read -r first number <"$room/text" || :
     [ "$first" != refused ] || leave "$REFUSED" "refused: $(sentence "$number")"
+}
+
+# A call of a script that takes the number of a start too: runs the program on two files, the number being its argument.
+run_on_start() { # CASE START NUMBER
+    case $# in
+    0) wrong_use "a case file, a start file and the number of a start are missing" ;;
+    1) wrong_use "a start file and the number of a start are missing" ;;
+    2) wrong_use "the number of a start is missing" ;;
+    3) ;;
+    *) wrong_use "there are $# arguments" ;;
+    esac
+    case $3 in '' | *[!0-9]*) wrong_use "'$3' is no decimal number of a start" ;; esac
+    run_program "$1" "$2" "$3"
 }

@@ -1,10 +1,11 @@
 //! The services of both implementations behind the same signatures, and all that
 //! one of the two answers to a pair of files.
 
+use crate::file::Refusal;
 use crate::lent::Lent;
 use crate::replay::{self, ReplayReply};
 use crate::services::{self, GuideReply};
-use crate::{file::Refusal, proved};
+use crate::{brackets, proved};
 
 pub type Saturate = fn(&[u8], &mut [u64], &mut [u64]) -> (u64, u64, u64);
 pub type Judge = fn(&[u8], &[u8], &mut [u64], &mut [u64], &mut [u16]) -> u64;
@@ -12,6 +13,7 @@ pub type Guide =
     fn(&[u8], &[u8], u64, &mut [u64], &mut [u64], &mut [u16], &mut [u16]) -> GuideReply;
 pub type Listing = fn(&[u8], &[u8]) -> String;
 pub type Replay = fn(&[u8], &[u8], u64, &[u8], &mut [u8]) -> ReplayReply;
+pub type Brackets = fn(&[u8], &[u8], u64, &mut [u8]) -> Result<usize, Refusal>;
 
 /// The services of one of the two.
 #[derive(Clone, Copy)]
@@ -21,6 +23,7 @@ pub struct Services {
     pub guide: Guide,
     pub listing: Listing,
     pub replay: Replay,
+    pub brackets: Brackets,
 }
 
 /// The second implementation.
@@ -30,6 +33,7 @@ pub const SECOND: Services = Services {
     guide: services::guide,
     listing: services::listing,
     replay: replay::replay,
+    brackets: brackets::brackets,
 };
 
 /// The proved library.
@@ -39,6 +43,7 @@ pub const PROVED: Services = Services {
     guide: proved::guide,
     listing: proved::listing,
     replay: proved::replay,
+    brackets: proved::brackets,
 };
 
 /// The replies to a pair of files, each with the memory that it leaves.
@@ -48,12 +53,13 @@ pub struct Answers {
     pub judge: (u64, Lent),
     pub guide: (GuideReply, Lent),
     pub replays: Vec<(ReplayReply, Lent)>,
+    pub brackets: (Result<usize, Refusal>, Lent),
     pub listing: String,
 }
 
 impl Services {
-    /// All that the services answer, guide and replay from one start, replay to
-    /// each of the traces.
+    /// All that the services answer, guide, replay and brackets from one start,
+    /// replay to each of the traces.
     pub fn answers(
         &self,
         lent: &Lent,
@@ -73,6 +79,9 @@ impl Services {
             judge: left_by(lent, |lent| self.judge_with(lent, case, start)),
             guide: left_by(lent, |lent| self.guide_with(lent, case, start, number)),
             replays: traces.iter().map(replay).collect(),
+            brackets: left_by(lent, |lent| {
+                (self.brackets)(case, start, number, &mut lent.text)
+            }),
             listing: (self.listing)(case, start),
         }
     }
@@ -116,6 +125,7 @@ impl Answers {
             judge,
             guide,
             replays,
+            brackets,
             listing,
         } = self;
         let replayed = |(reply, lent): &(ReplayReply, Lent)| {
@@ -131,6 +141,8 @@ impl Answers {
             && guide.1.cells_are_zero()
             && guide.1.trace_is_zero_from(0)
             && replays.iter().all(replayed)
+            && brackets.0 == Err(refusal)
+            && brackets.1.text_is_zero_from(0)
             && *listing == format!("refused {refusal}\n")
     }
 
@@ -138,8 +150,8 @@ impl Answers {
     pub fn in_short(&self) -> String {
         let replays: Vec<ReplayReply> = self.replays.iter().map(|replay| replay.0).collect();
         format!(
-            "saturate {:?} judge {} guide {:?} replays {replays:?} listing {:?}",
-            self.saturate.0, self.judge.0, self.guide.0, self.listing
+            "saturate {:?} judge {} guide {:?} replays {replays:?} brackets {:?} listing {:?}",
+            self.saturate.0, self.judge.0, self.guide.0, self.brackets.0, self.listing
         )
     }
 }

@@ -6,6 +6,7 @@ use std::fmt::Debug;
 use std::iter::repeat_with;
 
 use crate::data::hex;
+use crate::file::Refusal;
 use crate::lent::Lent;
 use crate::proved;
 use crate::random::Random;
@@ -132,6 +133,15 @@ impl Both {
         self.answer(service, second, proved, &agree, (case, start))
     }
 
+    pub fn brackets(&mut self, case: &[u8], start: &[u8], number: u64) -> Result<usize, Refusal> {
+        let second = self.lent.brackets(case, start, number);
+        let mut text = self.bytes(self.lent.text.len());
+        let proved = proved::brackets(case, start, number, text.lent());
+        let agree = [("text", text.holds(&self.lent.text))];
+        let service = || format!("brackets {number}");
+        self.answer(service, second, proved, &agree, (case, start))
+    }
+
     fn tables_agree(&self, moves: &Rubbish<u64>, entries: &Rubbish<u64>) -> bool {
         moves.holds(&self.lent.moves) && entries.holds(&self.lent.entries)
     }
@@ -158,6 +168,7 @@ impl Both {
                 cells,
                 trace,
                 replay_cells,
+                text,
             } = &self.lent;
             let lengths = [
                 moves.len(),
@@ -166,10 +177,11 @@ impl Both {
                 cells.len(),
                 trace.len(),
                 replay_cells.len(),
+                text.len(),
             ];
             panic!(
                 "{}: second {second:?}, proved {proved:?}, memory that differs {others:?}\n\
-                 lengths of moves, entries, answers, cells, trace, cells of replay: {lengths:?}\n\
+                 lengths of moves, entries, answers, cells, trace, cells of replay, text: {lengths:?}\n\
                  case {}\nstart {}",
                 service(),
                 hex(case),

@@ -1,12 +1,17 @@
 //! Memory lent to the services in tests. It holds words that are not zero
 //! before each call, so that a word left as it was is noticed.
 
+use crate::brackets::brackets;
+use crate::file::Refusal;
 use crate::replay::{REPLAY_CELL_BYTES, ReplayReply, replay};
 use crate::services::{
     CELL_WORDS, ENTRY_WORDS, GuideReply, LISTING_CELLS, LISTING_ENTRIES, LISTING_MOVES,
     LISTING_TRACE, MOVE_WORDS, guide, judge, round_of_answer, saturate,
 };
 use crate::traces::recorded;
+
+/// Bytes for a text: enough for many starts of generated files, too few for others.
+const TEXT_BYTES: usize = 100;
 
 /// The lent slices.
 #[derive(Clone, Debug, PartialEq, Eq)]
@@ -17,6 +22,7 @@ pub struct Lent {
     pub cells: Vec<u16>,
     pub trace: Vec<u16>,
     pub replay_cells: Vec<u8>,
+    pub text: Vec<u8>,
 }
 
 impl Lent {
@@ -36,6 +42,7 @@ impl Lent {
             cells: vec![0; cells * CELL_WORDS],
             trace: vec![0; trace],
             replay_cells: vec![0; cells * REPLAY_CELL_BYTES],
+            text: vec![0; TEXT_BYTES],
         }
     }
 
@@ -47,6 +54,7 @@ impl Lent {
         self.cells.fill(u16::MAX);
         self.trace.fill(u16::MAX);
         self.replay_cells.fill(u8::MAX);
+        self.text.fill(u8::MAX);
     }
 
     pub fn saturate(&mut self, case: &[u8]) -> (u64, u64, u64) {
@@ -83,6 +91,11 @@ impl Lent {
         replay(case, start, number, trace, &mut self.replay_cells)
     }
 
+    pub fn brackets(&mut self, case: &[u8], start: &[u8], number: u64) -> Result<usize, Refusal> {
+        self.fill();
+        brackets(case, start, number, &mut self.text)
+    }
+
     /// The rounds that judge's words of the first starts name; the words after
     /// them must be zero.
     pub fn rounds(&self, starts: usize) -> Vec<Option<usize>> {
@@ -110,6 +123,11 @@ impl Lent {
     /// Whether the cells lent to guide are zero.
     pub fn cells_are_zero(&self) -> bool {
         self.cells.iter().all(|&word| word == 0)
+    }
+
+    /// Whether the text is zero from byte `from` on.
+    pub fn text_is_zero_from(&self, from: usize) -> bool {
+        self.text[from..].iter().all(|&byte| byte == 0)
     }
 
     /// Whether the trace is zero from word `from` on.
@@ -145,4 +163,20 @@ pub fn replayed_bytes(
     let reply = lent.replay(case, start, number, trace);
     assert!(lent.replay_cells_are_zero(), "the cells lent to replay");
     reply
+}
+
+/// The text of a start with so many bytes lent; those behind it must be zero, and
+/// all of them in a refusal.
+pub fn printed(
+    (case, start): (&[u8], &[u8]),
+    number: u64,
+    bytes: usize,
+) -> Result<String, Refusal> {
+    let mut lent = Lent::new(0, 0, 0, 0);
+    lent.text.resize(bytes, 0);
+    let reply = lent.brackets(case, start, number);
+    let length = reply.unwrap_or(0);
+    assert!(lent.text_is_zero_from(length), "bytes after the text");
+    lent.text.truncate(length);
+    reply.map(|_| String::from_utf8(lent.text).expect("text"))
 }

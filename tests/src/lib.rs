@@ -1,6 +1,6 @@
 //! A second implementation of the three services and the listing of document
-//! 01, as document 02 changes them, and of the replay that it adds, written from
-//! their sentences alone and meant for comparison in tests.
+//! 01, as document 02 changes them, and of the replay and the brackets that it
+//! adds, written from their sentences alone and meant for comparison in tests.
 //!
 //! Speed is no aim here. Each module names the section of document 01 that it
 //! follows; quoted sentences in comments are from there.
@@ -10,6 +10,7 @@
 
 pub mod attempts;
 pub mod automaton;
+pub mod brackets;
 pub mod callers;
 pub mod coded;
 pub mod codes;
@@ -30,6 +31,7 @@ pub mod flat;
 pub mod gather;
 pub mod generate;
 pub mod guide;
+pub mod in_time;
 pub mod kinds;
 pub mod lent;
 pub mod lines;
@@ -37,11 +39,13 @@ pub mod models;
 pub mod news;
 pub mod pairs;
 pub mod plant;
+pub mod printed;
 pub mod proved;
 pub mod random;
 pub mod replay;
 pub mod requests;
 pub mod rewriting;
+pub mod rich;
 pub mod saturation;
 pub mod search;
 pub mod services;

@@ -2,6 +2,7 @@
 //! signatures as the second implementation. `host/analyser.h` says what its
 //! functions promise.
 
+use crate::file::Refusal;
 use crate::replay::ReplayReply;
 use crate::services::GuideReply;
 
@@ -60,6 +61,17 @@ unsafe extern "C" {
         cells: *mut u8,
         cells_length: usize,
         step: *mut u64,
+    ) -> u64;
+
+    fn analyser_brackets(
+        case: *const u8,
+        case_length: usize,
+        start: *const u8,
+        start_length: usize,
+        number: u64,
+        text: *mut u8,
+        text_length: usize,
+        length: *mut usize,
     ) -> u64;
 
     fn analyser_listing(
@@ -221,4 +233,27 @@ pub fn replay(
         1..=255 => ReplayReply::Refused(answer),
         _ => panic!("replay answers {answer}"),
     }
+}
+
+/// As `brackets::brackets`.
+pub fn brackets(case: &[u8], start: &[u8], number: u64, text: &mut [u8]) -> Result<usize, Refusal> {
+    let mut length = usize::MAX;
+    // Safety: as above.
+    let refusal = unsafe {
+        analyser_brackets(
+            case.as_ptr(),
+            case.len(),
+            start.as_ptr(),
+            start.len(),
+            number,
+            text.as_mut_ptr(),
+            text.len(),
+            &mut length,
+        )
+    };
+    if refusal == 0 {
+        return Ok(length);
+    }
+    assert_eq!(length, 0, "the length of answer {refusal}");
+    Err(refusal)
 }

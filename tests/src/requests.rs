@@ -1,17 +1,17 @@
 //! The examples of document 02's requests, in `tests/data/vectors02`.
 
 use crate::callers::Services;
-use crate::data::{bytes, bytes_of};
+use crate::data::{bytes, bytes_of, hex};
 use crate::replay::{REPLAY_CELL_BYTES, ReplayReply};
 use crate::services::{
     CELL_WORDS, ENTRY_WORDS, GuideReply, LISTING_ENTRIES, LISTING_MOVES, MOVE_WORDS,
 };
 
 /// The last request that has landed.
-const LANDED: u64 = 5;
+const LANDED: u64 = 6;
 
 /// The requests whose files are here, and how many lines of each hold after it.
-const FILES: [(u64, usize); 5] = [(1, 20), (2, 28), (3, 23), (4, 15), (5, 26)];
+const FILES: [(u64, usize); 6] = [(1, 20), (2, 28), (3, 23), (4, 15), (5, 26), (6, 23)];
 
 /// A line of a request's file.
 struct Example {
@@ -66,6 +66,7 @@ impl Example {
             "guide" => self.guide(services, &case, &start),
             "listing" => in_one_line(&(services.listing)(&case, &start)),
             "replay" => self.replay(services, &case, &start),
+            "show" => self.show(services, &case, &start),
             call => panic!("{}: the call {call} is not known", self.name),
         };
         assert!(self.arguments.is_empty(), "{}: not all used", self.name);
@@ -151,6 +152,17 @@ impl Example {
             ReplayReply::Accepted => "kind=accepted".to_string(),
             ReplayReply::Fails { step } => format!("kind=fails step={step}"),
         }
+    }
+
+    /// The reply of brackets.
+    fn show(&mut self, services: Services, case: &[u8], start: &[u8]) -> String {
+        let number = self.number("number").expect("a start number") as u64;
+        let bytes = self.number("bytes").expect("bytes");
+        let mut text = vec![u8::MAX; bytes];
+        let reply = (services.brackets)(case, start, number, &mut text);
+        let code = reply.err().unwrap_or(0);
+        let length = reply.unwrap_or(0);
+        format!("code={code} length={length} text={}", hex(&text))
     }
 
     /// Takes out the argument of this name, if the line has it.

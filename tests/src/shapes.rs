@@ -180,6 +180,16 @@ pub const GATHERED: Shape = Shape {
     ..SMALL
 };
 
+/// The numbers of the pairs that `src/rich.rs` makes; their cells are not chosen by
+/// the shape.
+pub const RICH: Shape = Shape {
+    name: "rich",
+    symbols: 32,
+    starts: 64,
+    cells: 256,
+    ..SMALL
+};
+
 /// Files near the limits of document 01, with runs to a planted target. It is no
 /// part of `SHAPES`: a pair takes longer.
 pub const WIDE: Shape = Shape {

@@ -1,6 +1,7 @@
 //! Nested stacks and the eight operations (document 01, "Stacks and
 //! operations").
 
+use std::iter::successors;
 use std::rc::Rc;
 
 use crate::file::{Cell, Rule, Start, StartFile};
@@ -36,8 +37,13 @@ pub enum Note {
 }
 
 impl One {
+    /// The symbols, top first.
+    pub fn symbols(&self) -> impl Iterator<Item = &Symbol> {
+        successors(self.0.as_deref(), |symbol| symbol.rest.0.as_deref())
+    }
+
     /// This stack with one more symbol on top.
-    fn under(self, name: u8, note: Note) -> One {
+    pub fn under(self, name: u8, note: Note) -> One {
         let rest = self;
         One(Some(Rc::new(Symbol { name, note, rest })))
     }
@@ -58,8 +64,14 @@ impl One {
 }
 
 impl Two {
+    /// The order-1 stacks, top first.
+    pub fn stacks(&self) -> impl Iterator<Item = &One> {
+        let levels = successors(self.0.as_deref(), |level| level.rest.0.as_deref());
+        levels.map(|level| &level.top)
+    }
+
     /// This stack with one more order-1 stack on top.
-    fn under(self, top: One) -> Two {
+    pub fn under(self, top: One) -> Two {
         let rest = self;
         Two(Some(Rc::new(Level { top, rest })))
     }

@@ -5,9 +5,10 @@ use Prim.Native.Nat.{ℕ}
 use mathlib.Core.List.{List}
 use Rattle.replies.specs.declared.Saturation.{Saturation}
 use Rattle.replies.specs.declared.Counts.{Counts}
-use Rattle.replies.specs.Numbers.{numberOf, replyCounts, replayNumber, replayStep}
+use Rattle.replies.specs.Numbers.{numberOf, replyCounts, replayNumber, replayStep, bracketsNumber, bracketsLength}
 use Rattle.services.specs.Guide.{GuideDone}
 use Rattle.services.specs.Replay.{ReplayDone}
+use Rattle.services.specs.Brackets.{BracketsDone}
 
 -- saturate's reply: the number returned and the two words written
 abbrev pub theReply : ℕ → ℕ → ℕ → Saturation
@@ -43,3 +44,15 @@ theReplay number step cells = record { number = number; step = step; cells = cel
 
 unfoldable pub replayOf : ReplayDone → ReplayAnswer
 replayOf d = theReplay (replayNumber (d .reply)) (replayStep (d .reply)) (d .cells)
+
+-- brackets' answer as a number and a length, and the lent text afterwards
+pub record BracketsAnswer : Type 0 where
+  pub number : ℕ
+  pub printed : ℕ
+  pub text : List ℕ
+
+abbrev pub theBrackets : ℕ → ℕ → List ℕ → BracketsAnswer
+theBrackets number printed text = record { number = number; printed = printed; text = text }
+
+unfoldable pub bracketsOf : BracketsDone → BracketsAnswer
+bracketsOf d = theBrackets (bracketsNumber (d .reply)) (bracketsLength (d .reply)) (d .text)

@@ -6,14 +6,16 @@ ghost use Rattle.services.specs.Saturate.{saturateService};
 ghost use Rattle.services.specs.Judge.{judgeService};
 ghost use Rattle.services.specs.Guide.{guideService};
 ghost use Rattle.services.specs.Replay.{replayService};
+ghost use Rattle.services.specs.Brackets.{bracketsService};
 ghost use Rattle.saturate.specs.Service.{theLent, theDone};
 ghost use Rattle.judge.specs.Service.{judgeInput, judgeDone};
 ghost use Rattle.guided_start.specs.Run.{guideInput};
 ghost use Rattle.replay.specs.Service.{replayInput};
+ghost use Rattle.brackets.specs.Service.{bracketsInput};
 ghost use Rattle.services.specs.Memory.{padded};
 ghost use Rattle.services.specs.Listing.{listingText};
 ghost use Rattle.start_file.specs.Checks.{filesOf};
-ghost use Rattle.exports.specs.Answers.{theReply, theCounts, theAnswer, answerOf, theReplay, replayOf};
+ghost use Rattle.exports.specs.Answers.{theReply, theCounts, theAnswer, answerOf, theReplay, replayOf, theBrackets, bracketsOf};
 use limits::Limits;
 
 // The service saturate: 0 with the numbers of moves and entries, or the number of a refusal with 0 and 0.
@@ -84,6 +86,22 @@ pub extern "C" fn analyser_replay(
     let reply = replay::replay(case, start, number as usize, trace, cells);
     *step = reply_numbers::replay_step(reply);
     reply_numbers::replay_number(reply)
+}
+
+// The service brackets of start `number`: 0 with the length of the text, or the number of a refusal with 0.
+#[no_mangle]
+pub extern "C" fn analyser_brackets(
+    case: &[u8],
+    start: &[u8],
+    number: u64,
+    text: &mut [u8],
+    printed: &mut usize,
+) -> u64
+    ensures { λ r. ⌜ theBrackets r (now (printed .exit)) (now (text .exit)) ≡ bracketsOf (bracketsService (bracketsInput (now (case .entry)) (now (start .entry)) number (length (now (text .entry))))) ⌝ }
+{
+    let reply = brackets::brackets(case, start, number as usize, text);
+    *printed = reply_numbers::brackets_length(reply);
+    reply_numbers::brackets_number(reply)
 }
 
 // The text that the printing program prints for two files, zeros behind it. Answers its length.

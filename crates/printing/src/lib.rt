@@ -1,7 +1,9 @@
-// Reads a case file and a start file into the text of their listing, or of the run from one start; and ends a program's output.
+// Reads a case file and a start file into the text of their listing, of the run from one start, or of one start as brackets; and ends a program's
+// output.
 ghost use Rattle.io.specs.Counts.{Counts};
 ghost use Rattle.services.specs.Listing.{listingText};
 ghost use Rattle.services.specs.Run.{runText};
+ghost use Rattle.services.specs.Brackets.{showText};
 ghost use Rattle.printing.specs.Texts.{TextRead};
 use libc::STDOUT_FILENO;
 use limits::Limits;
@@ -51,6 +53,23 @@ pub fn read_run(
     let c = read_file(case_path, &mut case);
     let s = read_file(start_path, &mut start);
     run_text::run_text(&case[..c], &start[..s], number, text)
+}
+
+// Reads the files with these names and writes the start of this number as brackets into the text. Answers its length.
+pub fn read_show(
+    case_path: &[u8],
+    start_path: &[u8],
+    number: usize,
+    text: &mut [u8; Limits::SHOW_TEXT],
+) -> usize
+    ensures { λ r. ⌜ TextRead (λ f. showText f number) r (now (text .exit)) ⌝ }
+    ensures counts { λ r. ⌜ Counts r (now (text .exit)) ⌝ }
+{
+    let mut case = [0u8; Limits::CASE_FILE + 1];
+    let mut start = [0u8; Limits::START_FILE + 1];
+    let c = read_file(case_path, &mut case);
+    let s = read_file(start_path, &mut start);
+    show_text::show_text(&case[..c], &start[..s], number, text)
 }
 
 // Ends standard output, and makes the file `written` in the working directory exactly if all was written and closing did not fail. A program

@@ -1,0 +1,14 @@
+// Prints one start of start.bin, for case.bin, as brackets, both files in its working directory, and makes the file `written` there once it is
+// written. Its argument is the number of the start in decimal.
+use libc::STDOUT_FILENO;
+use limits::Limits;
+
+fn main() {
+    let mut argument = [0u8; 4096];
+    let a = os::arg(1, &mut argument);
+    let number = number_text::number_named(&argument[..a]);
+    let mut text = [0u8; Limits::SHOW_TEXT];
+    let n = printing::read_show(b"case.bin", b"start.bin", number, &mut text);
+    let all = io::write_all(STDOUT_FILENO, &text[..n]);
+    printing::mark_written(all);
+}
