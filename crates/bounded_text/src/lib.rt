@@ -39,17 +39,11 @@ pub fn put_bytes(text: &mut [u8], at: usize, bytes: &[u8]) -> End
     End::At(end)
 }
 
-// A number in decimal.
+// A number in decimal: at most 20 digits.
 pub fn put_number(text: &mut [u8], at: usize, n: u64) -> End
     ensures { λ r. ⌜ Prints (page (At at) (now (text .entry))) (decimal n) (page r (now (text .exit))) ⌝ }
 {
-    let last = (48 + n % 10) as u8;
-    if n < 10 {
-        return put_byte(text, at, last);
-    }
-    let front = put_number(text, at, n / 10);
-    let End::At(end) = front else {
-        return End::Past;
-    };
-    put_byte(text, end, last)
+    let mut digits = [0u8; 20];
+    let count = text::put_decimal(&mut digits, 0, n);
+    put_bytes(text, at, &digits[..count])
 }

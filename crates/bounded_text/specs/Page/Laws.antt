@@ -6,11 +6,14 @@ use mathlib.Core.List.{List, [], _∷_, _++_, foldl-append}
 use native.Mathlib.Nat.{add-zero, zero-add}
 use native.Mathlib.Numerals.{add-one}
 use native.Mathlib.Omega.{arith}
-use lib.ListN.{length, getD, take, drop, set, length-set, take-append-drop}
-use lib.Seq.{sets, take-all, take-suc}
+use lib.ListN.{length, getD, take, drop, set, replicate, length-set, take-append-drop}
+use lib.Seq.{sets, take-all, take-suc, take-at}
 use lib.Dec.{ltb, leb}
 use borrow.Author.Tests.{lt-ltb, le-ltb, ltb-true, ltb-false, leb-true, leb-false}
 use Rattle.words.specs.Laws.Tests.{by-test}
+use Rattle.services.specs.Memory.{padded}
+use Rattle.text.specs.Written.{Written}
+use Rattle.text.specs.Laws.Printed.{printed}
 use Rattle.bounded_text.specs.declared.End.{End}
 use Rattle.bounded_text.specs.declared.End.the-variants.{At, Past}
 use Rattle.bounded_text.specs.Page.{Page, page, putAt, putByte, print, Prints}
@@ -60,6 +63,15 @@ prints-to {g} {a} {bytes} t = subst (λ (q : End). Prints g a (page q bytes)) t
 -- a text that is the same
 pub prints-same : {g h : Page} {a b : List ℕ} → a ≡ b → Prints g a h → Prints g b h
 prints-same {g} {h} t = subst (λ (w : List ℕ). Prints g w h) t
+
+-- ---- digits
+
+-- the digits that were written into bytes that are all zero
+pub digits-taken : {n count : ℕ} {digits after : List ℕ} → Written (replicate n 0) 0 digits after count → count ≤ n → take count after ≡ digits
+unfolding padded
+digits-taken {n} {count} {digits} w h =
+    let (is, (e, _)) = printed refl w h in
+    ap (take count) is ∙ take-at digits _ count (sym e)
 
 -- ---- what is kept
 
