@@ -17,12 +17,16 @@ use Rattle.demands.specs.Demand1.{BracketsStates}
 
 -- ---- "No two different order-2 stacks print alike."
 
--- the texts that a printer gives to stacks tell which stack it is, and what follows the text
-abbrev pub Tells : (Stack2 → List ℕ) → Type 0
-Tells print = (t r : Stack2) (x y : List ℕ) → print t ++ x ≡ print r ++ y → (t ≡ r) × (x ≡ y)
+-- a printer gives different stacks different texts
+abbrev pub Distinct : (Stack2 → List ℕ) → Type 0
+Distinct print = (t r : Stack2) → print t ≡ print r → t ≡ r
 
 abbrev pub NoneAlike : Type 0
-NoneAlike = Tells stackText
+NoneAlike = Distinct stackText
+
+-- Nor does it matter what follows: a text at the front of bytes tells the stack, and what follows it.
+abbrev pub FrontTold : Type 0
+FrontTold = (t r : Stack2) (x y : List ℕ) → stackText t ++ x ≡ stackText r ++ y → (t ≡ r) × (x ≡ y)
 
 -- The same of what is printed, whoever prints it: where demand 1 holds of two answers and their texts are alike, the starts have one stack.
 abbrev pub PrintsTold : Type 0

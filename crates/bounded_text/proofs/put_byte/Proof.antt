@@ -2,11 +2,8 @@
 -- Assumes nothing.
 use borrow.Author.Needs.{needs}
 use Rattle.bounded_text.specs.Page.Laws.{prints-byte, prints-past}
-use borrow.Author.Needs.{needs}
 use Rattle.bounded_text.proofs.put_byte.Statement.{statement}
 use Rattle.bounded_text.proofs.put_byte.Tie as tie
-use Rattle.bounded_text.proofs.put_byte.Reads as reads
-use Rattle.bounded_text.proofs.put_byte.Lts as lts
 
 slice-write-text : tie.Need-slice-write-text
 slice-write-text c = search needs

@@ -9,9 +9,6 @@ use Rattle.bounded_text.specs.Page.{page}
 use Rattle.bounded_text.specs.Page.Laws.{PrintedTo, printed-none, printed-more, printed-past, printed-all, prints-to, prints-length}
 use Rattle.bounded_text.proofs.put_bytes.Statement.{statement}
 use Rattle.bounded_text.proofs.put_bytes.Tie as tie
-use Rattle.bounded_text.proofs.put_bytes.Reads as reads
-use Rattle.bounded_text.proofs.put_bytes.Lts as lts
-use Rattle.bounded_text.proofs.put_byte.Reads as put-byte-reads
 
 abbrev Inv-loop : tie.InvT-loop
 Inv-loop text₀ at bytes end₀ i₀ text end i = PrintedTo (page (At at) text₀) bytes i (page (At end) text)

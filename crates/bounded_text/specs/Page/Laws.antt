@@ -3,7 +3,7 @@
 use Prim.Native.Nat.{ℕ, suc, _+_, _-_, _≤_, _<_}
 use mathlib.Core.Path.{_≡_, refl, ap, sym, _∙_, subst}
 use mathlib.Core.List.{List, [], _∷_, _++_, foldl-append}
-use native.Mathlib.Nat.{add-zero, zero-add}
+use native.Mathlib.Nat.{add-zero}
 use native.Mathlib.Numerals.{add-one}
 use native.Mathlib.Omega.{arith}
 use lib.ListN.{length, getD, take, drop, set, replicate, length-set, take-append-drop}
@@ -108,7 +108,7 @@ module _ {g h : Page} {text : List ℕ} {i : ℕ} (x : PrintedTo g text i h) whe
   pub printed-past : {bytes : List ℕ} → i < length text → Prints h (getD text i 0 ∷ []) (page Past bytes) → Prints g text (page Past bytes)
   printed-past {bytes} more y =
       let e : take i text ++ (getD text i 0 ∷ []) ++ drop (suc i) text ≡ text =
-          ap (λ (l : List ℕ). l ++ drop (suc i) text) (sym (take-suc text i 0 more)) ∙ take-append-drop (suc i) text in
+      ap (λ (l : List ℕ). l ++ drop (suc i) text) (sym (take-suc text i 0 more)) ∙ take-append-drop (suc i) text in
       prints-same e (prints-on (drop (suc i) text) (prints-then (x .so-far) y))
 
   pub printed-all : length text ≤ i → Prints g text h

@@ -12,10 +12,9 @@ use Rattle.words.specs.Lists.Laws.{length-zeros}
 use Rattle.replies.specs.declared.Brackets.{Brackets}
 use Rattle.replies.specs.declared.Brackets.the-variants.{Refused, Printed}
 use Rattle.walks.specs.Cell.{order2, stackAt, stacks}
-use Rattle.walks.specs.Cell.Formed.{Formed, orderAt}
+use Rattle.walks.specs.Cell.Formed.{orderAt}
 use Rattle.files.specs.Bytes.{countOf, firstHit}
 use Rattle.files.specs.Start.{Start, startOf, startsOf, cellsOf, startAt, configurationOf, configurationAt}
-use Rattle.services.specs.Memory.{padded}
 use Rattle.services.specs.Memory.Laws.{sets-zeros}
 use Rattle.services.specs.Brackets.{stackText, BracketsInput, bracketsFiles, rootText, lengthTests, bracketsRefusal, BracketsDone, bracketsAnswer, bracketsService}
 use Rattle.services.specs.Brackets.Laws.{answer-refused, answer-printed, length-refused, length-passed}
@@ -27,12 +26,12 @@ use Rattle.bytes_in.specs.Records.{recordAt, bodyOf}
 use Rattle.start_records.specs.Body.{cellsIn}
 use Rattle.bounded_text.specs.declared.End.the-variants.{At, Past}
 use Rattle.bounded_text.specs.Page.{page, Prints}
-use Rattle.bounded_text.specs.Page.Laws.{fits, longer, prints-same}
+use Rattle.bounded_text.specs.Page.Laws.{fits, longer}
 use Rattle.stack_text.specs.Cells.{CellsStand, stackIn}
 use Rattle.sound_files.specs.Refusal.{FilesSound, firstOf, refusedBefore}
 use Rattle.sound_files.specs.Refusal.Laws.{first-stays, first-passes, tests-first, sound-before, not-past}
 use Rattle.sound_files.specs.Sound.{StartSound}
-use Rattle.sound_files.specs.Sound.Laws.{cells-count, cells-lent, start-sound}
+use Rattle.sound_files.specs.Sound.Laws.{cells-count, cells-lent}
 use Rattle.sound_files.specs.Sound.Rounds.{cells-are, cells-formed, start-read, start-listed}
 use Rattle.brackets.specs.Service.{bracketsInput, bracketsDone}
 

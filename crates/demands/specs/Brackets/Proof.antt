@@ -19,12 +19,15 @@ use Rattle.demands.specs.Refusals.Brackets.{text-fits}
 use Rattle.demands.specs.Demand1.{BracketsAnswered, BracketsStates}
 use Rattle.demands.specs.Demand1.Proof.{prints-states, refuses-states, demand1-brackets}
 use Rattle.demands.specs.Determined.{brackets-only}
-use Rattle.demands.specs.Brackets.{NoneAlike, PrintsTold, PrintsExactly, BracketsExactly, SameText}
+use Rattle.demands.specs.Brackets.{NoneAlike, FrontTold, PrintsTold, PrintsExactly, BracketsExactly, SameText}
 
 -- ---- no two stacks print alike
 
+pub front-told : FrontTold
+front-told = stack-told
+
 pub none-alike : NoneAlike
-none-alike = stack-told
+none-alike t r e = front-told t r [] [] (ap (λ (l : List ℕ). l ++ []) e) .0
 
 -- what an answer that prints has printed
 printed-text : (x : BracketsInput) (d : BracketsDone) (k : ℕ) → BracketsStates x d → d .reply ≡ Printed k
@@ -38,7 +41,7 @@ pub prints-told : PrintsTold
 unfolding rootText
 prints-told x y d e k m s t f g h =
     let z : rootText x ≡ rootText y = sym (printed-text x d k s f .1) ∙ h ∙ printed-text y e m t g .1 in
-    none-alike _ _ [] [] (ap (λ (l : List ℕ). l ++ []) z) .0
+    none-alike _ _ z
 
 -- ---- when each answer is given
 

@@ -3,7 +3,7 @@
 -- Assumes nothing.
 use Prim.Native.Nat.{ℕ}
 use mathlib.Core.Path.{_≡_, refl, ap, sym, _∙_}
-use mathlib.Core.List.{List, [], _++_}
+use mathlib.Core.List.{List}
 use lib.ListN.{getD, take, drop}
 use borrow.Author.Tests.{eqb-false}
 use Rattle.stacks.specs.Stack.{nil1, cons1, Stack2, nil2, cons2, Annotation, of1, of2, annotationOrder}
@@ -17,7 +17,7 @@ use Rattle.models.specs.Computing.{computed}
 use Rattle.models.specs.Files.{caseCollapse, startCollapse, caseBrackets, startBrackets}
 use Rattle.demands.specs.Demand1.{BracketsStates}
 use Rattle.demands.specs.Determined.{brackets-only}
-use Rattle.demands.specs.Brackets.{Tells}
+use Rattle.demands.specs.Brackets.{Distinct}
 use Rattle.demands.specs.Brackets.Proof.{prints-told}
 use Rattle.demands.specs.Instances.{bracketsA}
 
@@ -59,8 +59,8 @@ unfolding annotationOrder
 orders-differ a e = let z : of1 nil1 ≡ of2 nil2 = cc in eqb-false 1 2 refl (ap annotationOrder z)
 
 -- Whatever a printer puts there, if it puts the same for both orders, two stacks print alike.
-pub orders-alike : (print : Stack2 → List ℕ) (a : ℕ) → print (alone a (of1 nil1)) ≡ print (alone a (of2 nil2)) → Tells print → ⊥
-orders-alike print a e told = orders-differ a (told _ _ [] [] (ap (λ (l : List ℕ). l ++ []) e) .0)
+pub orders-alike : (print : Stack2 → List ℕ) (a : ℕ) → print (alone a (of1 nil1)) ≡ print (alone a (of2 nil2)) → Distinct print → ⊥
+orders-alike print a e distinct = orders-differ a (distinct _ _ e)
 
 pub orders-printed-alike : (d e : BracketsDone) (k m : ℕ) → d .reply ≡ Printed k → e .reply ≡ Printed m → take k (d .text) ≡ take m (e .text)
     → BracketsStates (bracketsEither 0) d → BracketsStates (bracketsEither 1) e → ⊥

@@ -68,6 +68,7 @@ no-bracket a x y e =
 
 mutual
   unfolding SymbolsTold symbolsText
+
   symbols-told : (s : Stack1) → SymbolsTold s
   symbols-told nil1 nil1 x y e = (refl, rest e)
   symbols-told nil1 (cons1 b v r) x y e = absurd (no-bracket b x _ (e ∙ symbols-parts b v r (93 ∷ y)))

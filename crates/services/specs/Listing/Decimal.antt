@@ -2,7 +2,7 @@
 -- Assumes nothing.
 use Prim.Native.Nat.{ℕ, zero, suc, _+_, _-_, _*_, _/_, _%_, _^_, _≤_, _<_}
 use mathlib.Core.Bool.{true, false}
-use mathlib.Core.Path.{_≡_, refl, ap, sym, _∙_}
+use mathlib.Core.Path.{_≡_, ap, sym, _∙_}
 use mathlib.Core.List.{List, [], _∷_, _++_, append-assoc}
 use native.Mathlib.Nat.{pow-succ'}
 use native.Mathlib.Omega.{arith}
@@ -135,6 +135,6 @@ read-decimal (suc k) n bs h = by-test (ltb n 10)
 pub decimal-told : (n m b c : ℕ) (x y : List ℕ) → b < 48 → c < 48 → decimal n ++ (b ∷ x) ≡ decimal m ++ (c ∷ y) → (n ≡ m) × ((b ∷ x) ≡ (c ∷ y))
 decimal-told n m b c x y h l e =
     let r : _≡_ {A = Number} (record { value = n; follows = b ∷ x }) (record { value = m; follows = c ∷ y }) =
-        sym (read-other n b x h) ∙ sym (read-decimal (suc n) n (b ∷ x) (omega arith)) ∙ ap (readNumber 0) e
-        ∙ read-decimal (suc m) m (c ∷ y) (omega arith) ∙ read-other m c y l in
+    sym (read-other n b x h) ∙ sym (read-decimal (suc n) n (b ∷ x) (omega arith)) ∙ ap (readNumber 0) e
+    ∙ read-decimal (suc m) m (c ∷ y) (omega arith) ∙ read-other m c y l in
     (ap (λ (q : Number). q .value) r, ap (λ (q : Number). q .follows) r)

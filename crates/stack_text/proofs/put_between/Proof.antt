@@ -6,14 +6,8 @@ use borrow.Author.Needs.{needs}
 use Rattle.services.specs.Listing.{ascii}
 use Rattle.bounded_text.specs.Page.Laws.{prints-none, prints-same}
 use Rattle.stack_text.specs.Cells.Laws.{no-variant, between-none, between-is}
-use native.Mathlib.Omega.{arith}
-use borrow.Author.Needs.{needs}
 use Rattle.stack_text.proofs.put_between.Statement.{statement}
 use Rattle.stack_text.proofs.put_between.Tie as tie
-use Rattle.stack_text.proofs.put_between.Reads as reads
-use Rattle.stack_text.proofs.put_between.Lts as lts
-use Rattle.bounded_text.proofs.put_bytes.Reads as put-bytes-reads
-use Rattle.start_records.proofs.cell_at.Reads as cell-at-reads
 
 cell-at-requires : tie.Need-cell-at-requires
 cell-at-requires c κs = search needs
@@ -22,7 +16,10 @@ enum-told : tie.Need-enum-told
 enum-told c = search needs
 
 returns : tie.Need-returns
-returns c = prints-same (between-none (c .before .before .before .before .pre .0) (c .before .before .before .before .pre .1) _ (c .before .cell-at .ensures) (λ a u s e. no-variant (λ z. omega arith) (λ z. omega arith) (λ z. omega arith) (rw e at (c .match .keys2))) (c .before .before .before .before .pre .2)) prints-none
+returns c =
+    let start = c .before .before .before .before in
+    prints-same (between-none (start .pre .0) (start .pre .1) _ (c .before .cell-at .ensures) (λ a u s e. no-variant (λ z. omega arith) (λ z. omega arith) (λ z. omega arith) (rw e at (c .match .keys2))) (start .pre .2))
+    prints-none
 
 slice-aggregate-put-bytes : tie.Need-slice-aggregate-put-bytes
 slice-aggregate-put-bytes c = search needs
@@ -35,7 +32,12 @@ same-length c = search needs
 
 returns-2 : tie.Need-returns-2
 unfolding ascii
-returns-2 c = prints-same (sym (between-is (c .before .before .before .before .before .before .before .before .before .before .pre .0) (c .before .before .before .before .before .before .before .before .before .before .pre .1) _ (c .before .before .before .before .before .before .before .cell-at .ensures) (c .before .before .before .before .before .enum-told .given .1))) (c .before .before .put-bytes .ensures)
+returns-2 c =
+    let start = c .before .before .before .before .before .before .before .before .before .before in
+    let read = c .before .before .before .before .before .before .before .cell-at in
+    let enum-told = c .before .before .before .before .before .enum-told in
+    let bytes = c .before .before .put-bytes in
+    prints-same (sym (between-is (start .pre .0) (start .pre .1) _ (read .ensures) (enum-told .given .1))) (bytes .ensures)
 
 pub put-between-spec : {M : Type 1} → statement M
 put-between-spec =

@@ -6,13 +6,8 @@ use Rattle.walks.specs.Cell.{order2}
 use Rattle.services.specs.Brackets.{stacksText, stackText}
 use Rattle.stack_text.specs.Cells.{stackIn}
 use Rattle.bounded_text.specs.Page.Laws.{prints-then, prints-on, prints-to}
-use borrow.Author.Needs.{needs}
 use Rattle.stack_text.proofs.put_stack.Statement.{statement}
 use Rattle.stack_text.proofs.put_stack.Tie as tie
-use Rattle.stack_text.proofs.put_stack.Reads as reads
-use Rattle.stack_text.proofs.put_stack.Lts as lts
-use Rattle.bounded_text.proofs.put_bytes.Reads as put-bytes-reads
-use Rattle.stack_text.proofs.put_stacks.Reads as put-stacks-reads
 
 slice-aggregate-put-bytes : tie.Need-slice-aggregate-put-bytes
 slice-aggregate-put-bytes c = search needs
@@ -31,7 +26,9 @@ same-length c = search needs
 
 returns : tie.Need-returns
 unfolding ascii stackText
-returns c = prints-on _ (prints-on (stacksText (order2 (stackIn _ _ _))) (prints-to (c .enum-told .given .1) (c .before .before .before .before .put-bytes .ensures)))
+returns c =
+    let bytes = c .before .before .before .before .put-bytes in
+    prints-on _ (prints-on (stacksText (order2 (stackIn _ _ _))) (prints-to (c .enum-told .given .1) (bytes .ensures)))
 
 put-stacks-requires : tie.Need-put-stacks-requires
 put-stacks-requires c κs = search needs
@@ -47,7 +44,11 @@ same-length-2 c = search needs
 
 returns-2 : tie.Need-returns-2
 unfolding ascii stackText
-returns-2 c = prints-on _ (prints-then (prints-to (c .before .before .before .before .before .before .before .opened .given .1) (c .before .before .before .before .before .before .before .before .before .before .before .put-bytes .ensures)) (prints-to (c .enum-told2 .given .1) (c .before .before .before .before .put-stacks .ensures)))
+returns-2 c =
+    let opened = c .before .before .before .before .before .before .before .opened in
+    let bytes = c .before .before .before .before .before .before .before .before .before .before .before .put-bytes in
+    let stacks = c .before .before .before .before .put-stacks in
+    prints-on _ (prints-then (prints-to (opened .given .1) (bytes .ensures)) (prints-to (c .enum-told2 .given .1) (stacks .ensures)))
 
 slice-aggregate-put-bytes-2 : tie.Need-slice-aggregate-put-bytes-2
 slice-aggregate-put-bytes-2 c = search needs
@@ -60,7 +61,13 @@ same-length-3 c = search needs
 
 returns-3 : tie.Need-returns-3
 unfolding ascii stackText
-returns-3 c = prints-then (prints-then (prints-to (c .before .before .before .before .before .before .before .before .before .before .before .before .before .opened .given .1) (c .before .before .before .before .before .before .before .before .before .before .before .before .before .before .before .before .before .put-bytes .ensures)) (prints-to (c .before .before .before .before .before .before .printed .given .1) (c .before .before .before .before .before .before .before .before .before .before .put-stacks .ensures))) (c .before .before .put-bytes2 .ensures)
+returns-3 c =
+    let opened = c .before .before .before .before .before .before .before .before .before .before .before .before .before .opened in
+    let bytes = c .before .before .before .before .before .before .before .before .before .before .before .before .before .before .before .before .before .put-bytes in
+    let printed = c .before .before .before .before .before .before .printed in
+    let stacks = c .before .before .before .before .before .before .before .before .before .before .put-stacks in
+    let bytes2 = c .before .before .put-bytes2 in
+    prints-then (prints-then (prints-to (opened .given .1) (bytes .ensures)) (prints-to (printed .given .1) (stacks .ensures))) (bytes2 .ensures)
 
 pub put-stack-spec : {M : Type 1} → statement M
 put-stack-spec =

@@ -3,13 +3,8 @@
 use borrow.Author.Needs.{needs}
 use Rattle.services.specs.Listing.{ascii}
 use Rattle.bounded_text.specs.Page.Laws.{prints-then, prints-on, prints-to}
-use borrow.Author.Needs.{needs}
 use Rattle.stack_text.proofs.put_symbol.Statement.{statement}
 use Rattle.stack_text.proofs.put_symbol.Tie as tie
-use Rattle.stack_text.proofs.put_symbol.Reads as reads
-use Rattle.stack_text.proofs.put_symbol.Lts as lts
-use Rattle.bounded_text.proofs.put_bytes.Reads as put-bytes-reads
-use Rattle.bounded_text.proofs.put_number.Reads as put-number-reads
 
 put-number-requires : tie.Need-put-number-requires
 put-number-requires c κs = search needs
@@ -25,7 +20,9 @@ same-length c = search needs
 
 returns : tie.Need-returns
 unfolding ascii
-returns c = prints-on _ (prints-to (c .enum-told .given .1) (c .before .before .before .before .put-number .ensures))
+returns c =
+    let digits = c .before .before .before .before .put-number in
+    prints-on _ (prints-to (c .enum-told .given .1) (digits .ensures))
 
 slice-aggregate-put-bytes : tie.Need-slice-aggregate-put-bytes
 slice-aggregate-put-bytes c = search needs
@@ -38,7 +35,11 @@ same-length-2 c = search needs
 
 returns-2 : tie.Need-returns-2
 unfolding ascii
-returns-2 c = prints-then (prints-to (c .before .before .before .before .before .before .number .given .1) (c .before .before .before .before .before .before .before .before .before .before .put-number .ensures)) (c .before .before .put-bytes .ensures)
+returns-2 c =
+    let number = c .before .before .before .before .before .before .number in
+    let digits = c .before .before .before .before .before .before .before .before .before .before .put-number in
+    let bytes = c .before .before .put-bytes in
+    prints-then (prints-to (number .given .1) (digits .ensures)) (bytes .ensures)
 
 pub put-symbol-spec : {M : Type 1} → statement M
 put-symbol-spec =

@@ -1,13 +1,13 @@
 -- The text of the stack of a cell, by the cells to which it refers.
 -- Assumes nothing.
 use Prim.Native.Nat.{ℕ, _<_}
-use mathlib.Core.Path.{_≡_, refl, ap, sym, _∙_, subst}
+use mathlib.Core.Path.{_≡_, refl, ap, sym, _∙_}
 use mathlib.Core.Logic.{_⊎_, inl, inr}
 use mathlib.Core.List.{List, [], _++_}
 use native.Mathlib.Omega.{arith}
 use lib.ListN.{length}
-use Rattle.stacks.specs.Stack.{Stack1, nil1, Annotation, annotationOrder}
-use Rattle.walks.specs.Cell.{empty1, symbol, empty2, above, order1, order2, stackAt, stackOf, stacks}
+use Rattle.stacks.specs.Stack.{nil1, Annotation, annotationOrder}
+use Rattle.walks.specs.Cell.{empty1, symbol, empty2, above, order1, order2, stackOf, stacks}
 use Rattle.walks.specs.Cell as walks
 use Rattle.walks.specs.Cell.Laws.{stack-at, stack-order, annotation-of1, annotation-of2}
 use Rattle.walks.specs.Cell.Formed.{cellOrder, cellAt, orderAt, formed-symbol, formed-above}

@@ -16,7 +16,9 @@ use Rattle.stack_text.proofs.+put_annotation+put_stacks+put_symbols.Pro
 
 module _ (t : ℕ) where
   order-at-requires : put-annotation-lts.Need-order-at-requires (put-annotation-calls t) (put-annotation-at t) put-annotation.Post
-  order-at-requires c κs = (c .before .before .pre .1 .0) .room
+  order-at-requires c κs =
+      let start = c .before .before in
+      start .pre .1 .0 .room
 
   slice-aggregate-put-bytes : put-annotation-lts.Need-slice-aggregate-put-bytes (put-annotation-calls t) (put-annotation-at t) put-annotation.Post
   slice-aggregate-put-bytes c = search needs
@@ -35,10 +37,20 @@ module _ (t : ℕ) where
 
   returns : put-annotation-lts.Need-returns (put-annotation-calls t) (put-annotation-at t) put-annotation.Post
   unfolding ascii
-  returns c = prints-same (sym (annotation1 (c .before .before .before .before .before .before .before .before .before .before .before .pre .1 .0) (c .before .before .before .before .before .before .before .before .before .before .before .pre .1 .1) (sym (c .before .before .before .before .before .before .before .if1 .taken) ∙ c .before .before .before .before .before .before .before .before .order-at .ensures))) (prints-on _ (prints-on (symbolsText (order1 (stackIn _ _ _))) (prints-to (c .enum-told .given .1) (c .before .before .before .before .put-bytes .ensures))))
+  returns c =
+      let start = c .before .before .before .before .before .before .before .before .before .before .before in
+      let if1 = c .before .before .before .before .before .before .before .if1 in
+      let order = c .before .before .before .before .before .before .before .before .order-at in
+      let bytes = c .before .before .before .before .put-bytes in
+      prints-same (sym (annotation1 (start .pre .1 .0) (start .pre .1 .1) (sym (if1 .taken) ∙ order .ensures)))
+      (prints-on _ (prints-on (symbolsText (order1 (stackIn _ _ _))) (prints-to (c .enum-told .given .1) (bytes .ensures))))
 
   put-symbols-requires : put-annotation-lts.Need-put-symbols-requires (put-annotation-calls t) (put-annotation-at t) put-annotation.Post
-  put-symbols-requires c κs = (omega arith, ((c .before .before .before .before .before .before .before .before .before .before .before .before .before .pre .1 .0), (c .before .before .before .before .before .before .before .before .before .before .before .before .before .pre .1 .1), sym (c .before .before .before .before .before .before .before .before .before .before .order-at .ensures) ∙ c .before .before .before .before .before .before .before .before .before .if1 .taken))
+  put-symbols-requires c κs =
+      let start = c .before .before .before .before .before .before .before .before .before .before .before .before .before in
+      let order = c .before .before .before .before .before .before .before .before .before .before .order-at in
+      let if1 = c .before .before .before .before .before .before .before .before .before .if1 in
+      (omega arith, (start .pre .1 .0, start .pre .1 .1, sym (order .ensures) ∙ if1 .taken))
 
   enum-known-printed : put-annotation-lts.Need-enum-known-printed (put-annotation-calls t) (put-annotation-at t) put-annotation.Post
   enum-known-printed c = search needs
@@ -51,7 +63,15 @@ module _ (t : ℕ) where
 
   returns-2 : put-annotation-lts.Need-returns-2 (put-annotation-calls t) (put-annotation-at t) put-annotation.Post
   unfolding ascii
-  returns-2 c = prints-same (sym (annotation1 (c .before .before .before .before .before .before .before .before .before .before .before .before .before .before .before .before .before .before .pre .1 .0) (c .before .before .before .before .before .before .before .before .before .before .before .before .before .before .before .before .before .before .pre .1 .1) (sym (c .before .before .before .before .before .before .before .before .before .before .before .before .before .before .if1 .taken) ∙ c .before .before .before .before .before .before .before .before .before .before .before .before .before .before .before .order-at .ensures))) (prints-on _ (prints-then (prints-to (c .before .before .before .before .before .before .before .opened .given .1) (c .before .before .before .before .before .before .before .before .before .before .before .put-bytes .ensures)) (prints-to (c .enum-told2 .given .1) (c .before .before .before .before .put-symbols .ensures))))
+  returns-2 c =
+      let start = c .before .before .before .before .before .before .before .before .before .before .before .before .before .before .before .before .before .before in
+      let if1 = c .before .before .before .before .before .before .before .before .before .before .before .before .before .before .if1 in
+      let order = c .before .before .before .before .before .before .before .before .before .before .before .before .before .before .before .order-at in
+      let opened = c .before .before .before .before .before .before .before .opened in
+      let bytes = c .before .before .before .before .before .before .before .before .before .before .before .put-bytes in
+      let symbols = c .before .before .before .before .put-symbols in
+      prints-same (sym (annotation1 (start .pre .1 .0) (start .pre .1 .1) (sym (if1 .taken) ∙ order .ensures)))
+      (prints-on _ (prints-then (prints-to (opened .given .1) (bytes .ensures)) (prints-to (c .enum-told2 .given .1) (symbols .ensures))))
 
   slice-aggregate-put-bytes-2 : put-annotation-lts.Need-slice-aggregate-put-bytes-2 (put-annotation-calls t) (put-annotation-at t) put-annotation.Post
   slice-aggregate-put-bytes-2 c = search needs
@@ -64,7 +84,17 @@ module _ (t : ℕ) where
 
   returns-3 : put-annotation-lts.Need-returns-3 (put-annotation-calls t) (put-annotation-at t) put-annotation.Post
   unfolding ascii
-  returns-3 c = prints-same (sym (annotation1 (c .before .before .before .before .before .before .before .before .before .before .before .before .before .before .before .before .before .before .before .before .before .before .before .before .pre .1 .0) (c .before .before .before .before .before .before .before .before .before .before .before .before .before .before .before .before .before .before .before .before .before .before .before .before .pre .1 .1) (sym (c .before .before .before .before .before .before .before .before .before .before .before .before .before .before .before .before .before .before .before .before .if1 .taken) ∙ c .before .before .before .before .before .before .before .before .before .before .before .before .before .before .before .before .before .before .before .before .before .order-at .ensures))) (prints-then (prints-then (prints-to (c .before .before .before .before .before .before .before .before .before .before .before .before .before .opened .given .1) (c .before .before .before .before .before .before .before .before .before .before .before .before .before .before .before .before .before .put-bytes .ensures)) (prints-to (c .before .before .before .before .before .before .printed .given .1) (c .before .before .before .before .before .before .before .before .before .before .put-symbols .ensures))) (c .before .before .put-bytes2 .ensures))
+  returns-3 c =
+      let start = c .before .before .before .before .before .before .before .before .before .before .before .before .before .before .before .before .before .before .before .before .before .before .before .before in
+      let if1 = c .before .before .before .before .before .before .before .before .before .before .before .before .before .before .before .before .before .before .before .before .if1 in
+      let order = c .before .before .before .before .before .before .before .before .before .before .before .before .before .before .before .before .before .before .before .before .before .order-at in
+      let opened = c .before .before .before .before .before .before .before .before .before .before .before .before .before .opened in
+      let bytes = c .before .before .before .before .before .before .before .before .before .before .before .before .before .before .before .before .before .put-bytes in
+      let printed = c .before .before .before .before .before .before .printed in
+      let symbols = c .before .before .before .before .before .before .before .before .before .before .put-symbols in
+      let bytes2 = c .before .before .put-bytes2 in
+      prints-same (sym (annotation1 (start .pre .1 .0) (start .pre .1 .1) (sym (if1 .taken) ∙ order .ensures)))
+      (prints-then (prints-then (prints-to (opened .given .1) (bytes .ensures)) (prints-to (printed .given .1) (symbols .ensures))) (bytes2 .ensures))
 
   slice-aggregate-put-bytes-3 : put-annotation-lts.Need-slice-aggregate-put-bytes-3 (put-annotation-calls t) (put-annotation-at t) put-annotation.Post
   slice-aggregate-put-bytes-3 c = search needs
@@ -83,10 +113,20 @@ module _ (t : ℕ) where
 
   returns-4 : put-annotation-lts.Need-returns-4 (put-annotation-calls t) (put-annotation-at t) put-annotation.Post
   unfolding ascii
-  returns-4 c = prints-same (sym (annotation2 (c .before .before .before .before .before .before .before .before .before .before .before .pre .1 .0) (c .before .before .before .before .before .before .before .before .before .before .before .pre .1 .1) (c .before .before .before .before .before .before .before .before .order-at .ensures) (c .before .before .before .before .before .before .before .if1 .left))) (prints-on _ (prints-on (stacksText (order2 (stackIn _ _ _))) (prints-to (c .enum-told3 .given .1) (c .before .before .before .before .put-bytes3 .ensures))))
+  returns-4 c =
+      let start = c .before .before .before .before .before .before .before .before .before .before .before in
+      let order = c .before .before .before .before .before .before .before .before .order-at in
+      let if1 = c .before .before .before .before .before .before .before .if1 in
+      let bytes3 = c .before .before .before .before .put-bytes3 in
+      prints-same (sym (annotation2 (start .pre .1 .0) (start .pre .1 .1) (order .ensures) (if1 .left)))
+      (prints-on _ (prints-on (stacksText (order2 (stackIn _ _ _))) (prints-to (c .enum-told3 .given .1) (bytes3 .ensures))))
 
   put-stacks-requires : put-annotation-lts.Need-put-stacks-requires (put-annotation-calls t) (put-annotation-at t) put-annotation.Post
-  put-stacks-requires c κs = (omega arith, ((c .before .before .before .before .before .before .before .before .before .before .before .before .before .pre .1 .0), (c .before .before .before .before .before .before .before .before .before .before .before .before .before .pre .1 .1), order2-is (c .before .before .before .before .before .before .before .before .before .before .before .before .before .pre .1 .0) (c .before .before .before .before .before .before .before .before .before .before .before .before .before .pre .1 .1) (c .before .before .before .before .before .before .before .before .before .before .order-at .ensures) (c .before .before .before .before .before .before .before .before .before .if1 .left)))
+  put-stacks-requires c κs =
+      let start = c .before .before .before .before .before .before .before .before .before .before .before .before .before in
+      let order = c .before .before .before .before .before .before .before .before .before .before .order-at in
+      let if1 = c .before .before .before .before .before .before .before .before .before .if1 in
+      (omega arith, (start .pre .1 .0, start .pre .1 .1, order2-is (start .pre .1 .0) (start .pre .1 .1) (order .ensures) (if1 .left)))
 
   enum-known-printed-2 : put-annotation-lts.Need-enum-known-printed-2 (put-annotation-calls t) (put-annotation-at t) put-annotation.Post
   enum-known-printed-2 c = search needs
@@ -99,7 +139,15 @@ module _ (t : ℕ) where
 
   returns-5 : put-annotation-lts.Need-returns-5 (put-annotation-calls t) (put-annotation-at t) put-annotation.Post
   unfolding ascii
-  returns-5 c = prints-same (sym (annotation2 (c .before .before .before .before .before .before .before .before .before .before .before .before .before .before .before .before .before .before .pre .1 .0) (c .before .before .before .before .before .before .before .before .before .before .before .before .before .before .before .before .before .before .pre .1 .1) (c .before .before .before .before .before .before .before .before .before .before .before .before .before .before .before .order-at .ensures) (c .before .before .before .before .before .before .before .before .before .before .before .before .before .before .if1 .left))) (prints-on _ (prints-then (prints-to (c .before .before .before .before .before .before .before .opened2 .given .1) (c .before .before .before .before .before .before .before .before .before .before .before .put-bytes3 .ensures)) (prints-to (c .enum-told4 .given .1) (c .before .before .before .before .put-stacks .ensures))))
+  returns-5 c =
+      let start = c .before .before .before .before .before .before .before .before .before .before .before .before .before .before .before .before .before .before in
+      let order = c .before .before .before .before .before .before .before .before .before .before .before .before .before .before .before .order-at in
+      let if1 = c .before .before .before .before .before .before .before .before .before .before .before .before .before .before .if1 in
+      let opened2 = c .before .before .before .before .before .before .before .opened2 in
+      let bytes3 = c .before .before .before .before .before .before .before .before .before .before .before .put-bytes3 in
+      let stacks = c .before .before .before .before .put-stacks in
+      prints-same (sym (annotation2 (start .pre .1 .0) (start .pre .1 .1) (order .ensures) (if1 .left)))
+      (prints-on _ (prints-then (prints-to (opened2 .given .1) (bytes3 .ensures)) (prints-to (c .enum-told4 .given .1) (stacks .ensures))))
 
   slice-aggregate-put-bytes-4 : put-annotation-lts.Need-slice-aggregate-put-bytes-4 (put-annotation-calls t) (put-annotation-at t) put-annotation.Post
   slice-aggregate-put-bytes-4 c = search needs
@@ -112,7 +160,17 @@ module _ (t : ℕ) where
 
   returns-6 : put-annotation-lts.Need-returns-6 (put-annotation-calls t) (put-annotation-at t) put-annotation.Post
   unfolding ascii
-  returns-6 c = prints-same (sym (annotation2 (c .before .before .before .before .before .before .before .before .before .before .before .before .before .before .before .before .before .before .before .before .before .before .before .before .pre .1 .0) (c .before .before .before .before .before .before .before .before .before .before .before .before .before .before .before .before .before .before .before .before .before .before .before .before .pre .1 .1) (c .before .before .before .before .before .before .before .before .before .before .before .before .before .before .before .before .before .before .before .before .before .order-at .ensures) (c .before .before .before .before .before .before .before .before .before .before .before .before .before .before .before .before .before .before .before .before .if1 .left))) (prints-then (prints-then (prints-to (c .before .before .before .before .before .before .before .before .before .before .before .before .before .opened2 .given .1) (c .before .before .before .before .before .before .before .before .before .before .before .before .before .before .before .before .before .put-bytes3 .ensures)) (prints-to (c .before .before .before .before .before .before .printed2 .given .1) (c .before .before .before .before .before .before .before .before .before .before .put-stacks .ensures))) (c .before .before .put-bytes4 .ensures))
+  returns-6 c =
+      let start = c .before .before .before .before .before .before .before .before .before .before .before .before .before .before .before .before .before .before .before .before .before .before .before .before in
+      let order = c .before .before .before .before .before .before .before .before .before .before .before .before .before .before .before .before .before .before .before .before .before .order-at in
+      let if1 = c .before .before .before .before .before .before .before .before .before .before .before .before .before .before .before .before .before .before .before .before .if1 in
+      let opened2 = c .before .before .before .before .before .before .before .before .before .before .before .before .before .opened2 in
+      let bytes3 = c .before .before .before .before .before .before .before .before .before .before .before .before .before .before .before .before .before .put-bytes3 in
+      let printed2 = c .before .before .before .before .before .before .printed2 in
+      let stacks = c .before .before .before .before .before .before .before .before .before .before .put-stacks in
+      let bytes4 = c .before .before .put-bytes4 in
+      prints-same (sym (annotation2 (start .pre .1 .0) (start .pre .1 .1) (order .ensures) (if1 .left)))
+      (prints-then (prints-then (prints-to (opened2 .given .1) (bytes3 .ensures)) (prints-to (printed2 .given .1) (stacks .ensures))) (bytes4 .ensures))
 
   pub annotation-shown : (M : Type 1) → put-annotation-lts.Closed (put-annotation-calls t) (put-annotation-at t) put-annotation.Post M
   annotation-shown M = put-annotation-lts.spec (put-annotation-calls t) (put-annotation-at t) put-annotation.Post

@@ -16,13 +16,19 @@ use Rattle.stack_text.proofs.+put_annotation+put_stacks+put_symbols.Pro
 
 module _ (t : ℕ) where
   cell-at-requires : put-stacks-lts.Need-cell-at-requires (put-stacks-calls t) (put-stacks-at t) put-stacks.Post
-  cell-at-requires c κs = (let l = (c .before .before .pre .1 .0) .room in omega arith)
+  cell-at-requires c κs =
+      let start = c .before .before in
+      let l = start .pre .1 .0 .room in
+      omega arith
 
   enum-known-cell : put-stacks-lts.Need-enum-known-cell (put-stacks-calls t) (put-stacks-at t) put-stacks.Post
   enum-known-cell c = search needs
 
   returns : put-stacks-lts.Need-returns (put-stacks-calls t) (put-stacks-at t) put-stacks.Post
-  returns c = prints-same (stacks-none (c .before .before .before .before .pre .1 .0) (c .before .before .before .before .pre .1 .1) _ (c .before .cell-at .ensures) (λ w t e. no-variant (λ z. omega arith) (λ z. omega arith) (λ z. omega arith) (rw e at (c .match .keys2))) (c .before .before .before .before .pre .1 .2)) prints-none
+  returns c =
+      let start = c .before .before .before .before in
+      prints-same (stacks-none (start .pre .1 .0) (start .pre .1 .1) _ (c .before .cell-at .ensures) (λ w t e. no-variant (λ z. omega arith) (λ z. omega arith) (λ z. omega arith) (rw e at (c .match .keys2))) (start .pre .1 .2))
+      prints-none
 
   slice-aggregate-put-bytes : put-stacks-lts.Need-slice-aggregate-put-bytes (put-stacks-calls t) (put-stacks-at t) put-stacks.Post
   slice-aggregate-put-bytes c = search needs
@@ -41,13 +47,24 @@ module _ (t : ℕ) where
 
   returns-2 : put-stacks-lts.Need-returns-2 (put-stacks-calls t) (put-stacks-at t) put-stacks.Post
   unfolding ascii
-  returns-2 c = prints-same (sym (stacks-are (c .before .before .before .before .before .before .before .before .before .before .before .before .before .pre .1 .0) (c .before .before .before .before .before .before .before .before .before .before .before .before .before .pre .1 .1) _ (c .before .before .before .before .before .before .before .before .before .before .cell-at .ensures) (c .before .before .before .before .before .before .before .before .cell .given .1))) (prints-on _ (prints-on _ (prints-on (symbolsText (order1 (stackIn _ _ _))) (prints-to (c .enum-told .given .1) (c .before .before .before .before .put-bytes .ensures)))))
+  returns-2 c =
+      let start = c .before .before .before .before .before .before .before .before .before .before .before .before .before in
+      let read = c .before .before .before .before .before .before .before .before .before .before .cell-at in
+      let cell = c .before .before .before .before .before .before .before .before .cell in
+      let bytes = c .before .before .before .before .put-bytes in
+      prints-same (sym (stacks-are (start .pre .1 .0) (start .pre .1 .1) _ (read .ensures) (cell .given .1)))
+      (prints-on _ (prints-on _ (prints-on (symbolsText (order1 (stackIn _ _ _))) (prints-to (c .enum-told .given .1) (bytes .ensures)))))
 
   cast-put-symbols : put-stacks-lts.Need-cast-put-symbols (put-stacks-calls t) (put-stacks-at t) put-stacks.Post
   cast-put-symbols c = search needs
 
   put-symbols-requires : put-stacks-lts.Need-put-symbols-requires (put-stacks-calls t) (put-stacks-at t) put-stacks.Post
-  put-symbols-requires c κs = (let r = (above-refers (c .before .before .before .before .before .before .before .before .before .before .before .before .before .before .before .pre .1 .0) (c .before .before .before .before .before .before .before .before .before .before .before .before .before .before .before .pre .1 .1) _ (c .before .before .before .before .before .before .before .before .before .before .before .before .cell-at .ensures) (c .before .before .before .before .before .before .before .before .before .before .cell .given .1)) in (omega arith, ((c .before .before .before .before .before .before .before .before .before .before .before .before .before .before .before .pre .1 .0), omega arith, r .2)))
+  put-symbols-requires c κs =
+      let start = c .before .before .before .before .before .before .before .before .before .before .before .before .before .before .before in
+      let read = c .before .before .before .before .before .before .before .before .before .before .before .before .cell-at in
+      let cell = c .before .before .before .before .before .before .before .before .before .before .cell in
+      let r = above-refers (start .pre .1 .0) (start .pre .1 .1) _ (read .ensures) (cell .given .1) in
+      (omega arith, (start .pre .1 .0, omega arith, r .2))
 
   enum-known-printed : put-stacks-lts.Need-enum-known-printed (put-stacks-calls t) (put-stacks-at t) put-stacks.Post
   enum-known-printed c = search needs
@@ -60,7 +77,15 @@ module _ (t : ℕ) where
 
   returns-3 : put-stacks-lts.Need-returns-3 (put-stacks-calls t) (put-stacks-at t) put-stacks.Post
   unfolding ascii
-  returns-3 c = prints-same (sym (stacks-are (c .before .before .before .before .before .before .before .before .before .before .before .before .before .before .before .before .before .before .before .before .pre .1 .0) (c .before .before .before .before .before .before .before .before .before .before .before .before .before .before .before .before .before .before .before .before .pre .1 .1) _ (c .before .before .before .before .before .before .before .before .before .before .before .before .before .before .before .before .before .cell-at .ensures) (c .before .before .before .before .before .before .before .before .before .before .before .before .before .before .before .cell .given .1))) (prints-on _ (prints-on _ (prints-then (prints-to (c .before .before .before .before .before .before .before .opened .given .1) (c .before .before .before .before .before .before .before .before .before .before .before .put-bytes .ensures)) (prints-to (c .enum-told2 .given .1) (c .before .before .before .before .put-symbols .ensures)))))
+  returns-3 c =
+      let start = c .before .before .before .before .before .before .before .before .before .before .before .before .before .before .before .before .before .before .before .before in
+      let read = c .before .before .before .before .before .before .before .before .before .before .before .before .before .before .before .before .before .cell-at in
+      let cell = c .before .before .before .before .before .before .before .before .before .before .before .before .before .before .before .cell in
+      let opened = c .before .before .before .before .before .before .before .opened in
+      let bytes = c .before .before .before .before .before .before .before .before .before .before .before .put-bytes in
+      let symbols = c .before .before .before .before .put-symbols in
+      prints-same (sym (stacks-are (start .pre .1 .0) (start .pre .1 .1) _ (read .ensures) (cell .given .1)))
+      (prints-on _ (prints-on _ (prints-then (prints-to (opened .given .1) (bytes .ensures)) (prints-to (c .enum-told2 .given .1) (symbols .ensures)))))
 
   slice-aggregate-put-bytes-2 : put-stacks-lts.Need-slice-aggregate-put-bytes-2 (put-stacks-calls t) (put-stacks-at t) put-stacks.Post
   slice-aggregate-put-bytes-2 c = search needs
@@ -79,20 +104,47 @@ module _ (t : ℕ) where
 
   returns-4 : put-stacks-lts.Need-returns-4 (put-stacks-calls t) (put-stacks-at t) put-stacks.Post
   unfolding ascii
-  returns-4 c = prints-same (sym (stacks-are (c .before .before .before .before .before .before .before .before .before .before .before .before .before .before .before .before .before .before .before .before .before .before .before .before .before .before .before .before .pre .1 .0) (c .before .before .before .before .before .before .before .before .before .before .before .before .before .before .before .before .before .before .before .before .before .before .before .before .before .before .before .before .pre .1 .1) _ (c .before .before .before .before .before .before .before .before .before .before .before .before .before .before .before .before .before .before .before .before .before .before .before .before .before .cell-at .ensures) (c .before .before .before .before .before .before .before .before .before .before .before .before .before .before .before .before .before .before .before .before .before .before .before .cell .given .1))) (prints-on _ (prints-then (prints-then (prints-to (c .before .before .before .before .before .before .before .before .before .before .before .before .before .before .before .opened .given .1) (c .before .before .before .before .before .before .before .before .before .before .before .before .before .before .before .before .before .before .before .put-bytes .ensures)) (prints-to (c .before .before .before .before .before .before .before .before .printed .given .1) (c .before .before .before .before .before .before .before .before .before .before .before .before .put-symbols .ensures))) (prints-to (c .enum-told3 .given .1) (c .before .before .before .before .put-bytes2 .ensures))))
+  returns-4 c =
+      let start = c .before .before .before .before .before .before .before .before .before .before .before .before .before .before .before .before .before .before .before .before .before .before .before .before .before .before .before .before in
+      let read = c .before .before .before .before .before .before .before .before .before .before .before .before .before .before .before .before .before .before .before .before .before .before .before .before .before .cell-at in
+      let cell = c .before .before .before .before .before .before .before .before .before .before .before .before .before .before .before .before .before .before .before .before .before .before .before .cell in
+      let opened = c .before .before .before .before .before .before .before .before .before .before .before .before .before .before .before .opened in
+      let bytes = c .before .before .before .before .before .before .before .before .before .before .before .before .before .before .before .before .before .before .before .put-bytes in
+      let printed = c .before .before .before .before .before .before .before .before .printed in
+      let symbols = c .before .before .before .before .before .before .before .before .before .before .before .before .put-symbols in
+      let bytes2 = c .before .before .before .before .put-bytes2 in
+      prints-same (sym (stacks-are (start .pre .1 .0) (start .pre .1 .1) _ (read .ensures) (cell .given .1)))
+      (prints-on _ (prints-then (prints-then (prints-to (opened .given .1) (bytes .ensures)) (prints-to (printed .given .1) (symbols .ensures))) (prints-to (c .enum-told3 .given .1) (bytes2 .ensures))))
 
   cast-put-stacks : put-stacks-lts.Need-cast-put-stacks (put-stacks-calls t) (put-stacks-at t) put-stacks.Post
   cast-put-stacks c = search needs
 
   put-stacks-requires : put-stacks-lts.Need-put-stacks-requires (put-stacks-calls t) (put-stacks-at t) put-stacks.Post
-  put-stacks-requires c κs = (let r = (above-refers (c .before .before .before .before .before .before .before .before .before .before .before .before .before .before .before .before .before .before .before .before .before .before .before .before .before .before .before .before .before .before .pre .1 .0) (c .before .before .before .before .before .before .before .before .before .before .before .before .before .before .before .before .before .before .before .before .before .before .before .before .before .before .before .before .before .before .pre .1 .1) _ (c .before .before .before .before .before .before .before .before .before .before .before .before .before .before .before .before .before .before .before .before .before .before .before .before .before .before .before .cell-at .ensures) (c .before .before .before .before .before .before .before .before .before .before .before .before .before .before .before .before .before .before .before .before .before .before .before .before .before .cell .given .1)) in (omega (arith, r .1, c .before .before .before .before .before .before .before .before .before .before .before .before .before .before .before .before .before .before .before .before .before .before .before .before .before .before .before .before .before .before .pre .0), ((c .before .before .before .before .before .before .before .before .before .before .before .before .before .before .before .before .before .before .before .before .before .before .before .before .before .before .before .before .before .before .pre .1 .0), omega (arith, r .1, c .before .before .before .before .before .before .before .before .before .before .before .before .before .before .before .before .before .before .before .before .before .before .before .before .before .before .before .before .before .before .pre .1 .1), r .3)))
+  put-stacks-requires c κs =
+      let start = c .before .before .before .before .before .before .before .before .before .before .before .before .before .before .before .before .before .before .before .before .before .before .before .before .before .before .before .before .before .before in
+      let read = c .before .before .before .before .before .before .before .before .before .before .before .before .before .before .before .before .before .before .before .before .before .before .before .before .before .before .before .cell-at in
+      let cell = c .before .before .before .before .before .before .before .before .before .before .before .before .before .before .before .before .before .before .before .before .before .before .before .before .before .cell in
+      let r = above-refers (start .pre .1 .0) (start .pre .1 .1) _ (read .ensures) (cell .given .1) in
+      (omega (arith, r .1, start .pre .0), (start .pre .1 .0, omega (arith, r .1, start .pre .1 .1), r .3))
 
   same-length-4 : put-stacks-lts.Need-same-length-4 (put-stacks-calls t) (put-stacks-at t) put-stacks.Post
   same-length-4 c = search needs
 
   returns-5 : put-stacks-lts.Need-returns-5 (put-stacks-calls t) (put-stacks-at t) put-stacks.Post
   unfolding ascii
-  returns-5 c = prints-same (sym (stacks-are (c .before .before .before .before .before .before .before .before .before .before .before .before .before .before .before .before .before .before .before .before .before .before .before .before .before .before .before .before .before .before .before .before .before .pre .1 .0) (c .before .before .before .before .before .before .before .before .before .before .before .before .before .before .before .before .before .before .before .before .before .before .before .before .before .before .before .before .before .before .before .before .before .pre .1 .1) _ (c .before .before .before .before .before .before .before .before .before .before .before .before .before .before .before .before .before .before .before .before .before .before .before .before .before .before .before .before .before .before .cell-at .ensures) (c .before .before .before .before .before .before .before .before .before .before .before .before .before .before .before .before .before .before .before .before .before .before .before .before .before .before .before .before .cell .given .1))) (prints-then (prints-then (prints-then (prints-to (c .before .before .before .before .before .before .before .before .before .before .before .before .before .before .before .before .before .before .before .before .opened .given .1) (c .before .before .before .before .before .before .before .before .before .before .before .before .before .before .before .before .before .before .before .before .before .before .before .before .put-bytes .ensures)) (prints-to (c .before .before .before .before .before .before .before .before .before .before .before .before .before .printed .given .1) (c .before .before .before .before .before .before .before .before .before .before .before .before .before .before .before .before .before .put-symbols .ensures))) (prints-to (c .before .before .before .before .before .closed .given .1) (c .before .before .before .before .before .before .before .before .before .put-bytes2 .ensures))) (c .before .before .put-stacks .ensures))
+  returns-5 c =
+      let start = c .before .before .before .before .before .before .before .before .before .before .before .before .before .before .before .before .before .before .before .before .before .before .before .before .before .before .before .before .before .before .before .before .before in
+      let read = c .before .before .before .before .before .before .before .before .before .before .before .before .before .before .before .before .before .before .before .before .before .before .before .before .before .before .before .before .before .before .cell-at in
+      let cell = c .before .before .before .before .before .before .before .before .before .before .before .before .before .before .before .before .before .before .before .before .before .before .before .before .before .before .before .before .cell in
+      let opened = c .before .before .before .before .before .before .before .before .before .before .before .before .before .before .before .before .before .before .before .before .opened in
+      let bytes = c .before .before .before .before .before .before .before .before .before .before .before .before .before .before .before .before .before .before .before .before .before .before .before .before .put-bytes in
+      let printed = c .before .before .before .before .before .before .before .before .before .before .before .before .before .printed in
+      let symbols = c .before .before .before .before .before .before .before .before .before .before .before .before .before .before .before .before .before .put-symbols in
+      let closed = c .before .before .before .before .before .closed in
+      let bytes2 = c .before .before .before .before .before .before .before .before .before .put-bytes2 in
+      let stacks = c .before .before .put-stacks in
+      prints-same (sym (stacks-are (start .pre .1 .0) (start .pre .1 .1) _ (read .ensures) (cell .given .1)))
+      (prints-then (prints-then (prints-then (prints-to (opened .given .1) (bytes .ensures)) (prints-to (printed .given .1) (symbols .ensures))) (prints-to (closed .given .1) (bytes2 .ensures))) (stacks .ensures))
 
   pub stacks-shown : (M : Type 1) → put-stacks-lts.Closed (put-stacks-calls t) (put-stacks-at t) put-stacks.Post M
   stacks-shown M = put-stacks-lts.spec (put-stacks-calls t) (put-stacks-at t) put-stacks.Post

@@ -12,13 +12,19 @@ use Rattle.stack_text.proofs.+put_annotation+put_stacks+put_symbols.Pro
 
 module _ (t : ℕ) where
   cell-at-requires : put-symbols-lts.Need-cell-at-requires (put-symbols-calls t) (put-symbols-at t) put-symbols.Post
-  cell-at-requires c κs = (let l = (c .before .before .pre .1 .0) .room in omega arith)
+  cell-at-requires c κs =
+      let start = c .before .before in
+      let l = start .pre .1 .0 .room in
+      omega arith
 
   enum-known-cell : put-symbols-lts.Need-enum-known-cell (put-symbols-calls t) (put-symbols-at t) put-symbols.Post
   enum-known-cell c = search needs
 
   returns : put-symbols-lts.Need-returns (put-symbols-calls t) (put-symbols-at t) put-symbols.Post
-  returns c = prints-same (symbols-none (c .before .before .before .before .pre .1 .0) (c .before .before .before .before .pre .1 .1) _ (c .before .cell-at .ensures) (λ a u s e. no-variant (λ z. omega arith) (λ z. omega arith) (λ z. omega arith) (rw e at (c .match .keys2))) (c .before .before .before .before .pre .1 .2)) prints-none
+  returns c =
+      let start = c .before .before .before .before in
+      prints-same (symbols-none (start .pre .1 .0) (start .pre .1 .1) _ (c .before .cell-at .ensures) (λ a u s e. no-variant (λ z. omega arith) (λ z. omega arith) (λ z. omega arith) (rw e at (c .match .keys2))) (start .pre .1 .2))
+      prints-none
 
   put-symbol-requires : put-symbols-lts.Need-put-symbol-requires (put-symbols-calls t) (put-symbols-at t) put-symbols.Post
   put-symbol-requires c κs = search needs
@@ -33,13 +39,24 @@ module _ (t : ℕ) where
   same-length c = search needs
 
   returns-2 : put-symbols-lts.Need-returns-2 (put-symbols-calls t) (put-symbols-at t) put-symbols.Post
-  returns-2 c = prints-same (sym (symbols-are (c .before .before .before .before .before .before .before .before .before .before .before .before .pre .1 .0) (c .before .before .before .before .before .before .before .before .before .before .before .before .pre .1 .1) _ (c .before .before .before .before .before .before .before .before .before .cell-at .ensures) (c .before .before .before .before .before .before .before .cell .given .1))) (prints-on _ (prints-on _ (prints-on _ (prints-to (c .enum-told .given .1) (c .before .before .before .before .put-symbol .ensures)))))
+  returns-2 c =
+      let start = c .before .before .before .before .before .before .before .before .before .before .before .before in
+      let read = c .before .before .before .before .before .before .before .before .before .cell-at in
+      let cell = c .before .before .before .before .before .before .before .cell in
+      let symbol = c .before .before .before .before .put-symbol in
+      prints-same (sym (symbols-are (start .pre .1 .0) (start .pre .1 .1) _ (read .ensures) (cell .given .1)))
+      (prints-on _ (prints-on _ (prints-on _ (prints-to (c .enum-told .given .1) (symbol .ensures)))))
 
   cast-put-annotation : put-symbols-lts.Need-cast-put-annotation (put-symbols-calls t) (put-symbols-at t) put-symbols.Post
   cast-put-annotation c = search needs
 
   put-annotation-requires : put-symbols-lts.Need-put-annotation-requires (put-symbols-calls t) (put-symbols-at t) put-symbols.Post
-  put-annotation-requires c κs = (let r = (symbol-refers (c .before .before .before .before .before .before .before .before .before .before .before .before .before .before .pre .1 .0) (c .before .before .before .before .before .before .before .before .before .before .before .before .before .before .pre .1 .1) _ (c .before .before .before .before .before .before .before .before .before .before .before .cell-at .ensures) (c .before .before .before .before .before .before .before .before .before .cell .given .1)) in (omega arith, ((c .before .before .before .before .before .before .before .before .before .before .before .before .before .before .pre .1 .0), omega arith)))
+  put-annotation-requires c κs =
+      let start = c .before .before .before .before .before .before .before .before .before .before .before .before .before .before in
+      let read = c .before .before .before .before .before .before .before .before .before .before .before .cell-at in
+      let cell = c .before .before .before .before .before .before .before .before .before .cell in
+      let r = symbol-refers (start .pre .1 .0) (start .pre .1 .1) _ (read .ensures) (cell .given .1) in
+      (omega arith, (start .pre .1 .0, omega arith))
 
   enum-known-annotated : put-symbols-lts.Need-enum-known-annotated (put-symbols-calls t) (put-symbols-at t) put-symbols.Post
   enum-known-annotated c = search needs
@@ -51,13 +68,26 @@ module _ (t : ℕ) where
   same-length-2 c = search needs
 
   returns-3 : put-symbols-lts.Need-returns-3 (put-symbols-calls t) (put-symbols-at t) put-symbols.Post
-  returns-3 c = prints-same (sym (symbols-are (c .before .before .before .before .before .before .before .before .before .before .before .before .before .before .before .before .before .before .before .pre .1 .0) (c .before .before .before .before .before .before .before .before .before .before .before .before .before .before .before .before .before .before .before .pre .1 .1) _ (c .before .before .before .before .before .before .before .before .before .before .before .before .before .before .before .before .cell-at .ensures) (c .before .before .before .before .before .before .before .before .before .before .before .before .before .before .cell .given .1))) (prints-on _ (prints-on _ (prints-then (prints-to (c .before .before .before .before .before .before .before .named .given .1) (c .before .before .before .before .before .before .before .before .before .before .before .put-symbol .ensures)) (prints-to (c .enum-told2 .given .1) (c .before .before .before .before .put-annotation .ensures)))))
+  returns-3 c =
+      let start = c .before .before .before .before .before .before .before .before .before .before .before .before .before .before .before .before .before .before .before in
+      let read = c .before .before .before .before .before .before .before .before .before .before .before .before .before .before .before .before .cell-at in
+      let cell = c .before .before .before .before .before .before .before .before .before .before .before .before .before .before .cell in
+      let named = c .before .before .before .before .before .before .before .named in
+      let symbol = c .before .before .before .before .before .before .before .before .before .before .before .put-symbol in
+      let annotation = c .before .before .before .before .put-annotation in
+      prints-same (sym (symbols-are (start .pre .1 .0) (start .pre .1 .1) _ (read .ensures) (cell .given .1)))
+      (prints-on _ (prints-on _ (prints-then (prints-to (named .given .1) (symbol .ensures)) (prints-to (c .enum-told2 .given .1) (annotation .ensures)))))
 
   cast-put-between : put-symbols-lts.Need-cast-put-between (put-symbols-calls t) (put-symbols-at t) put-symbols.Post
   cast-put-between c = search needs
 
   put-between-requires : put-symbols-lts.Need-put-between-requires (put-symbols-calls t) (put-symbols-at t) put-symbols.Post
-  put-between-requires c κs = (let r = (symbol-refers (c .before .before .before .before .before .before .before .before .before .before .before .before .before .before .before .before .before .before .before .before .before .pre .1 .0) (c .before .before .before .before .before .before .before .before .before .before .before .before .before .before .before .before .before .before .before .before .before .pre .1 .1) _ (c .before .before .before .before .before .before .before .before .before .before .before .before .before .before .before .before .before .before .cell-at .ensures) (c .before .before .before .before .before .before .before .before .before .before .before .before .before .before .before .before .cell .given .1)) in ((c .before .before .before .before .before .before .before .before .before .before .before .before .before .before .before .before .before .before .before .before .before .pre .1 .0), omega arith, r .2))
+  put-between-requires c κs =
+      let start = c .before .before .before .before .before .before .before .before .before .before .before .before .before .before .before .before .before .before .before .before .before in
+      let read = c .before .before .before .before .before .before .before .before .before .before .before .before .before .before .before .before .before .before .cell-at in
+      let cell = c .before .before .before .before .before .before .before .before .before .before .before .before .before .before .before .before .cell in
+      let r = symbol-refers (start .pre .1 .0) (start .pre .1 .1) _ (read .ensures) (cell .given .1) in
+      (start .pre .1 .0, omega arith, r .2)
 
   enum-known-divided : put-symbols-lts.Need-enum-known-divided (put-symbols-calls t) (put-symbols-at t) put-symbols.Post
   enum-known-divided c = search needs
@@ -69,19 +99,46 @@ module _ (t : ℕ) where
   same-length-3 c = search needs
 
   returns-4 : put-symbols-lts.Need-returns-4 (put-symbols-calls t) (put-symbols-at t) put-symbols.Post
-  returns-4 c = prints-same (sym (symbols-are (c .before .before .before .before .before .before .before .before .before .before .before .before .before .before .before .before .before .before .before .before .before .before .before .before .before .before .pre .1 .0) (c .before .before .before .before .before .before .before .before .before .before .before .before .before .before .before .before .before .before .before .before .before .before .before .before .before .before .pre .1 .1) _ (c .before .before .before .before .before .before .before .before .before .before .before .before .before .before .before .before .before .before .before .before .before .before .before .cell-at .ensures) (c .before .before .before .before .before .before .before .before .before .before .before .before .before .before .before .before .before .before .before .before .before .cell .given .1))) (prints-on _ (prints-then (prints-then (prints-to (c .before .before .before .before .before .before .before .before .before .before .before .before .before .before .named .given .1) (c .before .before .before .before .before .before .before .before .before .before .before .before .before .before .before .before .before .before .put-symbol .ensures)) (prints-to (c .before .before .before .before .before .before .before .annotated .given .1) (c .before .before .before .before .before .before .before .before .before .before .before .put-annotation .ensures))) (prints-to (c .enum-told3 .given .1) (c .before .before .before .before .put-between .ensures))))
+  returns-4 c =
+      let start = c .before .before .before .before .before .before .before .before .before .before .before .before .before .before .before .before .before .before .before .before .before .before .before .before .before .before in
+      let read = c .before .before .before .before .before .before .before .before .before .before .before .before .before .before .before .before .before .before .before .before .before .before .before .cell-at in
+      let cell = c .before .before .before .before .before .before .before .before .before .before .before .before .before .before .before .before .before .before .before .before .before .cell in
+      let named = c .before .before .before .before .before .before .before .before .before .before .before .before .before .before .named in
+      let symbol = c .before .before .before .before .before .before .before .before .before .before .before .before .before .before .before .before .before .before .put-symbol in
+      let annotated = c .before .before .before .before .before .before .before .annotated in
+      let annotation = c .before .before .before .before .before .before .before .before .before .before .before .put-annotation in
+      let space = c .before .before .before .before .put-between in
+      prints-same (sym (symbols-are (start .pre .1 .0) (start .pre .1 .1) _ (read .ensures) (cell .given .1)))
+      (prints-on _ (prints-then (prints-then (prints-to (named .given .1) (symbol .ensures)) (prints-to (annotated .given .1) (annotation .ensures))) (prints-to (c .enum-told3 .given .1) (space .ensures))))
 
   cast-put-symbols : put-symbols-lts.Need-cast-put-symbols (put-symbols-calls t) (put-symbols-at t) put-symbols.Post
   cast-put-symbols c = search needs
 
   put-symbols-requires : put-symbols-lts.Need-put-symbols-requires (put-symbols-calls t) (put-symbols-at t) put-symbols.Post
-  put-symbols-requires c κs = (let r = (symbol-refers (c .before .before .before .before .before .before .before .before .before .before .before .before .before .before .before .before .before .before .before .before .before .before .before .before .before .before .before .before .pre .1 .0) (c .before .before .before .before .before .before .before .before .before .before .before .before .before .before .before .before .before .before .before .before .before .before .before .before .before .before .before .before .pre .1 .1) _ (c .before .before .before .before .before .before .before .before .before .before .before .before .before .before .before .before .before .before .before .before .before .before .before .before .before .cell-at .ensures) (c .before .before .before .before .before .before .before .before .before .before .before .before .before .before .before .before .before .before .before .before .before .before .before .cell .given .1)) in (omega (arith, r .1, c .before .before .before .before .before .before .before .before .before .before .before .before .before .before .before .before .before .before .before .before .before .before .before .before .before .before .before .before .pre .0), ((c .before .before .before .before .before .before .before .before .before .before .before .before .before .before .before .before .before .before .before .before .before .before .before .before .before .before .before .before .pre .1 .0), omega (arith, r .1, c .before .before .before .before .before .before .before .before .before .before .before .before .before .before .before .before .before .before .before .before .before .before .before .before .before .before .before .before .pre .1 .1), r .2)))
+  put-symbols-requires c κs =
+      let start = c .before .before .before .before .before .before .before .before .before .before .before .before .before .before .before .before .before .before .before .before .before .before .before .before .before .before .before .before in
+      let read = c .before .before .before .before .before .before .before .before .before .before .before .before .before .before .before .before .before .before .before .before .before .before .before .before .before .cell-at in
+      let cell = c .before .before .before .before .before .before .before .before .before .before .before .before .before .before .before .before .before .before .before .before .before .before .before .cell in
+      let r = symbol-refers (start .pre .1 .0) (start .pre .1 .1) _ (read .ensures) (cell .given .1) in
+      (omega (arith, r .1, start .pre .0), (start .pre .1 .0, omega (arith, r .1, start .pre .1 .1), r .2))
 
   same-length-4 : put-symbols-lts.Need-same-length-4 (put-symbols-calls t) (put-symbols-at t) put-symbols.Post
   same-length-4 c = search needs
 
   returns-5 : put-symbols-lts.Need-returns-5 (put-symbols-calls t) (put-symbols-at t) put-symbols.Post
-  returns-5 c = prints-same (sym (symbols-are (c .before .before .before .before .before .before .before .before .before .before .before .before .before .before .before .before .before .before .before .before .before .before .before .before .before .before .before .before .before .before .before .pre .1 .0) (c .before .before .before .before .before .before .before .before .before .before .before .before .before .before .before .before .before .before .before .before .before .before .before .before .before .before .before .before .before .before .before .pre .1 .1) _ (c .before .before .before .before .before .before .before .before .before .before .before .before .before .before .before .before .before .before .before .before .before .before .before .before .before .before .before .before .cell-at .ensures) (c .before .before .before .before .before .before .before .before .before .before .before .before .before .before .before .before .before .before .before .before .before .before .before .before .before .before .cell .given .1))) (prints-then (prints-then (prints-then (prints-to (c .before .before .before .before .before .before .before .before .before .before .before .before .before .before .before .before .before .before .before .named .given .1) (c .before .before .before .before .before .before .before .before .before .before .before .before .before .before .before .before .before .before .before .before .before .before .before .put-symbol .ensures)) (prints-to (c .before .before .before .before .before .before .before .before .before .before .before .before .annotated .given .1) (c .before .before .before .before .before .before .before .before .before .before .before .before .before .before .before .before .put-annotation .ensures))) (prints-to (c .before .before .before .before .before .divided .given .1) (c .before .before .before .before .before .before .before .before .before .put-between .ensures))) (c .before .before .put-symbols .ensures))
+  returns-5 c =
+      let start = c .before .before .before .before .before .before .before .before .before .before .before .before .before .before .before .before .before .before .before .before .before .before .before .before .before .before .before .before .before .before .before in
+      let read = c .before .before .before .before .before .before .before .before .before .before .before .before .before .before .before .before .before .before .before .before .before .before .before .before .before .before .before .before .cell-at in
+      let cell = c .before .before .before .before .before .before .before .before .before .before .before .before .before .before .before .before .before .before .before .before .before .before .before .before .before .before .cell in
+      let named = c .before .before .before .before .before .before .before .before .before .before .before .before .before .before .before .before .before .before .before .named in
+      let symbol = c .before .before .before .before .before .before .before .before .before .before .before .before .before .before .before .before .before .before .before .before .before .before .before .put-symbol in
+      let annotated = c .before .before .before .before .before .before .before .before .before .before .before .before .annotated in
+      let annotation = c .before .before .before .before .before .before .before .before .before .before .before .before .before .before .before .before .put-annotation in
+      let divided = c .before .before .before .before .before .divided in
+      let space = c .before .before .before .before .before .before .before .before .before .put-between in
+      let symbols = c .before .before .put-symbols in
+      prints-same (sym (symbols-are (start .pre .1 .0) (start .pre .1 .1) _ (read .ensures) (cell .given .1)))
+      (prints-then (prints-then (prints-then (prints-to (named .given .1) (symbol .ensures)) (prints-to (annotated .given .1) (annotation .ensures))) (prints-to (divided .given .1) (space .ensures))) (symbols .ensures))
 
   pub symbols-shown : (M : Type 1) → put-symbols-lts.Closed (put-symbols-calls t) (put-symbols-at t) put-symbols.Post M
   symbols-shown M = put-symbols-lts.spec (put-symbols-calls t) (put-symbols-at t) put-symbols.Post
