@@ -7,6 +7,8 @@ repository=$PWD
 model=$repository/tests/tests/data/model-a
 room=$(mktemp -d) || exit
 trap 'rm -rf "$room"' EXIT
+# Others may pass through it, because rt runs a program as nobody below it.
+chmod 711 "$room"
 mkdir "$room/tmp"
 export TMPDIR=$room/tmp
 failures=0

@@ -5,17 +5,24 @@ use crate::file::Refusal;
 use crate::services::with_start;
 use crate::stack::{Note, One, Symbol, Two, configuration};
 
-/// Writes the text of a start's root. "The reply is the text's length; bytes after
-/// it are zero." The refusals are 1 to 7 and 12, then 13.
-pub fn brackets(case: &[u8], start: &[u8], number: u64, text: &mut [u8]) -> Result<usize, Refusal> {
+/// Writes the text of a start's root; "bytes after it are zero". Answers 0 with the
+/// text's length, or the refusal with 0.
+pub fn brackets(case: &[u8], start: &[u8], number: u64, text: &mut [u8]) -> (u64, usize) {
     text.fill(0);
+    match written(case, start, number, text) {
+        Ok(length) => (0, length),
+        Err(refusal) => {
+            text.fill(0);
+            (refusal, 0)
+        }
+    }
+}
+
+/// The length of the text, which is written, or the refusal: 1 to 7 and 12, then 13.
+fn written(case: &[u8], start: &[u8], number: u64, text: &mut [u8]) -> Result<usize, Refusal> {
     let (_, file) = with_start(case, start, number)?;
     let root = configuration(&file, &file.starts[number as usize]).stack;
-    let written = write(&root, text);
-    if written.is_none() {
-        text.fill(0);
-    }
-    written.ok_or(13)
+    write(&root, text).ok_or(13)
 }
 
 /// Writes the text of a stack and answers its length, if there is room for it; if

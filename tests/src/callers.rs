@@ -13,7 +13,7 @@ pub type Guide =
     fn(&[u8], &[u8], u64, &mut [u64], &mut [u64], &mut [u16], &mut [u16]) -> GuideReply;
 pub type Listing = fn(&[u8], &[u8]) -> String;
 pub type Replay = fn(&[u8], &[u8], u64, &[u8], &mut [u8]) -> ReplayReply;
-pub type Brackets = fn(&[u8], &[u8], u64, &mut [u8]) -> Result<usize, Refusal>;
+pub type Brackets = fn(&[u8], &[u8], u64, &mut [u8]) -> (u64, usize);
 
 /// The services of one of the two.
 #[derive(Clone, Copy)]
@@ -53,7 +53,7 @@ pub struct Answers {
     pub judge: (u64, Lent),
     pub guide: (GuideReply, Lent),
     pub replays: Vec<(ReplayReply, Lent)>,
-    pub brackets: (Result<usize, Refusal>, Lent),
+    pub brackets: ((u64, usize), Lent),
     pub listing: String,
 }
 
@@ -120,20 +120,24 @@ impl Answers {
     /// Whether each service answers this refusal and leaves the memory zero that it
     /// was lent.
     pub fn are_refusal(&self, refusal: Refusal) -> bool {
+        let (reply, lent) = &self.saturate;
+        *reply == (refusal, 0, 0) && lent.tables_are_zero() && self.are_refusal_of_pair(refusal)
+    }
+
+    /// The same of the services that read both files.
+    pub fn are_refusal_of_pair(&self, refusal: Refusal) -> bool {
         let Answers {
-            saturate,
             judge,
             guide,
             replays,
             brackets,
             listing,
+            ..
         } = self;
         let replayed = |(reply, lent): &(ReplayReply, Lent)| {
             *reply == ReplayReply::Refused(refusal) && lent.replay_cells_are_zero()
         };
-        saturate.0 == (refusal, 0, 0)
-            && saturate.1.tables_are_zero()
-            && judge.0 == refusal
+        judge.0 == refusal
             && judge.1.tables_are_zero()
             && judge.1.answers_are_zero()
             && guide.0 == GuideReply::Refused(refusal)
@@ -141,7 +145,7 @@ impl Answers {
             && guide.1.cells_are_zero()
             && guide.1.trace_is_zero_from(0)
             && replays.iter().all(replayed)
-            && brackets.0 == Err(refusal)
+            && brackets.0 == (refusal, 0)
             && brackets.1.text_is_zero_from(0)
             && *listing == format!("refused {refusal}\n")
     }

@@ -6,7 +6,6 @@ use std::fmt::Debug;
 use std::iter::repeat_with;
 
 use crate::data::hex;
-use crate::file::Refusal;
 use crate::lent::Lent;
 use crate::proved;
 use crate::random::Random;
@@ -133,7 +132,7 @@ impl Both {
         self.answer(service, second, proved, &agree, (case, start))
     }
 
-    pub fn brackets(&mut self, case: &[u8], start: &[u8], number: u64) -> Result<usize, Refusal> {
+    pub fn brackets(&mut self, case: &[u8], start: &[u8], number: u64) -> (u64, usize) {
         let second = self.lent.brackets(case, start, number);
         let mut text = self.bytes(self.lent.text.len());
         let proved = proved::brackets(case, start, number, text.lent());

@@ -12,8 +12,9 @@ const LIMIT: Duration = Duration::from_secs(60);
 pub fn in_time<T: Send + 'static>(call: impl FnOnce() -> T + Send + 'static) -> T {
     let (sender, receiver) = channel();
     thread::spawn(move || sender.send(call()));
-    receiver.recv_timeout(LIMIT).unwrap_or_else(|error| {
-        let ended = error == RecvTimeoutError::Disconnected;
-        panic!("{}", if ended { "a panic" } else { "no answer in time" })
-    })
+    match receiver.recv_timeout(LIMIT) {
+        Ok(answer) => answer,
+        Err(RecvTimeoutError::Timeout) => panic!("no answer in time"),
+        Err(RecvTimeoutError::Disconnected) => panic!("the call has panicked"),
+    }
 }

@@ -91,7 +91,7 @@ impl Lent {
         replay(case, start, number, trace, &mut self.replay_cells)
     }
 
-    pub fn brackets(&mut self, case: &[u8], start: &[u8], number: u64) -> Result<usize, Refusal> {
+    pub fn brackets(&mut self, case: &[u8], start: &[u8], number: u64) -> (u64, usize) {
         self.fill();
         brackets(case, start, number, &mut self.text)
     }
@@ -174,9 +174,12 @@ pub fn printed(
 ) -> Result<String, Refusal> {
     let mut lent = Lent::new(0, 0, 0, 0);
     lent.text.resize(bytes, 0);
-    let reply = lent.brackets(case, start, number);
-    let length = reply.unwrap_or(0);
+    let (refusal, length) = lent.brackets(case, start, number);
     assert!(lent.text_is_zero_from(length), "bytes after the text");
+    if refusal != 0 {
+        assert_eq!(length, 0, "the length of refusal {refusal}");
+        return Err(refusal);
+    }
     lent.text.truncate(length);
-    reply.map(|_| String::from_utf8(lent.text).expect("text"))
+    Ok(String::from_utf8(lent.text).expect("text"))
 }

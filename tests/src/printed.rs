@@ -44,7 +44,11 @@ pub fn kinds(file: &StartFile, number: usize) -> Vec<Kind> {
     let root = configuration(file, start).stack;
     let mut found = Found::default();
     found.in_two(&root, Within::default());
-    let Found { symbols, ones, twos } = found;
+    let Found {
+        symbols,
+        ones,
+        twos,
+    } = found;
     let named = |some: fn(u8) -> bool| symbols.iter().any(|(symbol, _)| some(symbol.name));
     let in_ones = |some: fn(usize) -> bool| ones.iter().any(|note| some(note.symbols().count()));
     let in_twos = |some: fn(usize) -> bool| twos.iter().any(|note| some(note.stacks().count()));
@@ -125,7 +129,10 @@ fn is_shared(cells: &[Cell], root: u16) -> bool {
             references(cell).for_each(|lower| named[usize::from(lower)] += 1);
         }
     }
-    named.iter().zip(cells).any(|(&times, &cell)| times > 1 && references(cell).next().is_some())
+    named
+        .iter()
+        .zip(cells)
+        .any(|(&times, &cell)| times > 1 && references(cell).next().is_some())
 }
 
 /// The cells that a cell names.

@@ -2,7 +2,6 @@
 //! signatures as the second implementation. `host/analyser.h` says what its
 //! functions promise.
 
-use crate::file::Refusal;
 use crate::replay::ReplayReply;
 use crate::services::GuideReply;
 
@@ -236,10 +235,10 @@ pub fn replay(
 }
 
 /// As `brackets::brackets`.
-pub fn brackets(case: &[u8], start: &[u8], number: u64, text: &mut [u8]) -> Result<usize, Refusal> {
+pub fn brackets(case: &[u8], start: &[u8], number: u64, text: &mut [u8]) -> (u64, usize) {
     let mut length = usize::MAX;
     // Safety: as above.
-    let refusal = unsafe {
+    let code = unsafe {
         analyser_brackets(
             case.as_ptr(),
             case.len(),
@@ -251,9 +250,5 @@ pub fn brackets(case: &[u8], start: &[u8], number: u64, text: &mut [u8]) -> Resu
             &mut length,
         )
     };
-    if refusal == 0 {
-        return Ok(length);
-    }
-    assert_eq!(length, 0, "the length of answer {refusal}");
-    Err(refusal)
+    (code, length)
 }

@@ -159,9 +159,7 @@ impl Example {
         let number = self.number("number").expect("a start number") as u64;
         let bytes = self.number("bytes").expect("bytes");
         let mut text = vec![u8::MAX; bytes];
-        let reply = (services.brackets)(case, start, number, &mut text);
-        let code = reply.err().unwrap_or(0);
-        let length = reply.unwrap_or(0);
+        let (code, length) = (services.brackets)(case, start, number, &mut text);
         format!("code={code} length={length} text={}", hex(&text))
     }
 

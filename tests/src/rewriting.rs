@@ -62,10 +62,12 @@ enum Met {
     Accepted,
     Fails,
     Short,
+    Printed,
+    TooLong,
 }
 
 /// How many of these there are.
-const ALL_MET: usize = 7;
+const ALL_MET: usize = 9;
 
 /// Generated pairs, each with a record, from all starts and the number after them.
 pub fn check_pairs(services: Services) {
@@ -107,7 +109,12 @@ fn met_in(answers: &Answers) -> Vec<Met> {
         ReplayReply::Fails { .. } => Fails,
         ReplayReply::Refused(_) => Short,
     });
-    guided.into_iter().chain(replayed).collect()
+    let printed = match answers.brackets.0 {
+        (0, _) => Some(Printed),
+        (13, _) => Some(TooLong),
+        _ => None,
+    };
+    guided.into_iter().chain(replayed).chain(printed).collect()
 }
 
 // ---- the files that came with document 01

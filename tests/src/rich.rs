@@ -5,19 +5,25 @@
 use crate::encode::{encode_case, encode_start};
 use crate::file::{Case, Cell, StartFile};
 use crate::generate::{Pair, case};
+use crate::pairs::{gathered_pairs, late_pairs, pairs};
 use crate::random::{Random, seeds};
 use crate::shapes::RICH;
 use crate::sound::{pair, start, symbol};
-
-/// The most cells of a start file.
-pub const MOST_FILE_CELLS: usize = 256;
 
 /// A text of more bytes than this counts as long.
 const LONG: usize = 2000;
 
 // ---- generated pairs
 
-/// Generated pairs with such start files, with what names them in a failure.
+/// Generated pairs with stacks to print, most of them rich, with what names them in
+/// a failure.
+pub fn pairs_to_print(count: u64) -> impl Iterator<Item = (String, Pair)> {
+    let late = late_pairs().step_by(10);
+    let others = pairs(count).chain(gathered_pairs(count)).chain(late);
+    rich_pairs(8 * count).chain(others)
+}
+
+/// Generated pairs with rich start files.
 pub fn rich_pairs(count: u64) -> impl Iterator<Item = (String, Pair)> {
     seeds(count).map(|seed| (format!("rich {seed}"), rich_pair(seed)))
 }
@@ -34,26 +40,30 @@ fn rich_pair(seed: u64) -> Pair {
     }
 }
 
-/// Starts whose texts are not long, most often, and the longer of two.
 fn rich_start(random: &mut Random, case: &Case) -> StartFile {
     let cells = rich_cells(random, case.symbols);
-    let lengths = lengths(&cells);
-    let length = |root: u16| lengths[usize::from(root)];
-    let roots = numbers_of(&cells, 2);
-    let (short, long): (Vec<u16>, _) = roots.iter().partition(|&&root| length(root) <= LONG);
+    let (roots, lengths) = (numbers_of(&cells, 2), lengths(&cells));
     let starts = (0..random.between(1, RICH.starts)).map(|_| {
-        let two = [0; 2].map(|_| random.pick(&short));
-        let [one, other] = two.map(|root| (length(root), root));
-        let is_long = !long.is_empty() && random.chance(10);
-        let root = if is_long { random.pick(&long) } else { one.max(other).1 };
-        start(random.byte(0, case.controls - 1), root)
+        let control = random.byte(0, case.controls - 1);
+        start(control, root(random, &roots, &lengths))
     });
     let starts = starts.collect();
     StartFile { starts, cells }
 }
 
-/// Three cells or more. Both fields of a cell are most often among the last few
-/// cells that they may name, so that texts grow fast, or among all of them.
+/// Most often a root whose text is not long, the longer of two.
+fn root(random: &mut Random, roots: &[u16], lengths: &[usize]) -> u16 {
+    let length = |root: &u16| lengths[usize::from(*root)];
+    let (long, short): (Vec<u16>, Vec<u16>) = roots.iter().partition(|root| length(root) > LONG);
+    if !long.is_empty() && random.chance(10) {
+        return random.pick(&long);
+    }
+    let two = [0; 2].map(|_| random.pick(&short));
+    two.into_iter().max_by_key(length).expect("a root")
+}
+
+/// Three cells or more. A cell names others among the last two or five of their
+/// order, so that texts grow fast, or among all of them.
 fn rich_cells(random: &mut Random, symbols: u8) -> Vec<Cell> {
     let most = random.pick(&[6, 20, 60, RICH.cells]);
     let count = random.between(3, most);
@@ -66,11 +76,11 @@ fn rich_cells(random: &mut Random, symbols: u8) -> Vec<Cell> {
             random.pick(&numbers[numbers.len().saturating_sub(reach)..])
         };
         let (one, other, two) = (lower(1), lower(1), lower(2));
-        let cell = match random.below(12) {
+        let cell = match random.below(20) {
             0 => Cell::EmptyOne,
             1 => Cell::EmptyTwo,
-            2..=4 => symbol(random.byte(0, symbols - 1), one, other),
-            5..=7 => symbol(random.byte(0, symbols - 1), two, one),
+            2..=6 => symbol(random.byte(0, symbols - 1), one, other),
+            7..=12 => symbol(random.byte(0, symbols - 1), two, one),
             _ => pair(one, two),
         };
         cells.push(cell);
@@ -159,15 +169,41 @@ pub fn doubled(symbols: u16) -> Vec<Cell> {
     cells
 }
 
+/// The most cells of a start file.
+const MOST_CELLS: u16 = 256;
+
 /// As many cells as a file may have: symbols annotated by the order-2 stack that
 /// the symbol before tops, so that texts grow by annotations of order 2.
 pub fn doubled_by_two() -> Vec<Cell> {
     let mut cells = vec![Cell::EmptyOne, Cell::EmptyTwo];
-    while cells.len() < MOST_FILE_CELLS {
+    while cells.len() < usize::from(MOST_CELLS) {
         let two = cells.len() as u16 - 1;
         let one = two - 1;
         cells.push(symbol(31, two, one));
         cells.push(pair(two + 1, two));
     }
     cells
+}
+
+/// As many cells as a file may have: one order-1 stack of symbols; empty order-1
+/// stacks; symbols that each annotate the next with their order-1 stack; and those
+/// that do so with an order-2 stack.
+pub fn chains() -> [Vec<Cell>; 4] {
+    let last = MOST_CELLS - 1;
+    let with = |next: &dyn Fn(u16) -> Cell| {
+        let cells = (2..MOST_CELLS).map(next);
+        let empty = [Cell::EmptyOne, Cell::EmptyTwo].into_iter();
+        empty.chain(cells).collect()
+    };
+    let one_below = |n: u16| if n == 2 { 0 } else { n - 1 };
+    let or_root = |n: u16, cell: Cell| if n == last { pair(n - 1, 1) } else { cell };
+    [
+        with(&|n| or_root(n, symbol(31, 0, one_below(n)))),
+        with(&|n| pair(0, n - 1)),
+        with(&|n| or_root(n, symbol(8, one_below(n), 0))),
+        with(&|n| match n % 2 {
+            0 => symbol(9, n - 1, 0),
+            _ => pair(n - 1, 1),
+        }),
+    ]
 }

@@ -34,13 +34,18 @@ struct Met {
     too_large: usize,
     yes: usize,
     no: usize,
+    printed: usize,
 }
 
 impl Met {
-    /// Saturate, judge and guide on a pair. What the guide answers is checked on
-    /// nested stacks.
+    /// Saturate, judge, guide and brackets on a pair. What the guide answers is
+    /// checked on nested stacks.
     fn compare(&mut self, both: &mut Both, pair: &Pair, name: &str) {
         both.saturate(&pair.case_file);
+        for number in 0..=pair.start.starts.len() {
+            let (code, _) = both.brackets(&pair.case_file, &pair.start_file, number as u64);
+            self.printed += usize::from(code == 0);
+        }
         let Some(rounds) = rounds(both, pair) else {
             assert_eq!(both.guide(&pair.case_file, &pair.start_file, 0), Refused(9));
             self.too_large += 1;
@@ -75,7 +80,7 @@ fn generated_files() {
     }
     println!("{met:?}");
     assert!(met.taken[1..].iter().all(|&steps| steps >= 20));
-    assert!(met.too_large >= 5 && met.no >= 500);
+    assert!(met.too_large >= 5 && met.no >= 500 && met.printed >= 500);
 }
 
 /// Rounds that read sets of several entries.
@@ -139,6 +144,7 @@ fn any_lengths() {
             lent.cells.resize(random.between(0, 80 * CELL_WORDS), 0);
             lent.trace.resize(random.between(0, 8), 0);
             lent.replay_cells.resize(random.between(0, 480), 0);
+            lent.text.resize(random.between(0, 200), 0);
             every_service(&lent, &pair);
         }
     }
@@ -194,14 +200,15 @@ fn every_length_of_lent_tables() {
     assert!(checked >= 20);
 }
 
-/// All services with memory of the given lengths, guide and replay from the first
-/// start.
+/// All services with memory of the given lengths, guide, replay and brackets from
+/// the first start.
 fn every_service(lent: &Lent, pair: &Pair) {
     let mut both = Both::new(lent.clone());
     both.saturate(&pair.case_file);
     both.judge(&pair.case_file, &pair.start_file);
     both.guide(&pair.case_file, &pair.start_file, 0);
     both.replay(&pair.case_file, &pair.start_file, 0, &[0, 0]);
+    both.brackets(&pair.case_file, &pair.start_file, 0);
 }
 
 /// Answer words of every number: 8 with fewer than starts.

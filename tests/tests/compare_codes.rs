@@ -77,14 +77,15 @@ fn ample() -> Both {
     Both::new(Lent::new(LISTING_MOVES, LISTING_ENTRIES, 1024, 2048))
 }
 
-/// All services, guide and replay from every start, replay of what the guide wrote
-/// and of rules chosen at random. The replays that are accepted are counted.
+/// All services, guide, brackets and replay from every start, replay of what the
+/// guide wrote and of rules chosen at random. The replays that are accepted are counted.
 fn compare(both: &mut Both, random: &mut Random, pair: &Pair) -> usize {
     let (case, start) = (&pair.case_file, &pair.start_file);
     both.saturate(case);
     both.judge(case, start);
     let mut accepted = 0;
     for number in 0..pair.start.starts.len() {
+        both.brackets(case, start, number as u64);
         let reply = both.guide(case, start, number as u64);
         let guided = both.lent.trace[..reply.steps()].to_vec();
         for trace in [guided, wander(random, pair, number, 8).trace] {
@@ -136,6 +137,7 @@ fn any_lengths() {
         lent.cells.resize(random.between(0, 4000), 0);
         lent.trace.resize(random.between(0, 8), 0);
         lent.replay_cells.resize(random.between(0, 480), 0);
+        lent.text.resize(random.between(0, 200), 0);
         compare(&mut Both::new(lent), &mut random, &pair);
     }
 }
@@ -154,6 +156,7 @@ fn changed_codes_of_cases() {
                 both.judge(&case, start);
                 both.guide(&case, start, 0);
                 both.replay(&case, start, 0, &[0, 0]);
+                both.brackets(&case, start, 0);
             }
             refusals.count([both.saturate(&case).0]);
             kinds.count([kind]);
@@ -178,6 +181,7 @@ fn model_a() {
         both.judge(&case, &START_A);
         both.guide(&case, &START_A, 0);
         both.replay(&case, &START_A, 0, &[0, 0, 1, 0]);
+        both.brackets(&case, &START_A, 0);
     }
     println!("{answers:?}");
     // 0, 1, 2, 12 and 3: with one edge and one move there is no 4.
@@ -213,6 +217,7 @@ fn the_longest_file() {
     assert_eq!(both.guide(&file, &START_A, 0), NoRun);
     let reply = both.replay(&file, &START_A, 0, &[255, 0]);
     assert_eq!(reply, Fails { step: 1 });
+    assert_eq!(both.brackets(&file, &START_A, 1), (0, 11));
     assert_eq!(both.saturate(&longer(&file, 1)), (1, 0, 0));
     assert_eq!(both.saturate(&file[..21_054]), (1, 0, 0));
 }

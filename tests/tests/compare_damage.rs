@@ -34,16 +34,21 @@ struct Calls {
     /// How often replay gave each answer: a refusal's number, 0 for accepted,
     /// 260 for fails.
     replayed: BTreeMap<u64, usize>,
+    /// How often brackets gave each answer.
+    printed: BTreeMap<u64, usize>,
     /// How often saturate gave each answer to copies of coded cases.
     coded: BTreeMap<u64, usize>,
 }
 
 impl Calls {
     fn new() -> Calls {
+        let mut lent = Lent::new(200, 64, 64, 20);
+        lent.text.resize(30, 0);
         Calls {
-            both: Both::new(Lent::new(200, 64, 64, 20)),
+            both: Both::new(lent),
             trace: Vec::new(),
             replayed: BTreeMap::new(),
+            printed: BTreeMap::new(),
             coded: BTreeMap::new(),
         }
     }
@@ -65,6 +70,7 @@ impl Calls {
         self.both.judge(case, start);
         self.both.guide(case, start, 0);
         self.replay(case, start, 0);
+        self.brackets(case, start, 0);
     }
 
     /// The same on a start file.
@@ -74,6 +80,8 @@ impl Calls {
         self.both.guide(case, start, 3);
         self.replay(case, start, 0);
         self.replay(case, start, 3);
+        self.brackets(case, start, 0);
+        self.brackets(case, start, 3);
     }
 
     fn replay(&mut self, case: &[u8], start: &[u8], number: u64) {
@@ -83,6 +91,18 @@ impl Calls {
             Refused(number) => number,
         };
         *self.replayed.entry(answer).or_default() += 1;
+    }
+
+    fn brackets(&mut self, case: &[u8], start: &[u8], number: u64) {
+        let (answer, _) = self.both.brackets(case, start, number);
+        *self.printed.entry(answer).or_default() += 1;
+    }
+
+    /// Each of these answers of brackets has occurred.
+    fn assert_printed(&self, answers: &[u64]) {
+        println!("answers of brackets: {:?}", self.printed);
+        let often = |answer: &u64| self.printed.get(answer).is_some_and(|&n| n >= 5);
+        assert!(answers.iter().all(often), "{answers:?}");
     }
 
     /// Each of these answers of replay has occurred.
@@ -124,6 +144,7 @@ fn cut_and_misplaced_files() {
         }
     }
     calls.assert_replayed(&[1, 5]);
+    calls.assert_printed(&[1, 5]);
     calls.assert_coded(&[1]);
 }
 
@@ -146,6 +167,7 @@ fn every_byte_changed() {
         }
     }
     calls.assert_replayed(&[0, 1, 2, 3, 4, 5, 6, 7, 12, 260]);
+    calls.assert_printed(&[0, 1, 2, 3, 4, 5, 6, 7, 12, 13]);
     calls.assert_coded(&[0, 1, 2, 12, 3, 4]);
 }
 
@@ -167,6 +189,7 @@ fn changed_finals_of_cases() {
     println!("{kinds:?}");
     assert!(kinds.rarest(KINDS) >= 50, "{kinds:?}");
     calls.assert_replayed(&[0, 2, 3, 4, 260]);
+    calls.assert_printed(&[0, 2, 3, 4, 13]);
     calls.assert_coded(&[0, 2, 3, 4]);
 }
 
@@ -189,6 +212,7 @@ fn several_bytes_changed() {
         }
     }
     calls.assert_replayed(&[0, 2, 3, 4, 6, 7, 12, 260]);
+    calls.assert_printed(&[0, 2, 3, 4, 6, 7, 12, 13]);
     calls.assert_coded(&[0, 2, 12, 3, 4]);
 }
 

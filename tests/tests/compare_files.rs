@@ -25,9 +25,9 @@ use second::won::{EXAMPLE_WORDS, example_case, example_start};
 // ---- the files that came with documents 01 and 02
 
 /// The proved listing is this text, which has no rounds, and the services answer
-/// as it says, judge with its rounds, guide from every `step`th start. Where
-/// guide arrives, replay accepts with the cells that it says, and not with one
-/// fewer.
+/// as it says, judge with its rounds, guide from every `step`th start; its brackets
+/// are compared too. Where guide arrives, replay accepts with the cells that it
+/// says, and not with one fewer.
 fn check_listing(both: &mut Both, (case, start): (&[u8], &[u8]), step: usize, text: &str) {
     let printed = proved::listing(case, start);
     let (without, rounds) = without_rounds(&printed);
@@ -35,6 +35,7 @@ fn check_listing(both: &mut Both, (case, start): (&[u8], &[u8]), step: usize, te
     let refusal = both.judge(case, start);
     if refusal != 0 {
         assert_eq!(printed, format!("refused {refusal}\n"));
+        both.brackets(case, start, 0);
         return;
     }
     // A sound start file has the number of its starts at byte 3.
@@ -56,6 +57,7 @@ fn check_listing(both: &mut Both, (case, start): (&[u8], &[u8]), step: usize, te
             both.lend_to_replay(cells as usize - 1);
             assert_eq!(both.replay(case, start, number, &trace), Refused(11));
         }
+        both.brackets(case, start, number as u64);
     }
 }
 
@@ -163,13 +165,14 @@ fn every_larger_file() {
     }
 }
 
-/// All services; guide and replay from each of the first numbers, and from a
-/// number that no file has.
+/// All services; guide, brackets and replay from each of the first numbers, and
+/// from a number that no file has.
 fn every_service(both: &mut Both, case: &[u8], start: &[u8]) {
     both.saturate(case);
     both.judge(case, start);
     for number in [0, 1, 2, 64, u64::MAX] {
         both.guide(case, start, number);
+        both.brackets(case, start, number);
         for trace in [
             &[][..],
             &[0],
@@ -372,6 +375,7 @@ fn cells_at_their_limit() {
         assert!(matches!(refusal, 0 | 6));
         for number in 0..64 {
             both.guide(case, &start(256), number);
+            both.brackets(case, &start(256), number);
             for cells in 255..258 {
                 both.lend_to_replay(cells);
                 both.replay(case, &start(256), number, &[0, 0, 1, 0]);

@@ -19,14 +19,22 @@ use second::services::listing;
 use second::shapes::SHAPES;
 use second::start_file::decode_start;
 
-/// The replies of the services: saturate, judge, and guide and replay for start
-/// 0, where a reply that is no refusal counts as 0.
+/// The replies of the services: saturate, judge, and guide, replay and brackets for
+/// start 0, where a reply that is no refusal counts as 0.
 #[derive(Clone, Copy, Debug, PartialEq, Eq)]
 struct Replies {
     saturate: u64,
     judge: u64,
     guide: u64,
     replay: u64,
+    brackets: u64,
+}
+
+impl Replies {
+    /// Those of the services that read both files.
+    fn others(self) -> [u64; 4] {
+        [self.judge, self.guide, self.replay, self.brackets]
+    }
 }
 
 /// Runs the services; checks the range of refusals and the memory they leave.
@@ -64,7 +72,17 @@ fn run(lent: &mut Lent, case: &[u8], start: &[u8]) -> Replies {
         judge,
         guide,
         replay: run_replay(lent, case, start),
+        brackets: run_brackets(lent, case, start),
     }
+}
+
+/// Prints start 0. A text that is too long counts as 0, for no file is at fault.
+fn run_brackets(lent: &mut Lent, case: &[u8], start: &[u8]) -> u64 {
+    let (code, length) = lent.brackets(case, start, 0);
+    assert!(matches!(code, 0..=6 | 12 | 13), "brackets {code}");
+    assert!(lent.text_is_zero_from(length));
+    assert!(code == 0 || length == 0);
+    if code == 13 { 0 } else { code }
 }
 
 /// Replays rules 0 and 1.
@@ -87,6 +105,7 @@ fn assert_case_refused(lent: &mut Lent, case: &[u8], start: &[u8], refusal: u64)
         judge: refusal,
         guide: refusal,
         replay: refusal,
+        brackets: refusal,
     };
     assert_eq!(run(lent, case, start), all);
     assert_eq!(listing(case, start), format!("refused {refusal}\n"));
@@ -95,8 +114,7 @@ fn assert_case_refused(lent: &mut Lent, case: &[u8], start: &[u8], refusal: u64)
 fn assert_start_refused(lent: &mut Lent, case: &[u8], start: &[u8], refusal: u64) {
     let replies = run(lent, case, start);
     assert!(matches!(replies.saturate, 0 | 9));
-    let others = [replies.judge, replies.guide, replies.replay];
-    assert_eq!(others, [refusal; 3]);
+    assert_eq!(replies.others(), [refusal; 4]);
     assert_eq!(listing(case, start), format!("refused {refusal}\n"));
 }
 
@@ -193,12 +211,15 @@ fn check_changed_case(lent: &mut Lent, copy: &[u8], start: &[u8]) -> Option<u64>
             assert!(matches!(replies.saturate, 0 | 9));
             assert!(matches!(replies.judge, 0 | 5 | 6 | 9));
             assert!(matches!(replies.replay, 0 | 5 | 6));
+            assert_eq!(replies.brackets, replies.replay);
             None
         }
         Err(refusal) => {
             assert!(matches!(refusal, 1..=4 | 12));
-            let others = [replies.judge, replies.guide, replies.replay];
-            assert_eq!((replies.saturate, others), (refusal, [refusal; 3]));
+            assert_eq!(
+                (replies.saturate, replies.others()),
+                (refusal, [refusal; 4])
+            );
             Some(refusal)
         }
     }
@@ -211,12 +232,11 @@ fn check_changed_start(lent: &mut Lent, pair: &Pair, copy: &[u8]) {
         Ok(start) => {
             assert_eq!(encode_start(&start), copy);
             assert!(matches!(replies.judge, 0 | 9));
-            assert_eq!(replies.replay, 0);
+            assert_eq!((replies.replay, replies.brackets), (0, 0));
         }
         Err(refusal) => {
             assert!(matches!(refusal, 5 | 6));
-            let others = [replies.judge, replies.guide, replies.replay];
-            assert_eq!(others, [refusal; 3]);
+            assert_eq!(replies.others(), [refusal; 4]);
         }
     }
 }

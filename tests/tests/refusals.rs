@@ -1,35 +1,32 @@
 //! Each refusal of document 01, by one change to a sound pair of files. Refusal 8
 //! counts the words of document 02, §1.
 
+use second::callers::{Answers, SECOND};
 use second::encode::{encode_case, encode_start};
 use second::every_state::entry;
 use second::file::{Case, Cell, FileEntry, Rule, StartFile};
 use second::lent::Lent;
 use second::replay::ReplayReply;
 use second::services::GuideReply::{CellsShort, NoRun, Refused};
-use second::services::listing;
 use second::sets::{has, only};
 use second::sound::{a_move, edge, pair, sound_case, sound_start, symbol};
 
-/// All services answer the refusal, and all lent memory is zero.
-fn assert_case_bytes(case: &[u8], refusal: u64) {
-    let mut lent = Lent::as_listing();
-    assert_eq!(lent.saturate(case), (refusal, 0, 0));
-    assert!(lent.tables_are_zero());
-    assert_pair_bytes(case, &encode_start(&sound_start()), refusal);
+/// All that the services answer, replay to an empty trace.
+fn answers(case: &[u8], start: &[u8]) -> Answers {
+    SECOND.answers(&Lent::as_listing(), (case, start), 0, &[vec![]])
 }
 
+/// All services answer the refusal, and all lent memory is zero.
+fn assert_case_bytes(case: &[u8], refusal: u64) {
+    let answers = answers(case, &encode_start(&sound_start()));
+    assert!(answers.are_refusal(refusal), "{}", answers.in_short());
+}
+
+/// The same of the services that read both files.
 fn assert_pair_bytes(case: &[u8], start: &[u8], refusal: u64) {
-    let mut lent = Lent::as_listing();
-    assert_eq!(lent.judge(case, start), refusal);
-    assert!(lent.tables_are_zero() && lent.answers_are_zero());
-    assert_eq!(lent.guide(case, start, 0), Refused(refusal));
-    assert!(lent.tables_are_zero() && lent.cells_are_zero());
-    assert!(lent.trace_is_zero_from(0));
-    let replay = lent.replay(case, start, 0, &[]);
-    assert_eq!(replay, ReplayReply::Refused(refusal));
-    assert!(lent.replay_cells_are_zero());
-    assert_eq!(listing(case, start), format!("refused {refusal}\n"));
+    let answers = answers(case, start);
+    let refused = answers.are_refusal_of_pair(refusal);
+    assert!(refused, "{}", answers.in_short());
 }
 
 /// The sound case with one change is refused.
@@ -305,8 +302,8 @@ fn kinds_and_unused_fields_of_the_start_file() {
     assert_start_byte(23 + 18 + 1, 1);
 }
 
-/// "Guide: the start named is not in the file", before 9, and for replay before
-/// 10 and 11.
+/// "Guide: the start named is not in the file", before 9, for replay before 10 and
+/// 11, and for brackets before 13.
 #[test]
 fn the_start_named() {
     let case = encode_case(&sound_case());
@@ -319,6 +316,9 @@ fn the_start_named() {
             let replay = lent.replay(&case, &start, number, &[1]);
             assert_eq!(replay, ReplayReply::Refused(7));
             assert!(lent.replay_cells_are_zero());
+            lent.text.truncate(1);
+            assert_eq!(lent.brackets(&case, &start, number), (7, 0));
+            assert!(lent.text_is_zero_from(0));
         }
     }
 }
