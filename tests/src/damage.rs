@@ -102,3 +102,14 @@ pub fn bodies_swapped(file: &[u8]) -> Vec<Vec<u8>> {
     }
     copies
 }
+
+/// Copies with a wrong length, contents table or order of bodies.
+pub fn misplaced(file: &[u8]) -> Vec<Vec<u8>> {
+    let mut copies: Vec<Vec<u8>> = cuts(file).collect();
+    copies.extend(counts_off_by_one(file));
+    copies.extend(offsets_off_by_one(file));
+    copies.extend(lines_swapped(file));
+    copies.extend(bodies_swapped(file));
+    copies.extend([longer(file, 0), longer(file, 255)]);
+    copies
+}

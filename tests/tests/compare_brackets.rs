@@ -5,10 +5,7 @@
 
 use second::coded::{also_coded, record};
 use second::compare::Both;
-use second::damage::{
-    bodies_swapped, changed, counts_off_by_one, cuts, lines_swapped, longer, offsets_off_by_one,
-    values_near,
-};
+use second::damage::{changed, misplaced, values_near};
 use second::damage_codes::changed_codes;
 use second::file::Cell;
 use second::generate::Pair;
@@ -123,12 +120,7 @@ fn any_numbers_and_lengths() {
 
 /// Copies with a wrong length, contents table, order of bodies, or byte.
 fn damaged(file: &[u8]) -> Vec<Vec<u8>> {
-    let mut copies: Vec<Vec<u8>> = cuts(file).collect();
-    copies.extend(counts_off_by_one(file));
-    copies.extend(offsets_off_by_one(file));
-    copies.extend(lines_swapped(file));
-    copies.extend(bodies_swapped(file));
-    copies.extend([longer(file, 0), longer(file, 255)]);
+    let mut copies = misplaced(file);
     for at in 0..file.len() {
         let others = values_near(file[at]).into_iter();
         copies.extend(others.map(|value| changed(file, at, value)));

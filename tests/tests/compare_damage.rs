@@ -4,10 +4,7 @@ use std::collections::BTreeMap;
 
 use second::coded::{RECORDS, also_coded, coded};
 use second::compare::Both;
-use second::damage::{
-    bodies_swapped, changed, counts_off_by_one, cuts, lines_swapped, longer, offsets_off_by_one,
-    values_near,
-};
+use second::damage::{changed, misplaced, values_near};
 use second::damage_finals::{KINDS, changed_finals};
 use second::generate::{Pair, pair};
 use second::kinds::Kinds;
@@ -118,17 +115,6 @@ impl Calls {
         let often = |answer: &u64| self.coded.get(answer).is_some_and(|&n| n >= 10);
         assert!(answers.iter().all(often), "{answers:?}");
     }
-}
-
-/// Copies with a wrong length, contents table or order of bodies.
-fn misplaced(file: &[u8]) -> Vec<Vec<u8>> {
-    let mut copies: Vec<Vec<u8>> = cuts(file).collect();
-    copies.extend(counts_off_by_one(file));
-    copies.extend(offsets_off_by_one(file));
-    copies.extend(lines_swapped(file));
-    copies.extend(bodies_swapped(file));
-    copies.extend([longer(file, 0), longer(file, 255)]);
-    copies
 }
 
 #[test]
