@@ -4,7 +4,8 @@ use Prim.Native.Nat.{_-_, _≤_}
 use native.Mathlib.Omega.{arith}
 use Rattle.saturation.specs.Held.{saturatedIn}
 use Rattle.acceptance.specs.Cells.{RoundsFilled}
-use Rattle.start_records.specs.Body.{cellsIn, length-cellsIn, cellsIn-at}
+use Rattle.start_records.specs.Body.{cellsIn}
+use Rattle.start_records.specs.Body.Laws.{length-cellsIn, cellsIn-at}
 use Rattle.acceptance.specs.Cells.Laws.{states-below, filled-none, filled-more, filled-all, parts-below, next-zero}
 use borrow.Author.Needs.{needs}
 use Rattle.acceptance.proofs.fill_rounds.Statement.{statement}

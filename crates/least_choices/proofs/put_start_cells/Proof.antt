@@ -3,7 +3,8 @@
 use Prim.Native.Nat.{_-_, _≤_}
 use borrow.Author.Needs.{needs}
 use Rattle.tables.specs.Held.{automatonOf}
-use Rattle.start_records.specs.Body.{cellsIn, length-cellsIn}
+use Rattle.start_records.specs.Body.{cellsIn}
+use Rattle.start_records.specs.Body.Laws.{length-cellsIn}
 use Rattle.acceptance.specs.Cells.Laws.{states-below}
 use Rattle.least_choices.specs.Starts.Turns.{StartTaken, taken-none, taken-more, taken-all}
 use Rattle.least_choices.proofs.put_start_cells.Statement.{statement}

@@ -26,7 +26,8 @@ use Rattle.cell_memory.specs.Memory.{cellOf, valueOf, guidedCell, guidedIn, wit
 use Rattle.cell_memory.specs.Memory.Laws.{valueOf-cellOf, length-guidedIn, guidedIn-at}
 use Rattle.acceptance_words.specs.Rows.{roundIn}
 use Rattle.acceptance.specs.Cells.{PartsBelow, annotationOrderAt}
-use Rattle.start_records.specs.Body.{cellRead, cellsIn, cellsIn-at}
+use Rattle.start_records.specs.Body.{cellRead, cellsIn}
+use Rattle.start_records.specs.Body.Laws.{cellsIn-at}
 use Rattle.acceptance.specs.Cells.Laws.{refers-parts, StatesBelow}
 use Rattle.least_choices.specs.Choices.{leastMet}
 use Rattle.least_choices.specs.Starts.{moveMet, edgeMet, AcceptedIn, choicesBy, withStart, startCells}

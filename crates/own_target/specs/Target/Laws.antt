@@ -29,7 +29,8 @@ use Rattle.acceptance.specs.Named.{TablesNamed}
 use Rattle.acceptance.specs.Table.{AutomatonSmall}
 use Rattle.acceptance.specs.Table.Laws.{stands}
 use Rattle.acceptance.specs.Cells.{RoundsStand}
-use Rattle.start_records.specs.Body.{cellsIn, length-cellsIn}
+use Rattle.start_records.specs.Body.{cellsIn}
+use Rattle.start_records.specs.Body.Laws.{length-cellsIn}
 use Rattle.acceptance.specs.Cells.Laws.{StatesBelow, cell-won}
 use Rattle.own_target.specs.Target.{configurationIn}
 

@@ -2,7 +2,7 @@
 -- Assumes nothing.
 use Rattle.cell_memory.specs.Memory.{cellOf}
 use Rattle.cell_steps.specs.Steps.{cellNumber}
-use Rattle.start_records.specs.Body.{cellsIn-at}
+use Rattle.start_records.specs.Body.Laws.{cellsIn-at}
 use Rattle.replay_step.specs.Top.Laws.{cell-past}
 use borrow.Author.Needs.{needs}
 use Rattle.replay_step.proofs.cell_of.Statement.{statement}

@@ -22,7 +22,8 @@ use Rattle.tables.specs.Rows.Laws.{length-firstOf, getD-firstOf}
 use Rattle.results.specs.Collecting.{ruleIn, rulesIn}
 use Rattle.cell_steps.specs.declared.Top.{Top}
 use Rattle.cell_steps.specs.Steps.{putFrom}
-use Rattle.start_records.specs.Body.{cellsIn, length-cellsIn}
+use Rattle.start_records.specs.Body.{cellsIn}
+use Rattle.start_records.specs.Body.Laws.{length-cellsIn}
 use Rattle.replay_cells.specs.CellBytes.{putBytes}
 use Rattle.replay_cells.specs.CellBytes.Laws.{cellsIn-puts}
 use Rattle.replay_step.specs.declared.Place.{Place}

@@ -20,7 +20,8 @@ use Rattle.cell_memory.specs.declared.Cell as Value
 use Rattle.cell_memory.specs.Memory as Memory
 use Rattle.cell_steps.specs.declared.Top.{Top}
 use Rattle.cell_steps.specs.Steps.{cellNumber}
-use Rattle.start_records.specs.Body.{cellsIn, length-cellsIn}
+use Rattle.start_records.specs.Body.{cellsIn}
+use Rattle.start_records.specs.Body.Laws.{length-cellsIn}
 use Rattle.replay_step.specs.Top.{topOn, topOf, topIn, takesOrder, ruleFits}
 
 -- ---- the top

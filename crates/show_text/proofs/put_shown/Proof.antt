@@ -5,7 +5,7 @@ use native.Mathlib.Omega.{arith}
 use lib.Seq.{length-take-le}
 use Rattle.services.specs.Listing.{ascii}
 use Rattle.text.specs.Written.Laws.{written-same, written-then}
-use Rattle.show_text.specs.Laws.{printed-fits, shown-refused, shown-printed}
+use Rattle.show_text.specs.Laws.Answers.{printed-fits, shown-refused, shown-printed}
 use borrow.Author.Needs.{needs}
 use Rattle.show_text.proofs.put_shown.Statement.{statement}
 use Rattle.show_text.proofs.put_shown.Tie as tie

@@ -3,7 +3,7 @@
 use Prim.Native.Nat.{ℕ}
 use lib.ListN.{length-replicate}
 use Rattle.text.specs.Laws.Printed.{printed}
-use Rattle.show_text.specs.Laws.{shown-ready, shown-is}
+use Rattle.show_text.specs.Laws.Answers.{shown-ready, shown-is}
 use borrow.Author.Needs.{needs}
 use Rattle.show_text.proofs.show_text.Statement.{statement}
 use Rattle.show_text.proofs.show_text.Tie as tie

@@ -17,7 +17,8 @@ use Rattle.files.specs.Start.{Start, startOf, startsOf, cellsOf, configurationO
 use Rattle.bytes_in.specs.Records.{recordAt, bodyOf}
 use Rattle.acceptance_words.specs.Rows.{roundIn}
 use Rattle.acceptance.specs.Cells.{RoundsStand, RoundsFilled}
-use Rattle.start_records.specs.Body.{cellsIn, cells-body}
+use Rattle.start_records.specs.Body.{cellsIn}
+use Rattle.start_records.specs.Body.Laws.{cells-body}
 use Rattle.acceptance.specs.Cells.Laws.{StatesBelow}
 use Rattle.acceptance.specs.Laws.Starts.{start-round}
 use Rattle.sound_files.specs.Starts.{startRound}

@@ -17,7 +17,8 @@ use Rattle.cell_memory.specs.declared.Cell.the-variants.{Empty1, Symbol, Empty2
 use Rattle.services.specs.Listing.{ascii, decimal}
 use Rattle.services.specs.Brackets.{between, symbolsText, stacksText, annotationText}
 use Rattle.bytes_in.specs.Records.{recordAt}
-use Rattle.start_records.specs.Body.{cellRead, cellsIn, length-cellsIn, cellsIn-at}
+use Rattle.start_records.specs.Body.{cellRead, cellsIn}
+use Rattle.start_records.specs.Body.Laws.{length-cellsIn, cellsIn-at}
 use Rattle.stack_text.specs.Cells.{CellsStand, stackIn}
 
 -- ---- a cell of an order that is not of the one kind is of the other

@@ -1,6 +1,6 @@
 -- `start_records::order_at` meets its contract.
 -- Assumes nothing.
-use Rattle.start_records.specs.Body.{order-none, order-there}
+use Rattle.start_records.specs.Body.Laws.{order-none, order-there}
 use borrow.Author.Needs.{needs}
 use Rattle.start_records.proofs.order_at.Statement.{statement}
 use Rattle.start_records.proofs.order_at.Tie as tie
