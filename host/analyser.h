@@ -1,6 +1,6 @@
 /*
  * The script analyser for the bench host: target/staticlib/libexports.a, which
- * `rt staticlib exports` writes. Documents 01 and 02 (requests 1 to 6) say what
+ * `rt staticlib exports` writes. Documents 01 and 02 (requests 1 to 7) say what
  * the five services do; this page says the same for a caller in C. crates/exports
  * proves each call equal to its definition; what this page says of numbers, words,
  * rounds, runs and texts are the theorems of crates/demands about these definitions
@@ -24,8 +24,9 @@
  *   moves    5 words a move: order-1 state, symbol, annotation order, annotation
  *            set, rest set. A saturated table with more than 1,024 moves is
  *            refused with 9 whatever is lent; every other fits 5,120 words.
- *   entries  2 words an entry: control, set of order-2 states. A table with more
- *            than 64 order-1 states is refused with 9; every other fits 128 words.
+ *   entries  3 words an entry: control, set of order-2 states, and the number of
+ *            the table's moves whose order-1 state is that entry. A table with more
+ *            than 64 order-1 states is refused with 9; every other fits 192 words.
  *   answers  a word of 16 bits a start. At most 64 starts.
  *   cells    for guide 68 words of 16 bits a cell, for replay 6 bytes a cell. At
  *            most 4,096 cells count.
@@ -60,12 +61,12 @@ extern "C" {
 /* Words of a move and of an entry, 16-bit words of a cell of guide, bytes of a
    cell of replay. */
 #define ANALYSER_MOVE_WORDS 5
-#define ANALYSER_ENTRY_WORDS 2
+#define ANALYSER_ENTRY_WORDS 3
 #define ANALYSER_CELL_WORDS 68
 #define ANALYSER_REPLAY_CELL_BYTES 6
 
 /* Bytes of a listing. */
-#define ANALYSER_LISTING_BYTES 4280
+#define ANALYSER_LISTING_BYTES 4306
 
 /* The documents' sentence for each refusal; 3 is for a code that is not in the
    record too, 4 for a second entry, 7 for replay and brackets, and 8 counts words,
@@ -101,6 +102,9 @@ extern "C" {
  * Returns 0, or the refusal 1, 2, 3, 4, 9 or 12. After 0, moves begins with the
  * *moves_used moves of the table and entries with its *entries_used entries, in
  * the order in which the rounds add them, and all words after them are zero.
+ * Order-1 state J + n is entry n, where J is the case's number of inner order-1
+ * states: the third word of entry n is the number of moves whose first word is
+ * J + n, those of the case among them. Moves of inner states count for no entry.
  * After a refusal both tables are zero, and *moves_used and *entries_used are 0.
  */
 uint64_t analyser_saturate(
@@ -237,7 +241,8 @@ uint64_t analyser_brackets(
 /*
  * Listing: the text that the printing program prints for two files, with the
  * memory that document 01 lends to it. text points to ANALYSER_LISTING_BYTES
- * bytes; no listing is longer.
+ * bytes; no listing is longer. The second line is `most` and the largest third word
+ * of the table's entries, 0 without entries; a refusal is one line.
  *
  * Returns the length of the text. The bytes after it are zero.
  */

@@ -104,7 +104,7 @@ static void print_entry(size_t number)
     const uint64_t *entry = entries + number * ANALYSER_ENTRY_WORDS;
     printf("entry %zu: [%" PRIu64 ",", number, entry[0]);
     print_set(entry[1]);
-    printf("]\n");
+    printf("], moves %" PRIu64 "\n", entry[2]);
 }
 
 static uint64_t saturate(void)

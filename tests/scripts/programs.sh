@@ -1,8 +1,9 @@
 # shellcheck shell=bash disable=SC2154
 # The tests of the scripts on the programs of this repository.
 
-# Document 01's model A, with the rounds of document 02, §1.
+# Document 01's model A, with the rounds of document 02, §1, and the count of §7.
 listing='moves 3 entries 3
+most 1
 start 0 yes 2 2 9
 start 1 yes 0 0 6
 start 2 no
@@ -100,7 +101,7 @@ suppliers_codes() {
     gives 3 $'refused 12\n' ./brackets "$case" /dev/null 3
     printf '%b' "$(longest_case)" >"$case"
     same "bytes of the longest case" 21055 "$(wc -c <"$case")"
-    gives 0 $'moves 1024 entries 0\nstart 0 no\nstart 1 no\nstart 2 no\n' ./analyse "$case" "$start"
+    gives 0 $'moves 1024 entries 0\nmost 0\nstart 0 no\nstart 1 no\nstart 2 no\n' ./analyse "$case" "$start"
     gives 0 $'start 1 no\n' ./guide "$case" "$start" 1
     gives 0 $'[[1 1{[]}]]\n' ./brackets "$case" "$start" 1
     is_clear

@@ -88,9 +88,21 @@ pub fn one_start() -> Vec<u8> {
     })
 }
 
-/// A listing in document 01's form, and the round of each start marked yes,
-/// which document 02, §1, puts directly before the steps.
-pub fn without_rounds(listing: &str) -> (String, Vec<Option<usize>>) {
+/// A listing taken apart: document 01's form of it, and what document 02 adds.
+pub struct Listed {
+    /// The text in document 01's form.
+    pub text: String,
+    /// The round of each start marked yes, which stands directly before the steps
+    /// (§1).
+    pub rounds: Vec<Option<usize>>,
+    /// The largest number of moves of an entry, in a line after the first (§7); a
+    /// refusal has none.
+    pub most: Option<u64>,
+}
+
+/// Takes a listing apart.
+pub fn listed(listing: &str) -> Listed {
+    let (listing, most) = without_most(listing);
     let mut text = String::new();
     let mut rounds = Vec::new();
     for line in listing.lines() {
@@ -100,7 +112,23 @@ pub fn without_rounds(listing: &str) -> (String, Vec<Option<usize>>) {
         }
         text += &(fields.join(" ") + "\n");
     }
-    (text, rounds)
+    Listed { text, rounds, most }
+}
+
+/// A listing without the line that document 02, §7, puts after its first, and that
+/// line's number. A refusal is a line alone.
+pub fn without_most(listing: &str) -> (String, Option<u64>) {
+    let mut lines: Vec<&str> = listing.split_inclusive('\n').collect();
+    if listing.starts_with("refused ") {
+        assert_eq!(lines.len(), 1, "{listing}");
+        return (listing.to_string(), None);
+    }
+    let line = lines.remove(1);
+    let number = line
+        .strip_prefix("most ")
+        .and_then(|n| n.strip_suffix('\n'));
+    let number = number.unwrap_or_else(|| panic!("the line after the first: {line}"));
+    (lines.concat(), Some(number.parse().expect("a number")))
 }
 
 /// Takes the round out of `start N yes [trace|cells] ROUND STEPS CELLS`.

@@ -42,6 +42,10 @@ pub fn check_words(saturate: Saturate) {
         let n = u64::from(n);
         assert_eq!(found, [n, 0, 0, 0, power, n, 0, 1, power, 0]);
     }
+    for (n, words) in (0..64).zip(entries.chunks(ENTRY_WORDS)) {
+        let named = entry(n).entry;
+        assert_eq!(words, [named.control.into(), named.set, 2]);
+    }
 }
 
 /// Entry n alone is final. So [[]] lies in the target from the entry's control, if

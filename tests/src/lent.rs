@@ -104,6 +104,12 @@ impl Lent {
         words.iter().copied().map(round_of_answer).collect()
     }
 
+    /// The numbers of moves of the first entries, which are their third words.
+    pub fn counts(&self, entries: usize) -> Vec<u64> {
+        let records = self.entries.chunks_exact(ENTRY_WORDS);
+        records.take(entries).map(|words| words[2]).collect()
+    }
+
     /// Whether the lent tables are zero.
     pub fn tables_are_zero(&self) -> bool {
         let words = self.moves.iter().chain(&self.entries);

@@ -11,6 +11,7 @@ use crate::search::{Bounds, Outcome, search};
 use crate::services::GuideReply::{self, Arrived, CellsShort, TraceFull};
 use crate::services::MOST_CELLS;
 use crate::shapes::{LATE, SHAPES, Shape};
+use crate::sparse::sparse;
 use crate::stack::{Configuration, Empty, after_rules, configuration, new_cells};
 use crate::target::in_target;
 
@@ -31,6 +32,11 @@ pub fn late_pairs() -> impl Iterator<Item = (String, Pair)> {
 /// Generated pairs whose rounds read sets of several entries.
 pub fn gathered_pairs(count: u64) -> impl Iterator<Item = (String, Pair)> {
     seeds(count).map(|seed| (format!("gathered {seed}"), gathered(seed)))
+}
+
+/// Generated pairs from which parts are left out.
+pub fn sparse_pairs(count: u64) -> impl Iterator<Item = (String, Pair)> {
+    seeds(count).map(|seed| (format!("sparse {seed}"), sparse(seed)))
 }
 
 impl Pair {

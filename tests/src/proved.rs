@@ -83,7 +83,7 @@ unsafe extern "C" {
 }
 
 /// The bytes lent for a listing.
-const LISTING_BYTES: usize = 4280;
+const LISTING_BYTES: usize = 4306;
 
 /// What the printing program prints; the bytes behind it must be zero.
 pub fn listing(case: &[u8], start: &[u8]) -> String {

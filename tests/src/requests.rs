@@ -1,39 +1,66 @@
 //! The examples of document 02's requests, in `tests/data/vectors02`.
 
-use crate::callers::Services;
-use crate::data::{bytes, bytes_of, hex};
+use self::Form::{Now, WithoutCounts};
+use crate::callers::{SECOND, Services};
+use crate::data::{bytes, bytes_of, hex, without_most};
 use crate::replay::{REPLAY_CELL_BYTES, ReplayReply};
 use crate::services::{
     CELL_WORDS, ENTRY_WORDS, GuideReply, LISTING_ENTRIES, LISTING_MOVES, MOVE_WORDS,
 };
 
 /// The last request that has landed.
-const LANDED: u64 = 6;
+const LANDED: u64 = 7;
 
-/// The requests whose files are here, and how many lines of each hold after it.
-const FILES: [(u64, usize); 6] = [(1, 20), (2, 28), (3, 23), (4, 15), (5, 26), (6, 23)];
+/// The request that adds a word to each entry and a line to listings.
+const COUNTS: u64 = 7;
+
+/// The requests whose files are here, how many lines of each hold now, and how many
+/// hold but for the counts.
+const FILES: [(u64, usize, usize); 7] = [
+    (1, 9, 11),
+    (2, 28, 0),
+    (3, 18, 5),
+    (4, 0, 15),
+    (5, 20, 6),
+    (6, 23, 0),
+    (7, 17, 0),
+];
+
+/// The form of a line's reply.
+#[derive(Clone, Copy, PartialEq, Eq)]
+enum Form {
+    /// As the services reply now.
+    Now,
+    /// Without the third word of entries and the second line of a listing.
+    WithoutCounts,
+}
 
 /// A line of a request's file.
+#[derive(Clone)]
 struct Example {
     name: String,
+    form: Form,
     call: String,
     arguments: Vec<(String, String)>,
     reply: String,
 }
 
-/// The services reply as every line says whose reply holds now.
+/// The services reply as every line says whose reply holds now, or held until
+/// counts were added.
 pub fn check_examples(services: Services) {
-    for (request, holding) in FILES {
+    for (request, now, without_counts) in FILES {
         let file = format!("vectors02/{request:02}.txt");
         let text = String::from_utf8(bytes(&file)).expect("text");
         let examples: Vec<Example> = text.lines().filter_map(example).collect();
-        assert_eq!(examples.len(), holding, "lines of {file} that hold");
-        examples.into_iter().for_each(|e| e.check(services));
+        let count = |form: Form| examples.iter().filter(|e| e.form == form).count();
+        let counted = (count(Now), count(WithoutCounts));
+        assert_eq!(counted, (now, without_counts), "lines of {file}");
+        examples.iter().for_each(|e| e.check(services));
     }
 }
 
-/// A line of six fields, if its reply holds after the last request that has
-/// landed: the second field is the first and the last such request.
+/// A line of six fields, if its reply holds: the second field is the first and the
+/// last request after which it does.
 fn example(line: &str) -> Option<Example> {
     let fields: Vec<&str> = line.split('\t').collect();
     let [_, range, call, name, arguments, reply] = fields[..] else {
@@ -41,12 +68,27 @@ fn example(line: &str) -> Option<Example> {
     };
     let request = |number: &str| number.parse::<u64>().expect("a request");
     let (from, to) = range.split_once('-').expect("two requests");
-    (request(from) <= LANDED && LANDED <= request(to)).then(|| Example {
+    let form = form_now(request(from), request(to))?;
+    Some(Example {
         name: name.to_string(),
+        form,
         call: call.to_string(),
         arguments: arguments.split(' ').map(named).collect(),
         reply: reply.to_string(),
     })
+}
+
+/// How a reply holds that was right from one request to another: as it is, or, if it
+/// was right until counts were added, without these; nothing if another reply is
+/// right now.
+fn form_now(from: u64, to: u64) -> Option<Form> {
+    if from > LANDED {
+        None
+    } else if to >= LANDED {
+        Some(Now)
+    } else {
+        (to == COUNTS - 1).then_some(WithoutCounts)
+    }
 }
 
 /// `name=value`.
@@ -56,34 +98,73 @@ fn named(argument: &str) -> (String, String) {
 }
 
 impl Example {
-    /// The services reply as the line says.
-    fn check(mut self, services: Services) {
+    /// The services reply as the line says. Counts that it lacks are the second
+    /// implementation's.
+    fn check(&self, services: Services) {
+        if self.form == WithoutCounts {
+            let [own, second] = [services, SECOND].map(|services| {
+                let whole = Example {
+                    form: Now,
+                    ..self.clone()
+                };
+                whole.answer(services)
+            });
+            assert_eq!(own, second, "{}: with counts", self.name);
+        }
+        let reply = self.clone().answer(services);
+        assert_eq!(reply, self.reply, "{}", self.name);
+    }
+
+    /// The services' reply to the line's call, in the line's form.
+    fn answer(mut self, services: Services) -> String {
         let case = bytes_of(&self.take("case").expect("a case"));
-        let start = bytes_of(&self.take("start").expect("a start file"));
-        let reply = match self.call.as_str() {
-            "saturate" => self.saturate(services, &case),
-            "judge" => self.judge(services, &case, &start),
-            "guide" => self.guide(services, &case, &start),
-            "listing" => in_one_line(&(services.listing)(&case, &start)),
-            "replay" => self.replay(services, &case, &start),
-            "show" => self.show(services, &case, &start),
-            call => panic!("{}: the call {call} is not known", self.name),
+        let start = self.take("start").map(|start| bytes_of(&start));
+        let reply = match (self.call.as_str(), start) {
+            // A start file in the line is not used.
+            ("saturate", _) => self.saturate(services, &case),
+            ("judge", Some(start)) => self.judge(services, &case, &start),
+            ("guide", Some(start)) => self.guide(services, &case, &start),
+            ("listing", Some(start)) => self.listing(services, &case, &start),
+            ("replay", Some(start)) => self.replay(services, &case, &start),
+            ("show", Some(start)) => self.show(services, &case, &start),
+            (call, _) => panic!("{}: no start file, or call {call}", self.name),
         };
         assert!(self.arguments.is_empty(), "{}: not all used", self.name);
-        assert_eq!(reply, self.reply, "{}", self.name);
+        reply
     }
 
     /// The tables that a line lends: words of moves and of entries.
     fn tables(&mut self) -> [Vec<u64>; 2] {
-        let moves = self.number("moves").unwrap_or(LISTING_MOVES);
-        let entries = self.number("entries").unwrap_or(LISTING_ENTRIES);
-        [moves * MOVE_WORDS, entries * ENTRY_WORDS].map(|words| vec![u64::MAX; words])
+        let moves = self.words("move_words", "moves", LISTING_MOVES, MOVE_WORDS);
+        let entries = self.words("entry_words", "entries", LISTING_ENTRIES, ENTRY_WORDS);
+        [moves, entries].map(|words| vec![u64::MAX; words])
     }
 
-    /// Saturate's reply; the line's start file is not used.
+    /// How many words of a table a line lends: so many words, or so many records.
+    fn words(&mut self, words: &str, records: &str, unnamed: usize, record: usize) -> usize {
+        match self.number(words) {
+            Some(words) => words,
+            None => self.number(records).unwrap_or(unnamed) * record,
+        }
+    }
+
+    /// The text of the listing.
+    fn listing(&self, services: Services, case: &[u8], start: &[u8]) -> String {
+        let text = (services.listing)(case, start);
+        match self.form {
+            Now => in_one_line(&text),
+            WithoutCounts => in_one_line(&without_most(&text).0),
+        }
+    }
+
+    /// Saturate's reply.
     fn saturate(&mut self, services: Services, case: &[u8]) -> String {
         let [mut moves, mut entries] = self.tables();
         let (code, move_count, entry_count) = (services.saturate)(case, &mut moves, &mut entries);
+        if self.form == WithoutCounts {
+            let records = entries.chunks(ENTRY_WORDS);
+            entries = records.flat_map(|words| [words[0], words[1]]).collect();
+        }
         format!(
             "code={code} moves={move_count} entries={entry_count} move_words={} entry_words={}",
             list(&moves),

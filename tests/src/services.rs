@@ -1,5 +1,5 @@
 //! The three services and the listing (document 01, "Three services and their
-//! halts"; document 02, §1).
+//! halts"; document 02, §1 and §7).
 
 use crate::automaton::accepting;
 use crate::file::{Case, Refusal, StartFile, decode_case};
@@ -11,7 +11,7 @@ use crate::table::{Size, Table, View};
 
 /// Words of a move and of an entry in lent tables.
 pub const MOVE_WORDS: usize = 5;
-pub const ENTRY_WORDS: usize = 2;
+pub const ENTRY_WORDS: usize = 3;
 
 /// Sixteen-bit words of a lent cell: four fields and a choice for each of 64
 /// states.
@@ -84,11 +84,14 @@ fn write_moves(table: &Table, lent: &mut [u64]) {
     }
 }
 
-/// "An entry table (p, S, a word each)."
+/// "An entry table (p, S, a word each)", with "the count as a third word of the
+/// entry" (document 02, §7).
 fn write_entries(table: &Table, lent: &mut [u64]) {
-    for (entry, words) in table.entries().iter().zip(lent.chunks_mut(ENTRY_WORDS)) {
+    let entries = table.entries().iter().zip(table.move_counts());
+    for ((entry, count), words) in entries.zip(lent.chunks_mut(ENTRY_WORDS)) {
         words[0] = entry.control.into();
         words[1] = entry.set;
+        words[2] = count as u64;
     }
 }
 
@@ -261,7 +264,9 @@ fn listing_lines(case: &[u8], start: &[u8]) -> Result<String, Refusal> {
     };
     let table = saturated_table(&case, lent).ok_or(9u64)?;
     let (moves, entries) = (table.moves().len(), table.entries().len());
-    let mut text = format!("moves {moves} entries {entries}\n");
+    // "`most` and the largest such count, 0 without entries" (document 02, §7).
+    let most = table.move_counts().into_iter().max().unwrap_or(0);
+    let mut text = format!("moves {moves} entries {entries}\nmost {most}\n");
     for (number, round) in (0..).zip(won_by(&table, &file)) {
         let mut trace = [0; LISTING_TRACE];
         let reply = walk_start(&case, &table, &file, number, LISTING_CELLS, &mut trace);

@@ -180,6 +180,16 @@ pub const GATHERED: Shape = Shape {
     ..SMALL
 };
 
+/// The numbers of the pairs that `src/sparse.rs` makes, before parts are left out.
+pub const SPARSE: Shape = Shape {
+    name: "sparse",
+    inner_one: 3,
+    symbols: 4,
+    edges: 3,
+    moves: 5,
+    ..SMALL
+};
+
 /// The numbers of the pairs that `src/rich.rs` makes; their cells are not chosen by
 /// the shape.
 pub const RICH: Shape = Shape {

@@ -114,6 +114,14 @@ impl Table {
         &self.entries
     }
 
+    /// How many moves each entry has: "the count by walking" the table (document
+    /// 02, §7). Moves of inner states are no entry's.
+    pub fn move_counts(&self) -> Vec<usize> {
+        let count = |one: u8| self.moves.iter().filter(|m| m.state == one).count();
+        let states = (self.inner_one..).take(self.entries.len());
+        states.map(count).collect()
+    }
+
     pub fn finals(&self) -> Finals {
         self.finals
     }

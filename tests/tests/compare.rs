@@ -5,7 +5,7 @@
 use second::compare::Both;
 use second::generate::{Pair, pair};
 use second::lent::Lent;
-use second::pairs::{Searched, gathered_pairs, late_pairs, pairs};
+use second::pairs::{Searched, gathered_pairs, late_pairs, pairs, sparse_pairs};
 use second::proved;
 use second::random::{Random, seeds};
 use second::search::Bounds;
@@ -96,16 +96,34 @@ fn gathered_files() {
     assert!(met.yes >= 200 && met.no >= 200);
 }
 
+/// The proved listing is the second implementation's.
+fn same_listings(pair: &Pair, name: &str) {
+    let printed = proved::listing(&pair.case_file, &pair.start_file);
+    let second = listing(&pair.case_file, &pair.start_file);
+    assert_eq!(printed, second, "{name}");
+}
+
 /// Judge and the listing on starts won in many rounds.
 #[test]
 fn late_starts() {
     let mut both = ample();
     for (name, pair) in late_pairs() {
         both.judge(&pair.case_file, &pair.start_file);
-        let printed = proved::listing(&pair.case_file, &pair.start_file);
-        let second = listing(&pair.case_file, &pair.start_file);
-        assert_eq!(printed, second, "{name}");
+        same_listings(&pair, &name);
     }
+}
+
+/// Entries without moves, moves of inner states only, and no entries.
+#[test]
+fn sparse_files() {
+    let mut both = ample();
+    let mut met = Met::default();
+    for (name, pair) in sparse_pairs(500) {
+        met.compare(&mut both, &pair, &name);
+        same_listings(&pair, &name);
+    }
+    println!("{met:?}");
+    assert!(met.yes >= 100 && met.no >= 500);
 }
 
 /// Files near the limits, from a few of their starts.
@@ -139,7 +157,7 @@ fn any_lengths() {
             let mut lent = Lent::new(0, 0, 0, 0);
             let most_moves = random.pick(&[20, 200, 6000]);
             lent.moves.resize(random.between(0, most_moves), 0);
-            lent.entries.resize(random.between(0, 40), 0);
+            lent.entries.resize(random.between(0, 60), 0);
             lent.answers.resize(random.between(0, 6), 0);
             lent.cells.resize(random.between(0, 80 * CELL_WORDS), 0);
             lent.trace.resize(random.between(0, 8), 0);

@@ -4,7 +4,7 @@
 use second::callers::PROVED;
 use second::compare::Both;
 use second::damage::changed;
-use second::data::{Vector, larger_files, vectors, without_rounds};
+use second::data::{Listed, Vector, larger_files, listed, vectors};
 use second::encode::{encode_case, encode_start};
 use second::file::{Case, Cell, FileEntry, Move, Rule, Start, StartFile};
 use second::finished_examples::{COMMON_CELLS, examples};
@@ -24,13 +24,17 @@ use second::won::{EXAMPLE_WORDS, example_case, example_start};
 
 // ---- the files that came with documents 01 and 02
 
-/// The proved listing is this text, which has no rounds, and the services answer
-/// as it says, judge with its rounds, guide from every `step`th start; its brackets
-/// are compared too. Where guide arrives, replay accepts with the cells that it
-/// says, and not with one fewer.
+/// The proved listing is this text, which lacks what document 02 adds, and the
+/// services answer as it says, judge with its rounds, saturate with its largest
+/// count, guide from every `step`th start; its brackets are compared too. Where
+/// guide arrives, replay accepts with the cells that it says, and not with one fewer.
 fn check_listing(both: &mut Both, (case, start): (&[u8], &[u8]), step: usize, text: &str) {
     let printed = proved::listing(case, start);
-    let (without, rounds) = without_rounds(&printed);
+    let Listed {
+        text: without,
+        rounds,
+        most,
+    } = listed(&printed);
     assert_eq!(without, text);
     let refusal = both.judge(case, start);
     if refusal != 0 {
@@ -44,8 +48,10 @@ fn check_listing(both: &mut Both, (case, start): (&[u8], &[u8]), step: usize, te
     let (_, moves, entries) = both.saturate(case);
     let lines: Vec<&str> = printed.lines().collect();
     assert_eq!(lines[0], format!("moves {moves} entries {entries}"));
-    assert_eq!(lines.len(), 1 + starts);
-    for (number, line) in lines[1..].iter().enumerate().step_by(step) {
+    let counts = both.lent.counts(entries as usize);
+    assert_eq!(most, Some(counts.into_iter().max().unwrap_or(0)));
+    assert_eq!(lines.len(), 2 + starts);
+    for (number, line) in lines[2..].iter().enumerate().step_by(step) {
         let reply = both.guide(case, start, number as u64);
         let answer = listing_answer(rounds[number], reply);
         assert_eq!(*line, format!("start {number} {answer}"));
@@ -159,7 +165,7 @@ fn every_larger_file() {
     for file in larger_files() {
         println!("{}", file.name);
         let files = (&file.case[..], &file.start[..]);
-        let second = || without_rounds(&listing(&file.case, &file.start)).0;
+        let second = || listed(&listing(&file.case, &file.start)).text;
         let printed = file.printed.clone().unwrap_or_else(second);
         check_listing(&mut both, files, step, &printed);
     }

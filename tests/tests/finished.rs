@@ -48,6 +48,7 @@ fn model_b_with_254() {
     }
     let printed = "\
 moves 2 entries 2
+most 1
 start 0 yes 1 1 8
 start 1 yes 1 1 8
 ";
@@ -71,7 +72,7 @@ fn model_b_with_255() {
     assert_eq!(words(files.0, files.1, 2), [2, 0]);
     assert_eq!(guided(files, 1, 512, 1024), (NoRun, vec![]));
     assert_eq!(words(&CASE_B, &START_B_LONE, 1), [0]);
-    let printed = "moves 2 entries 2\nstart 0 no\n";
+    let printed = "moves 2 entries 2\nmost 1\nstart 0 no\n";
     assert_eq!(listing(&CASE_B, &START_B_LONE), printed);
     assert_eq!(replayed(files, 1, &[0], 8), Fails { step: 1 });
 }

@@ -48,8 +48,8 @@ fn members() -> Vec<Flat> {
     members
 }
 
-/// Each round adds one move. Every first choice of a rule gives a result, but for
-/// the last push, which has nothing to read.
+/// Each round adds one move, and none to the wide entry. Every first choice of a
+/// rule gives a result, but for the last push, which has nothing to read.
 #[test]
 fn sizes() {
     let large = [
@@ -67,6 +67,7 @@ fn sizes() {
         assert_eq!(table.rounds(), flat.rounds(), "{flat:?}");
         let added = table.moves().len() - case.moves.len();
         assert_eq!(added, flat.rounds(), "{flat:?}");
+        assert_eq!(table.move_counts()[1], flat.wide, "{flat:?}");
         let choices = |rule| first_choices(rule, table.whole()).len();
         let looked_at: usize = case.rules.iter().map(choices).sum();
         assert_eq!(looked_at, flat.results() + 1, "{flat:?}");

@@ -1,5 +1,5 @@
-//! The worked models of document 01, with the rounds of document 02, §1, and the
-//! sentence "At the edges".
+//! The worked models of document 01, with the rounds and counts of document 02, §1
+//! and §7, and the sentence "At the edges".
 
 use second::file::decode_case;
 use second::lent::{Lent, words};
@@ -34,15 +34,17 @@ fn assert_no_run(case: &[u8], start: &[u8], number: u64) {
 }
 
 /// "The table gains entry [0,empty] with (1, order 2 {1}, empty), then [0,{1}]
-/// with (0, empty, empty), then ends." The entry of the file has number 0.
+/// with (0, empty, empty), then ends." The entry of the file has number 0; each of
+/// the three has one move.
 #[test]
 fn model_a_table() {
     let mut lent = Lent::as_listing();
     assert_eq!(lent.saturate(&CASE_A), (0, 3, 3));
-    assert_eq!(lent.entries[..6], [1, 0, 0, 0, 0, 0b10]);
+    let entries = [[1, 0, 1], [0, 0, 1], [0, 0b10, 1]];
+    assert_eq!(lent.entries[..9], *entries.as_flattened());
     let moves = [[0, 1, 0, 0, 0], [1, 1, 2, 0b10, 0], [2, 0, 0, 0, 0]];
     assert_eq!(lent.moves[..15], *moves.as_flattened());
-    assert!(lent.entries[6..].iter().all(|&word| word == 0));
+    assert!(lent.entries[9..].iter().all(|&word| word == 0));
     assert!(lent.moves[15..].iter().all(|&word| word == 0));
 }
 
@@ -85,10 +87,41 @@ fn model_a_with_two_moves_lent() {
     assert!(lent.trace_is_zero_from(0));
 }
 
+/// Eight words hold two entries of three words, and the table has three.
+#[test]
+fn model_a_with_eight_words_for_entries() {
+    let mut lent = Lent::as_listing();
+    lent.entries.truncate(8);
+    assert_eq!(lent.saturate(&CASE_A), (9, 0, 0));
+    assert!(lent.tables_are_zero());
+    assert_eq!(lent.judge(&CASE_A, &START_A), 9);
+    assert!(lent.tables_are_zero() && lent.answers_are_zero());
+    assert_eq!(lent.guide(&CASE_A, &START_A, 0), Refused(9));
+    assert!(lent.tables_are_zero() && lent.cells_are_zero());
+    assert!(lent.trace_is_zero_from(0));
+}
+
+/// Nine words are enough; one or two more are no entry, and stay zero.
+#[test]
+fn model_a_with_enough_words_for_entries() {
+    for words in 9..12 {
+        let mut lent = Lent::as_listing();
+        lent.entries.truncate(words);
+        assert_eq!(lent.saturate(&CASE_A), (0, 3, 3));
+        assert_eq!(lent.entries[..9], [1, 0, 1, 0, 0, 1, 0, 0b10, 1]);
+        assert!(lent.entries[9..].iter().all(|&word| word == 0));
+        assert_eq!(lent.judge(&CASE_A, &START_A), 0);
+        assert_eq!(lent.answers[..3], [3, 1, 0]);
+        let arrived = Arrived { steps: 2, cells: 9 };
+        assert_eq!(lent.guide(&CASE_A, &START_A, 0), arrived);
+    }
+}
+
 #[test]
 fn model_a_listing() {
     let printed = "\
 moves 3 entries 3
+most 1
 start 0 yes 2 2 9
 start 1 yes 0 0 6
 start 2 no
@@ -113,6 +146,19 @@ fn model_b() {
     assert_no_run(&CASE_B, &START_B, 1);
 }
 
+/// The target's entry has its move on symbol 1, and the pop gives [0,empty] one on
+/// symbol 0.
+#[test]
+fn model_b_listing() {
+    let printed = "\
+moves 2 entries 2
+most 1
+start 0 yes 1 1 8
+start 1 no
+";
+    assert_eq!(listing(&CASE_B, &START_B), printed);
+}
+
 /// "[[0]], a file of four cells: yes, rules 0, 1, 8 cells." Round 1 gives [0,{1}]
 /// by the pop, round 2 [0,empty] by the copy.
 #[test]
@@ -126,6 +172,17 @@ fn model_c_with_one_stack() {
 fn model_c_with_two_stacks() {
     assert_eq!(words(&CASE_C, &START_C_TWO, 1), [2]);
     assert_eq!(arrived_trace(&CASE_C, &START_C_TWO, 0, 1, 5), [1]);
+}
+
+/// The entries [1,empty], [0,{1}] and [0,empty] have a move each: all read symbol 0
+/// alone, and every set of theirs is empty.
+#[test]
+fn model_c_listings() {
+    let table = "moves 3 entries 3\nmost 1\n";
+    let printed = format!("{table}start 0 yes 2 2 8\n");
+    assert_eq!(listing(&CASE_C, &START_C_ONE), printed);
+    let printed = format!("{table}start 0 yes 1 1 5\n");
+    assert_eq!(listing(&CASE_C, &START_C_TWO), printed);
 }
 
 /// "64 starts pass, 65 give 5; 256 rules pass, 257 give 1; a cell naming itself

@@ -218,7 +218,7 @@ fn every_length_of_lent_tables() {
             lent.moves = vec![0; words];
             check_lent_tables(&mut lent, &whole, &pair, sizes, &name);
         }
-        for words in 0..=2 * sizes.1 + 3 {
+        for words in 0..=3 * sizes.1 + 4 {
             let mut lent = whole.clone();
             lent.entries = vec![0; words];
             check_lent_tables(&mut lent, &whole, &pair, sizes, &name);
@@ -233,7 +233,7 @@ fn check_lent_tables(
     (moves, entries): (usize, usize),
     name: &str,
 ) {
-    let fits = lent.moves.len() / 5 >= moves && lent.entries.len() / 2 >= entries;
+    let fits = lent.moves.len() / 5 >= moves && lent.entries.len() / 3 >= entries;
     let reply = lent.saturate(&pair.case_file);
     if fits {
         assert_eq!(reply, (0, moves as u64, entries as u64), "{name}");

@@ -34,7 +34,7 @@ fn the_example() {
 /// The lines of [[3]] from control 1, of 8 on 3 and of 9 on 3 above [0]. Each
 /// walk takes the least choices: the last two pop first, one more cell, and then
 /// rewrite 3 by three steps of two cells each. The rounds are not those of the
-/// walks.
+/// walks. Most moves has [0,empty]: one each on 4, 6, 7 and 9, and two on 8.
 #[test]
 fn the_example_in_the_listing() {
     let printed = listing(
@@ -43,9 +43,10 @@ fn the_example_in_the_listing() {
     );
     let lines: Vec<&str> = printed.lines().collect();
     assert_eq!(lines[0], "moves 12 entries 3");
-    assert_eq!(lines[1 + 3], "start 3 yes 3 3 64");
-    assert_eq!(lines[1 + 23], "start 23 yes 2 4 65");
-    assert_eq!(lines[1 + 24], "start 24 yes 1 4 65");
+    assert_eq!(lines[1], "most 6");
+    assert_eq!(lines[2 + 3], "start 3 yes 3 3 64");
+    assert_eq!(lines[2 + 23], "start 23 yes 2 4 65");
+    assert_eq!(lines[2 + 24], "start 24 yes 1 4 65");
 }
 
 /// What the rounds of the example hang on, by its rows. The rest matters for 4

@@ -7,6 +7,7 @@ use mathlib.Core.List.{List, List·Memᴰ}
 use lib.ListN.{length}
 use Rattle.words.specs.Sets.Laws.{All}
 use Rattle.automata.specs.Automaton.{Automaton, Move, Edge, Entry}
+use Rattle.services.specs.Memory.{entryWidth}
 use Rattle.tables.specs.declared.Table.{Table}
 use Rattle.tables.specs.Held.{automatonOf}
 
@@ -23,5 +24,5 @@ pub record AutomatonSmall (A : Automaton) : Type 0 where
 pub record HoldsTable (A : Automaton) (z : Table) (inner entries moves : List ℕ) : Type 0 where
   pub is : automatonOf z inner entries moves ≡ A
   pub edges-lent : z .edges * 3 ≤ length inner
-  pub entries-lent : z .entries * 2 ≤ length entries
+  pub entries-lent : z .entries * entryWidth ≤ length entries
   pub moves-lent : z .moves * 5 ≤ length moves

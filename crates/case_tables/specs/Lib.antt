@@ -1,3 +1,4 @@
 pub mod WrittenRows
 pub mod Decoded
+pub mod Counting
 pub mod Own

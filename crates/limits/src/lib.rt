@@ -89,7 +89,7 @@ impl Limits {
 
     pub const MOVE_WORDS: usize = 5;
 
-    pub const ENTRY_WORDS: usize = 2;
+    pub const ENTRY_WORDS: usize = 3;
 
     pub const EDGE_WORDS: usize = 3;
 
@@ -137,7 +137,8 @@ impl Limits {
         + Limits::STARTS * Limits::START_BYTES
         + Limits::START_CELLS * Limits::CELL_BYTES;
 
-    // ---- what the printing program lends, and the bytes of its text: a line of sizes and a line for each start, each as long as it can be
+    // ---- what the printing program lends, and the bytes of its text: a line of sizes, the line of the largest count and a line for
+    // each start, each as long as it can be
 
     pub const LISTING_CELLS: usize = 512;
 
@@ -145,9 +146,13 @@ impl Limits {
 
     pub const SIZE_LINE: usize = 56;
 
+    pub const MOST_LINE: usize = 26;
+
     pub const START_LINE: usize = 66;
 
-    pub const LISTING_TEXT: usize = Limits::SIZE_LINE + Limits::STARTS * Limits::START_LINE;
+    pub const LISTING_TEXT: usize = Limits::SIZE_LINE
+        + Limits::MOST_LINE
+        + Limits::STARTS * Limits::START_LINE;
 
     // ---- what the program `run` lends beside the moves, entries and cells that count, and the bytes of its text: six for each trace word, a
     // start's line, and what a number may take

@@ -5,6 +5,7 @@ use Prim.Native.Nat.{ℕ, _*_}
 use mathlib.Core.Path.{_≡_}
 use mathlib.Core.Option.{some}
 use mathlib.Core.List.{List}
+use Rattle.services.specs.Memory.{entryWidth}
 use Rattle.services.specs.Saturate.{saturated}
 use Rattle.tables.specs.declared.Table.{Table}
 use Rattle.sound_files.specs.Refusal.{FilesSound}
@@ -16,4 +17,4 @@ use Rattle.guided_start.specs.Tables.{TablesStand}
 pub record TableReady (case start : List ℕ) (z : Table) (inner entries moves : List ℕ) (k : ℕ) (sizes : List ℕ) : Type 0 where
   pub sound : FilesSound case start
   pub tables : TablesStand z inner entries moves k sizes
-  pub table-is : saturated (lentOf case (1024 * 5) (64 * 2)) ≡ some (saturatedIn z inner entries moves k sizes)
+  pub table-is : saturated (lentOf case (1024 * 5) (64 * entryWidth)) ≡ some (saturatedIn z inner entries moves k sizes)

@@ -4,7 +4,7 @@ use native.Mathlib.Omega.{arith}
 use Rattle.tables.specs.Rows.{Layout}
 use Rattle.memo_table.specs.declared.State.{State}
 use Rattle.memo_table.specs.States.{stateWords, stateFrom}
-use Rattle.memo_table.specs.States.Laws.{state-length, state-words, state-back, state-same}
+use Rattle.memo_table.specs.States.Laws.{state-length, state-back, state-same}
 
 abbrev pub stateRow : Layout State
 stateRow =
@@ -14,7 +14,6 @@ stateRow =
       read = stateFrom;
       some-words = omega arith;
       length-words = state-length;
-      words-read = state-words;
       read-words = state-back;
       read-same = state-same;
     }

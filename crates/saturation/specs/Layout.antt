@@ -4,7 +4,7 @@ use native.Mathlib.Omega.{arith}
 use Rattle.automata.specs.Saturation.{Size}
 use Rattle.tables.specs.Rows.{Layout}
 use Rattle.saturation.specs.Sizes.{sizeWords, sizeFrom}
-use Rattle.saturation.specs.Sizes.Laws.{size-length, size-words, size-back, size-same}
+use Rattle.saturation.specs.Sizes.Laws.{size-length, size-back, size-same}
 
 abbrev pub sizeRow : Layout Size
 sizeRow =
@@ -14,7 +14,6 @@ sizeRow =
       read = sizeFrom;
       some-words = omega arith;
       length-words = size-length;
-      words-read = size-words;
       read-words = size-back;
       read-same = size-same;
     }

@@ -1,12 +1,8 @@
 -- What a round finds prepared: the index of the moves, what the table of the round before gives, the memo table.
 -- Assumes nothing.
 pub mod Laws
-use Prim.Native.Nat.{ℕ, _<_}
 use mathlib.Core.List.{List}
-use lib.ListN.{length}
 use Rattle.stacks.specs.System.{Rule}
-use Rattle.automata.specs.Automaton.{Automaton, moveAt}
-use Rattle.automata.specs.Facts.{states}
 use Rattle.automata.specs.Saturation.{results}
 use Rattle.tables.specs.declared.Table.{Table}
 use Rattle.tables.specs.Held.{automatonOf}
@@ -14,10 +10,7 @@ use Rattle.move_index.specs.Keys.{ByState, ByWords}
 use Rattle.readings.specs.Memo.{MemoBefore}
 use Rattle.premises.specs.declared.Before.{Before}
 use Rattle.premises.specs.Before.{tableBefore, SettledBy}
-
--- Every move is one of an order-1 state that exists.
-pub record StatesExist (A : Automaton) : Type 0 where
-  pub exists : (i : ℕ) → i < length (A .moves) → moveAt A i .state < states A
+use Rattle.added_results.specs.Adding.{StatesExist}
 
 -- Before a round: all results of the table of the round before, t, are held, its moves are indexed, and no row of the memo table is of this
 -- round.

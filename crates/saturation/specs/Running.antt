@@ -10,7 +10,7 @@ use lib.ListN.{length}
 use Rattle.stacks.specs.System.{Rule}
 use Rattle.automata.specs.Automaton.{Automaton}
 use Rattle.automata.specs.Saturation.{Size, Saturated, saturate, saturateFrom}
-use Rattle.services.specs.Memory.{lent}
+use Rattle.services.specs.Memory.{lent, entryWidth}
 use Rattle.tables.specs.declared.Table.{Table}
 use Rattle.tables.specs.Rows.{rowsIn}
 use Rattle.tables.specs.Layouts.{entryRow, moveRow}
@@ -26,7 +26,7 @@ unfoldable pub mostMoves : ℕ → ℕ
 mostMoves words = min (words / 5) 1024
 
 unfoldable pub mostEntries : ℕ → ℕ → ℕ
-mostEntries words states = min (words / 2) (64 - states)
+mostEntries words states = min (words / entryWidth) (64 - states)
 
 -- ---- the loop
 

@@ -5,6 +5,7 @@ use Prim.Native.Nat.{ℕ, zero, suc, _+_, _-_, _*_, _/_, _%_}
 use Prim.Native.Char.{code}
 use Prim.Native.String.{String}
 use mathlib.Core.Bool.{true, false}
+use mathlib.Core.Option.{none, some}
 use mathlib.Core.List.{List, [], _∷_, _++_}
 use lib.ListN.{length, getD}
 use lib.Dec.{eqb}
@@ -15,7 +16,8 @@ use Rattle.replies.specs.declared.Halt.the-variants.{Arrived, TraceFull, CellsS
 use Rattle.replies.specs.declared.Reply.{Reply}
 use Rattle.replies.specs.declared.Reply.the-variants.{Refused, NoRun, Walked}
 use Rattle.files.specs.Start.{Files, startsOf}
-use Rattle.services.specs.Saturate.{saturateService}
+use Rattle.services.specs.Memory.{entryWidth, counted, largest}
+use Rattle.services.specs.Saturate.{Lent, saturated, saturateService}
 use Rattle.services.specs.Judge.{JudgeInput, judgeService}
 use Rattle.services.specs.Guide.{GuideInput, guideService, cellWords}
 
@@ -37,8 +39,11 @@ unfoldable pub decimal : ℕ → List ℕ
 decimal n = digitsBefore (suc n) n []
 
 -- "It lends 1,024 moves, 64 entries, 512 cells, 1,024 trace words", and to judge as many answers as a file has starts at most.
+unfoldable pub listingLent : Files → Lent
+listingLent f = record { case = f .case; moves = 1024 * 5; entries = 64 * entryWidth }
+
 unfoldable pub listingJudge : Files → JudgeInput
-listingJudge f = record { case = f .case; start = f .start; moves = 1024 * 5; entries = 64 * 2; answers = 64 }
+listingJudge f = record { case = f .case; start = f .start; moves = 1024 * 5; entries = 64 * entryWidth; answers = 64 }
 
 unfoldable pub listingGuide : Files → ℕ → GuideInput
 listingGuide f n =
@@ -47,7 +52,7 @@ listingGuide f n =
       start = f .start;
       number = n;
       moves = 1024 * 5;
-      entries = 64 * 2;
+      entries = 64 * entryWidth;
       cells = 512 * cellWords;
       trace = 1024;
     }
@@ -55,6 +60,14 @@ listingGuide f n =
 -- `moves 3 entries 3`
 unfoldable pub sizeLine : Saturation → List ℕ
 sizeLine r = ascii "moves " ++ decimal (r .moves) ++ ascii " entries " ++ decimal (r .entries) ++ ascii "\n"
+
+-- the largest number of moves that an entry of the saturated table has
+unfoldable pub largestCount : Lent → ℕ
+largestCount x = elim (saturated x) [ none ↦ 0 | some T ↦ largest (counted (T .table)) ]
+
+-- "The listing gains a line after its first: `most` and the largest such count": `most 1`
+unfoldable pub mostLine : ℕ → List ℕ
+mostLine n = ascii "most " ++ decimal n ++ ascii "\n"
 
 -- "The listing puts the round directly before the steps", behind which the cells stand.
 unfoldable pub countsText : ℕ → Counts → List ℕ
@@ -93,7 +106,8 @@ refusedText n = ascii "refused " ++ decimal n ++ ascii "\n"
 
 unfoldable pub judgedText : Files → List ℕ
 judgedText f =
-    sizeLine (saturateService (record { case = f .case; moves = 1024 * 5; entries = 64 * 2 }) .reply)
+    sizeLine (saturateService (listingLent f) .reply)
+    ++ mostLine (largestCount (listingLent f))
     ++ startLines f 0 (length (startsOf (f .start)))
 
 unfoldable pub listingText : Files → List ℕ

@@ -11,6 +11,7 @@ use Rattle.replies.specs.declared.Counts.{Counts}
 use Rattle.replies.specs.declared.Reply.{Reply}
 use Rattle.replies.specs.declared.Reply.the-variants.{Refused, NoRun, Walked}
 use Rattle.files.specs.Start.{Files}
+use Rattle.services.specs.Memory.{entryWidth}
 use Rattle.services.specs.Guide.{GuideInput, guideService, cellWords}
 use Rattle.services.specs.Listing.{ascii, decimal, replyLine, roundWon, refusedText}
 
@@ -22,7 +23,7 @@ runGuide f n =
       start = f .start;
       number = n;
       moves = 1024 * 5;
-      entries = 64 * 2;
+      entries = 64 * entryWidth;
       cells = 4096 * cellWords;
       trace = 65536;
     }

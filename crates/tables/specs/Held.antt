@@ -6,6 +6,7 @@ use mathlib.Core.Option.{Option, none, some}
 use mathlib.Core.List.{List, [], _++_}
 use lib.ListN.{length}
 use Rattle.automata.specs.Automaton.{Automaton, Edge, Entry, entryEdges, entryControl, entrySet}
+use Rattle.services.specs.Memory.{entryWidth}
 use Rattle.tables.specs.declared.Table.{Table}
 use Rattle.tables.specs.declared.Found.{Found}
 use Rattle.tables.specs.declared.Found.the-variants.{Nothing, At}
@@ -57,7 +58,7 @@ pub record EdgesStand (z : Table) (inner : List ℕ) : Type 0 where
 
 -- The entries are in the slice, and there are at most 64 order-1 states.
 pub record EntriesStand (z : Table) (entries : List ℕ) : Type 0 where
-  pub entries-lent : z .entries * 2 ≤ length entries
+  pub entries-lent : z .entries * entryWidth ≤ length entries
   pub states-few : z .inner1 + z .entries ≤ 64
 
 -- The moves are in the slice.

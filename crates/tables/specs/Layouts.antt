@@ -3,10 +3,10 @@
 use native.Mathlib.Omega.{arith}
 use Rattle.automata.specs.Automaton.{Move, Entry, Edge, choiceKey}
 use Rattle.automata.specs.Derivation.{Result, resultKey}
-use Rattle.services.specs.Memory.{moveWords, entryWords}
+use Rattle.services.specs.Memory.{Counted, moveWords, entryWords, entryWidth}
 use Rattle.tables.specs.Rows.{Layout}
-use Rattle.tables.specs.Records.{moveFrom, entryFrom, edgeFrom, resultFrom}
-use Rattle.tables.specs.Records.Laws.{move-length, move-words, move-back, move-same, entry-length, entry-words, entry-back, entry-same, edge-length, edge-words, edge-back, edge-same, result-length, result-words, result-back, result-same}
+use Rattle.tables.specs.Records.{newWords, moveFrom, entryFrom, countedFrom, edgeFrom, resultFrom}
+use Rattle.tables.specs.Records.Laws.{move-length, move-back, move-same, new-length, entry-back, entry-same, counted-length, counted-back, counted-same, edge-length, edge-back, edge-same, result-length, result-back, result-same}
 
 -- "Five words of 64 bits each, the fields in the order of body 4."
 abbrev pub moveRow : Layout Move
@@ -17,23 +17,34 @@ moveRow =
       read = moveFrom;
       some-words = omega arith;
       length-words = move-length;
-      words-read = move-words;
       read-words = move-back;
       read-same = move-same;
     }
 
--- "(p, S, a word each)"
+-- "(p, S, a word each)": an entry, whatever the third word of its row; written as a new one, which has no moves
 abbrev pub entryRow : Layout Entry
 entryRow =
     record {
-      width = 2;
-      words = entryWords;
+      width = entryWidth;
+      words = newWords;
       read = entryFrom;
       some-words = omega arith;
-      length-words = entry-length;
-      words-read = entry-words;
+      length-words = new-length;
       read-words = entry-back;
       read-same = entry-same;
+    }
+
+-- "Keep the count as a third word of the entry": the whole row
+abbrev pub countedRow : Layout Counted
+countedRow =
+    record {
+      width = entryWidth;
+      words = entryWords;
+      read = countedFrom;
+      some-words = omega arith;
+      length-words = counted-length;
+      read-words = counted-back;
+      read-same = counted-same;
     }
 
 -- (state, order-1 state, S)
@@ -45,7 +56,6 @@ edgeRow =
       read = edgeFrom;
       some-words = omega arith;
       length-words = edge-length;
-      words-read = edge-words;
       read-words = edge-back;
       read-same = edge-same;
     }
@@ -59,7 +69,6 @@ resultRow =
       read = resultFrom;
       some-words = omega arith;
       length-words = result-length;
-      words-read = result-words;
       read-words = result-back;
       read-same = result-same;
     }

@@ -2,8 +2,10 @@
 -- Assumes nothing.
 pub mod Laws
 use Prim.Native.Nat.{ℕ}
+use mathlib.Core.List.{List}
 use Rattle.automata.specs.Automaton.{Move, Entry, Edge}
 use Rattle.automata.specs.Derivation.{Result}
+use Rattle.services.specs.Memory.{Counted, entryWords}
 use Rattle.tables.specs.declared.Move.{Move as MoveWords}
 use Rattle.tables.specs.declared.Entry.{Entry as EntryWords}
 use Rattle.tables.specs.declared.Edge.{Edge as EdgeWords}
@@ -30,6 +32,14 @@ moveFrom f = record { state = f 0; symbol = f 1; order = f 2; B = f 3; R = f 4 }
 
 abbrev pub entryFrom : (ℕ → ℕ) → Entry
 entryFrom f = record { control = f 0; S = f 1 }
+
+-- the row of an entry that has no moves yet
+unfoldable pub newWords : Entry → List ℕ
+newWords e = entryWords (record { entry = e; moves = 0 })
+
+-- the same row with the number of the entry's moves
+abbrev pub countedFrom : (ℕ → ℕ) → Counted
+countedFrom f = record { entry = entryFrom f; moves = f 2 }
 
 abbrev pub edgeFrom : (ℕ → ℕ) → Edge
 edgeFrom f = record { state = f 0; first = f 1; S = f 2 }

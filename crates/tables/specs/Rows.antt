@@ -19,9 +19,12 @@ pub record Layout (A : Type 0) : Type 0 where
   pub read : (ℕ → ℕ) → A
   pub some-words : 0 < width
   pub length-words : (a : A) → length (words a) ≡ width
-  pub words-read : (f : ℕ → ℕ) → words (read f) ≡ firstOf width f
   pub read-words : (a : A) → read (λ j. getD (words a) j 0) ≡ a
   pub read-same : (f g : ℕ → ℕ) → ((j : ℕ) → j < width → f j ≡ g j) → read f ≡ read g
+
+-- The record tells every word of its row.
+pub record Exact {A : Type 0} (L : Layout A) : Type 0 where
+  pub words-read : (f : ℕ → ℕ) → L .words (L .read f) ≡ firstOf (L .width) f
 
 module _ {A : Type 0} (L : Layout A) where
   -- the record in row i

@@ -1,19 +1,21 @@
-// Tables of records in slices of words: moves (five words each), entries (two), inner edges (three) and the results of a round (six).
+// Tables of records in slices of words: moves (five words each), entries (three), inner edges (three) and the results of a round (six).
 // Nothing else touches the words of a table.
 ghost use mathlib.Core.Path.{_≡_};
-ghost use Prim.Native.Nat.{_<_, _≤_, _+_, _-_, _*_};
+ghost use Prim.Native.Nat.{_<_, _≤_, _+_, _-_, _*_, _^_};
 ghost use lib.ListN.{length, getD, drop};
 ghost use lib.Seq.{paste};
 ghost use mathlib.Core.List.{[]};
 ghost use Rattle.words.specs.Order.{less};
 ghost use Rattle.automata.specs.Automaton.{noEdge, noMove, entryAt, entryOf, entrySet};
 ghost use Rattle.automata.specs.Saturation.{isEntry, entryNumber};
+ghost use Rattle.services.specs.Memory.{entryWidth};
 ghost use Rattle.tables.specs.Rows.{rowAt, rowsIn, putRow};
 ghost use Rattle.tables.specs.Held.{tableOf, edgesIn, foundEntry, entryFor, EdgesStand, EntriesStand, MovesStand};
 ghost use Rattle.tables.specs.Insertion.{rowWords, wordRows, leading, reached, withRow, insertedIn, Inserted};
 ghost use Rattle.tables.specs.Pending.{pendingIn, insertWithin};
 ghost use Rattle.tables.specs.Records.{asMove, asEntry, asEdge, asResult};
-ghost use Rattle.tables.specs.Layouts.{moveRow, entryRow, edgeRow, resultRow};
+ghost use Rattle.tables.specs.Layouts.{moveRow, entryRow, countedRow, edgeRow, resultRow};
+ghost use Rattle.tables.specs.Counts.{raised};
 use limits::Limits;
 
 // A move of an order-1 state.
@@ -89,7 +91,7 @@ pub fn put_move(t: &mut [u64], i: usize, m: Move)
 
 // The entry in row i.
 pub fn entry_at(t: &[u64], i: usize) -> Entry
-    requires { ⌜ i * 2 + 2 ≤ length (now t) ⌝ }
+    requires { ⌜ i * entryWidth + entryWidth ≤ length (now t) ⌝ }
     ensures { λ e. ⌜ asEntry e ≡ rowAt entryRow (now (t .entry)) i ⌝ }
 {
     let at = i * Limits::ENTRY_WORDS;
@@ -99,14 +101,32 @@ pub fn entry_at(t: &[u64], i: usize) -> Entry
     }
 }
 
-// Writes an entry into row i.
+// Writes an entry, which has no moves yet, into row i.
 pub fn put_entry(t: &mut [u64], i: usize, e: Entry)
-    requires { ⌜ i * 2 + 2 ≤ length (now t) ⌝ }
+    requires { ⌜ i * entryWidth + entryWidth ≤ length (now t) ⌝ }
     ensures { λ _. ⌜ now (t .exit) ≡ putRow entryRow (now (t .entry)) i (asEntry e) ⌝ }
 {
     let at = i * Limits::ENTRY_WORDS;
     t[at] = e.control;
     t[at + 1] = e.s;
+    t[at + 2] = 0;
+}
+
+// The number of moves of the entry in row i.
+pub fn count_at(t: &[u64], i: usize) -> u64
+    requires { ⌜ i * entryWidth + entryWidth ≤ length (now t) ⌝ }
+    ensures { λ n. ⌜ n ≡ rowAt countedRow (now (t .entry)) i .moves ⌝ }
+{
+    t[i * Limits::ENTRY_WORDS + 2]
+}
+
+// Raises the number of moves of the entry in row i by one.
+pub fn raise_count(t: &mut [u64], i: usize)
+    requires { ⌜ (i * entryWidth + entryWidth ≤ length (now t)) × (rowAt countedRow (now t) i .moves + 1 < 2 ^ 64) ⌝ }
+    ensures { λ _. ⌜ now (t .exit) ≡ raised (now (t .entry)) i ⌝ }
+{
+    let at = i * Limits::ENTRY_WORDS + 2;
+    t[at] += 1;
 }
 
 // The edge in row i.
@@ -150,7 +170,7 @@ fn same_entry(x: Entry, y: Entry) -> bool
 
 // The number of an entry among the first n, or n where it is not there.
 pub fn entry_number(t: &[u64], n: usize, e: Entry) -> usize
-    requires { ⌜ n * 2 ≤ length (now t) ⌝ }
+    requires { ⌜ n * entryWidth ≤ length (now t) ⌝ }
     ensures { λ r. ⌜ r ≡ entryNumber (e .control) (e .s) (rowsIn entryRow n (now (t .entry))) ⌝ }
 {
     let mut i: usize = 0;

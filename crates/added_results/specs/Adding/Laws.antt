@@ -2,9 +2,9 @@
 -- Assumes nothing.
 use Prim.Native.Nat.{ℕ, suc, _+_, _*_, _≤_, _<_, max}
 use mathlib.Core.Bool.{Bool, true, false, true≢false, false≢true}
-use mathlib.Core.Path.{_≡_, refl, ap, ap₂, sym, _∙_, subst}
+use mathlib.Core.Path.{_≡_, refl, ap, ap₂, sym, _∙_, subst, subst₂}
 use mathlib.Core.List.{List, [], _∷_, _++_}
-use native.Mathlib.Nat.{max-eq-left, max-eq-right, max-le, add-zero}
+use native.Mathlib.Nat.{max-eq-left, max-eq-right, max-le, le-max-right, add-zero}
 use native.Mathlib.Omega.{arith}
 use native.Mathlib.Numerals.{add-one}
 use lib.ListN.{length, getD, take, drop, length-append, take-append-drop}
@@ -16,13 +16,17 @@ use Rattle.words.specs.Lists.Laws.{getElem?-some}
 use Rattle.automata.specs.Facts.Laws.{entries-grow}
 use Rattle.rounds.specs.Added.{addAll-extends}
 use Rattle.rounds.specs.Entries.{EntryPlaced, placed}
+use Rattle.services.specs.Memory.{entryWidth}
 use Rattle.tables.specs.declared.Table.{Table}
 use Rattle.tables.specs.Rows.{rowAt, rowsIn, putRow}
 use Rattle.tables.specs.Rows.Laws.{length-rowsIn, getD-rowsIn, length-putRow, put-more}
-use Rattle.tables.specs.Layouts.{entryRow, moveRow, edgeRow, resultRow}
+use Rattle.tables.specs.Layouts.{entryRow, countedRow, moveRow, edgeRow, resultRow}
 use Rattle.tables.specs.Held.{automatonOf}
+use Rattle.tables.specs.Counts.{raised, CountsAre, CountsStand}
+use Rattle.tables.specs.Counts.Laws.{length-raised, raised-entries, filled-raised, counts-raised, count-bound, counts-new}
 use Rattle.tables.specs.Laws.Filled.{Filled, filled-put}
-use Rattle.added_results.specs.Adding.{Entered, Growing, Grows, Added}
+use Rattle.added_results.specs.Adding.{Entered, Growing, StatesExist, Grows, Added}
+use Rattle.added_results.specs.Adding.Exist.{addAll-exist, none-past}
 
 -- ---- one entry
 
@@ -53,6 +57,8 @@ module _ (t : List ℕ) (n most : ℕ) (e : Entry) (i : ℕ) (q : i ≡ entryNum
         within = omega arith;
         over = λ l. absurd (omega arith);
         filled = λ l f. subst (λ (j : ℕ). Filled entryRow j t) (sym m) f;
+        counts = λ l J ms none c. subst (λ (j : ℕ). CountsAre J j t ms) (sym m) c;
+        kept = λ l. refl;
         long = refl;
       }
 
@@ -69,10 +75,12 @@ module _ (t : List ℕ) (n most : ℕ) (e : Entry) (i : ℕ) (q : i ≡ entryNum
         within = omega arith;
         over = λ z. omega arith;
         filled = λ z f. absurd (omega arith);
+        counts = λ z J ms none c. absurd (omega arith);
+        kept = λ z. refl;
         long = refl;
       }
 
-  pub entered-new : (t′ : List ℕ) → n ≤ i → i < most → most * 2 ≤ length t → t′ ≡ putRow entryRow t i e → Entered t n most e i t′
+  pub entered-new : (t′ : List ℕ) → n ≤ i → i < most → most * entryWidth ≤ length t → t′ ≡ putRow entryRow t i e → Entered t n most e i t′
   entered-new t′ h l r f =
       let len : length (rowsIn entryRow n t) ≡ n = length-rowsIn entryRow n t in
       let k : Known (e .control) (e .S) (rowsIn entryRow n t) i = known (e .control) (e .S) (rowsIn entryRow n t) i q in
@@ -86,6 +94,8 @@ module _ (t : List ℕ) (n most : ℕ) (e : Entry) (i : ℕ) (q : i ≡ entryNum
         within = omega arith;
         over = λ z. absurd (omega arith);
         filled = λ z g. rw (m, put) (filled-put entryRow n t e g);
+        counts = λ z J ms none c. subst₂ (λ (j : ℕ) (u : List ℕ). CountsAre J j u ms) (sym m) (sym put) (counts-new J n t ms c e (omega arith) none);
+        kept = λ z. absurd (omega arith);
         long = ap length f ∙ length-putRow entryRow t i e;
       }
 
@@ -112,19 +122,59 @@ module _ (z : Table) (most : ℕ) (entries moves : List ℕ) (x : Result) (i : �
         moves-long = refl;
       }
 
-  module _ (n : ℕ) (moves′ : List ℕ) (l : i < most) (en : n ≡ max (z .entries) (i + 1)) (room : z .moves * 5 + 5 ≤ length moves)
-      (em : moves′ ≡ putRow moveRow moves (z .moves) (lastMove z i x)) where
+  pub counts-over : most ≤ i → CountsStand z entries moves → CountsStand z entries′ moves
+  counts-over l c = subst (λ (t : List ℕ). CountsStand z t moves) (sym (h .kept l)) c
+
+  -- there is room for the row of the entry
+  pub row-there : i < most → most * entryWidth ≤ length entries → i * entryWidth + entryWidth ≤ length entries′
+  row-there l lent = let long : length entries′ ≡ length entries = h .long in omega arith
+
+  -- the entries with this one
+  counts-entered : i < most → StatesExist (automatonOf z [] entries moves) → CountsStand z entries moves
+      → CountsAre (z .inner1) (max (z .entries) (i + 1)) entries′ (rowsIn moveRow (z .moves) moves)
+  counts-entered l s c =
+      let len : length (rowsIn entryRow (z .entries) entries) ≡ z .entries = length-rowsIn entryRow (z .entries) entries in
+      h .counts l (z .inner1) (rowsIn moveRow (z .moves) moves) (none-past (automatonOf z [] entries moves) (z .inner1 + z .entries) s (omega arith)) c
+
+  -- and the count of this one can be raised
+  pub count-small : i < most → StatesExist (automatonOf z [] entries moves) → CountsStand z entries moves → rowAt countedRow entries′ i .moves ≤ z .moves
+  count-small l s c =
+      let above : i + 1 ≤ max (z .entries) (i + 1) = le-max-right (z .entries) (i + 1) in
+      subst (λ (k : ℕ). rowAt countedRow entries′ i .moves ≤ k) (length-rowsIn moveRow (z .moves) moves)
+      (count-bound (z .inner1) (max (z .entries) (i + 1)) entries′ (rowsIn moveRow (z .moves) moves) (counts-entered l s c) i (omega arith))
+
+  module _ (n : ℕ) (entries″ moves′ : List ℕ) (l : i < most) (en : n ≡ max (z .entries) (i + 1)) (lent : most * entryWidth ≤ length entries)
+      (er : entries″ ≡ raised entries′ i) (room : z .moves * 5 + 5 ≤ length moves) (em : moves′ ≡ putRow moveRow moves (z .moves) (lastMove z i x)) where
+    moves-more : rowsIn moveRow (z .moves + 1) moves′ ≡ rowsIn moveRow (z .moves) moves ++ (lastMove z i x ∷ [])
+    moves-more = ap (rowsIn moveRow (z .moves + 1)) em ∙ put-more moveRow (z .moves) moves (lastMove z i x) room
+
     moves-are : rowsIn moveRow (z .moves + 1) moves′
         ≡ rowsIn moveRow (z .moves) moves ++ (lastMove z (entryNumber (x .control) (x .S) (rowsIn entryRow (z .entries) entries)) x ∷ [])
     moves-are =
-        ap (rowsIn moveRow (z .moves + 1)) em
-        ∙ put-more moveRow (z .moves) moves (lastMove z i x) room
+        moves-more
         ∙ ap (λ (j : ℕ). rowsIn moveRow (z .moves) moves ++ (lastMove z j x ∷ [])) (h .number)
 
-    entries-are : rowsIn entryRow n entries′ ≡ withEntry (x .control) (x .S) (rowsIn entryRow (z .entries) entries)
-    entries-are = ap (λ (j : ℕ). rowsIn entryRow j entries′) en ∙ h .rows l
+    entries-are : rowsIn entryRow n entries″ ≡ withEntry (x .control) (x .S) (rowsIn entryRow (z .entries) entries)
+    entries-are =
+        ap (rowsIn entryRow n) er
+        ∙ raised-entries entries′ i (row-there l lent) n
+        ∙ ap (λ (j : ℕ). rowsIn entryRow j entries′) en
+        ∙ h .rows l
 
-    grown : (inner : List ℕ) → automatonOf (grownTo z n) inner entries′ moves′ ≡ addAll (automatonOf z inner entries moves) (x ∷ [])
+    entries-long : length entries″ ≡ length entries
+    entries-long = ap length er ∙ length-raised entries′ i (row-there l lent) ∙ h .long
+
+    named : i < n
+    named = let above : i + 1 ≤ max (z .entries) (i + 1) = le-max-right (z .entries) (i + 1) in omega arith
+
+    -- one count is raised
+    pub counts-one : StatesExist (automatonOf z [] entries moves) → CountsStand z entries moves → CountsStand (grownTo z n) entries″ moves′
+    counts-one s c =
+        subst₂ (λ (t : List ℕ) (ms : List Move). CountsAre (z .inner1) n t ms) (sym er) (sym moves-more)
+        (counts-raised entries′ i (row-there l lent) (z .inner1) n (rowsIn moveRow (z .moves) moves) (lastMove z i x)
+        (subst (λ (j : ℕ). CountsAre (z .inner1) j entries′ (rowsIn moveRow (z .moves) moves)) (sym en) (counts-entered l s c)) refl)
+
+    grown : (inner : List ℕ) → automatonOf (grownTo z n) inner entries″ moves′ ≡ addAll (automatonOf z inner entries moves) (x ∷ [])
     unfolding addAll add
     grown inner = λ k.
         record {
@@ -136,7 +186,7 @@ module _ (z : Table) (most : ℕ) (entries moves : List ℕ) (x : Result) (i : �
           moves = moves-are k;
         }
 
-    pub added-one : Added z most entries moves (x ∷ []) true (grownTo z n) entries′ moves′
+    pub added-one : Added z most entries moves (x ∷ []) true (grownTo z n) entries″ moves′
     added-one =
         let w : i ≤ z .entries = h .within in
         let b : max (z .entries) (i + 1) ≤ most = max-le few (omega arith) in
@@ -147,14 +197,16 @@ module _ (z : Table) (most : ℕ) (entries moves : List ℕ) (x : Result) (i : �
                 same-edges = refl;
                 table-is = grown;
                 moves-more = refl;
-                entries-filled = λ f. subst (λ (j : ℕ). Filled entryRow j entries′) (sym en) (h .filled l f);
+                entries-filled = λ f.
+                    subst (Filled entryRow n) (sym er)
+                    (filled-raised entries′ i (row-there l lent) n named (subst (λ (j : ℕ). Filled entryRow j entries′) (sym en) (h .filled l f)));
                 moves-filled = λ f. subst (Filled moveRow (z .moves + 1)) (sym em) (filled-put moveRow (z .moves) moves (lastMove z i x) f);
-                entries-long = h .long;
+                entries-long = entries-long;
                 moves-long = ap length em ∙ length-putRow moveRow moves (z .moves) (lastMove z i x);
               };
           within = λ e. subst (λ (j : ℕ). j ≤ most) (sym en) b;
           over = λ e inner. absurd (true≢false e);
-          entries-long = h .long;
+          entries-long = entries-long;
           moves-long = ap length em ∙ length-putRow moveRow moves (z .moves) (lastMove z i x);
         }
 
@@ -265,11 +317,15 @@ module _ (z : Table) (most : ℕ) (entries moves : List ℕ) (n : ℕ) (pending 
     (h : AddedUpTo z most entries moves (rowsIn resultRow n pending) i z₁ e₁ m₁) where
   pub still-growing : Growing z most entries → Growing z₁ most e₁
   still-growing g =
-      let a : most * 2 ≤ length entries = g .entries-lent in
+      let a : most * entryWidth ≤ length entries = g .entries-lent in
       let b : length e₁ ≡ length entries = h .grows .entries-long in
       let c : z .inner1 + most ≤ 64 = g .states-few in
       let d : z₁ .inner1 ≡ z .inner1 = h .grows .same-states in
       record { entries-few = h .few; entries-lent = omega arith; states-few = omega arith }
+
+  pub still-exist : StatesExist (automatonOf z [] entries moves) → StatesExist (automatonOf z₁ [] e₁ m₁)
+  still-exist s =
+      subst StatesExist (sym (h .grows .table-is [])) (addAll-exist (automatonOf z [] entries moves) (take i (rowsIn resultRow n pending)) s)
 
   pub still-room : i < n → (z .moves + n) * 5 ≤ length moves → z₁ .moves * 5 + 5 ≤ length m₁
   still-room b g =

@@ -28,6 +28,7 @@ use Rattle.tables.specs.Rows.Laws.{length-rowsIn}
 use Rattle.tables.specs.Layouts.{edgeRow, entryRow, moveRow}
 use Rattle.tables.specs.Insertion.{Inserted}
 use Rattle.case_tables.specs.WrittenRows.{written}
+use Rattle.tables.specs.Laws.Exact.{edge-exact}
 use Rattle.case_tables.specs.WrittenRows.Laws.{written-append, written-more, written-whole}
 use Rattle.case_file.specs.Laws.Bodies.{entries-append}
 use Rattle.case_tables.specs.Decoded.{innerEdge, withInner, MoreInner, edgesFrom, InnerFrom}
@@ -189,7 +190,7 @@ inner-all h b t₀ t n i k p z l =
     let all : rowsIn edgeRow k t ≡ innerEdges h (map edgeBytes (records n 4 b)) =
     p .rows ∙ ap (λ (j : ℕ). innerEdges h (edgesFrom b n j)) zero-left ∙ ap (λ (l : List (List ℕ)). innerEdges h (map edgeBytes l)) (from-first n 4 b) in
     let count : k ≡ length (innerEdges h (map edgeBytes (records n 4 b))) = sym (length-rowsIn edgeRow k t) ∙ ap length all in (
-      written-whole edgeRow t₀ t (innerEdges h (map edgeBytes (records n 4 b)))
+      written-whole edgeRow edge-exact t₀ t (innerEdges h (map edgeBytes (records n 4 b)))
           (omega arith)
           (p .long)
           (ap (λ (j : ℕ). rowsIn edgeRow j t) (sym count) ∙ all)

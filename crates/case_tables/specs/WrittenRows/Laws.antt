@@ -8,7 +8,7 @@ use native.Mathlib.Nat.{add-zero, add-suc, suc-add, zero-add, suc-mul, mul-le-mu
 use native.Mathlib.Numerals.{add-one}
 use native.Mathlib.Omega.{arith}
 use Rattle.words.specs.Lists.{each}
-use Rattle.tables.specs.Rows.{Layout, firstOf, rowsIn, putRow}
+use Rattle.tables.specs.Rows.{Layout, Exact, firstOf, rowsIn, putRow}
 use Rattle.tables.specs.Rows.Laws.{length-putRow, drop-putRow, put-more, rowsIn-whole}
 use Rattle.case_tables.specs.WrittenRows.{written}
 
@@ -55,12 +55,12 @@ module _ {A : Type 0} (L : Layout A) where
   rows-written t l h = rw zero-add at (rows-from t 0 l (rw zero-add h))
 
   -- A table with these records in its first rows, and as it was behind them, is the one that was written.
-  pub written-whole : (t t′ : List ℕ) (l : List A) → length l * L .width ≤ length t → length t′ ≡ length t → rowsIn L (length l) t′ ≡ l
+  pub written-whole : Exact L → (t t′ : List ℕ) (l : List A) → length l * L .width ≤ length t → length t′ ≡ length t → rowsIn L (length l) t′ ≡ l
       → drop (length l * L .width) t′ ≡ drop (length l * L .width) t → t′ ≡ written L t 0 l
-  written-whole t t′ l h e r d =
+  written-whole x t t′ l h e r d =
       let n : ℕ = length l in
-      rowsIn-whole L n t′ (omega arith)
-      ∙ ap₂ (λ (x : List A) (y : List ℕ). each x (L .words) ++ y)
+      rowsIn-whole L x n t′ (omega arith)
+      ∙ ap₂ (λ (xs : List A) (ws : List ℕ). each xs (L .words) ++ ws)
       (r ∙ sym (rows-written t l h))
       (d ∙ sym (drop-written t 0 l n (omega arith)))
-      ∙ sym (rowsIn-whole L n (written L t 0 l) (rw length-written h))
+      ∙ sym (rowsIn-whole L x n (written L t 0 l) (rw length-written h))

@@ -19,7 +19,7 @@ use Rattle.automata.specs.Saturation.{Size, Saturated, within}
 use Rattle.rounds.specs.Limits.{KeepsLimits, within-keeps, keeps-within, saturate-some, held-table}
 use Rattle.walks.specs.Guide.{Walk, arrived, to, next, walkAfter, traceAfter}
 use Rattle.files.specs.Case.{caseRefusal, ownOf, rulesOf}
-use Rattle.services.specs.Memory.{lent}
+use Rattle.services.specs.Memory.{lent, entryWidth}
 use Rattle.services.specs.Saturate.{Lent, saturated}
 use Rattle.guidance.specs.Halt.{Reason, arrival, trace-full, cells-short, cellsOfSteps}
 use Rattle.guidance.specs.Run.{trace-short, run-first, run-trace, run-join, run-split, trace-take, run-cells-used, walkAfter-to}
@@ -50,11 +50,11 @@ saturated-is x {T} e =
 -- It is the saturated table of a sound case.
 pub full-saturated : (case : List ℕ) {T : Saturated} → caseRefusal case ≡ 0 → saturatedTable case ≡ some T → SaturatedTable case (T .table)
 unfolding saturated saturatedTable lent
-full-saturated case sound e = saturated-table (record { case = case; moves = 5120; entries = 128 }) sound e
+full-saturated case sound e = saturated-table (record { case = case; moves = 5120; entries = 64 * entryWidth }) sound e
 
--- Tables of 5,120 and 128 words, 1,024 moves and 64 entries, are enough: with them and with longer ones a case is refused for size exactly
+-- Tables of 1,024 moves and 64 entries are enough: with them and with longer ones a case is refused for size exactly
 -- if its saturated table has more than 1,024 moves or 64 order-1 states.
-pub enough-lent : (x : Lent) → 5120 ≤ x .moves → 128 ≤ x .entries → saturated x ≡ saturatedTable (x .case)
+pub enough-lent : (x : Lent) → 5120 ≤ x .moves → 64 * entryWidth ≤ x .entries → saturated x ≡ saturatedTable (x .case)
 unfolding saturated saturatedTable lent
 enough-lent x h k =
     by-option (saturatedTable (x .case))

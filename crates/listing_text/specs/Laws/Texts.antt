@@ -15,6 +15,7 @@ use Rattle.replies.specs.declared.Saturation.{Saturation}
 use Rattle.replies.specs.declared.Reply.{Reply}
 use Rattle.replies.specs.Numbers.{answerWord}
 use Rattle.files.specs.Start.{Files, startsOf, startAt}
+use Rattle.services.specs.Memory.{entryWidth}
 use Rattle.services.specs.Saturate.{saturated, saturateFilled, saturateService}
 use Rattle.services.specs.Judge.{judgeLent, judgeLeft, judgeService}
 use Rattle.services.specs.Guide.{guideLent, guideRun, guideLeft, cellWords}
@@ -63,7 +64,7 @@ module _ (case start : List ℕ) where
       let e : n ≡ refusedBefore case start 64 8 0 = by-files case start 64 8 0 is h in
       sym (text-refused files n (ap (λ d. d .code) (judge.answers-refused (listingJudge files) (λ z. h (e ∙ z))) ∙ sym e) h)
 
-  pub listing-exceeded : FilesSound case start → saturated (lentOf case (1024 * 5) (64 * 2)) ≡ none → refusedText 9 ≡ listingText files
+  pub listing-exceeded : FilesSound case start → saturated (lentOf case (1024 * 5) (64 * entryWidth)) ≡ none → refusedText 9 ≡ listingText files
   unfolding listingJudge judgeLeft judgeLent
   listing-exceeded s h =
       sym (text-refused files 9 (ap (λ d. d .code) (judge.answers-exceeded (listingJudge files) s (starts-few s) h)) (omega arith))
@@ -73,10 +74,10 @@ module _ (case start : List ℕ) where
     T = saturatedIn z inner entries moves k sizes
 
     -- the reply of saturate, whose code the line does not show
-    sizes-are : saturateService (lentOf case (1024 * 5) (64 * 2)) .reply ≡ record { code = 0; moves = z .moves; entries = z .entries }
+    sizes-are : saturateService (lentOf case (1024 * 5) (64 * entryWidth)) .reply ≡ record { code = 0; moves = z .moves; entries = z .entries }
     unfolding saturateFilled
     sizes-are =
-        ap (λ d. d .reply) (sym (done-filled (lentOf case (1024 * 5) (64 * 2)) T (prepared .sound .sound-case) (prepared .table-is)))
+        ap (λ d. d .reply) (sym (done-filled (lentOf case (1024 * 5) (64 * entryWidth)) T (prepared .sound .sound-case) (prepared .table-is)))
         ∙ (λ i. record { code = 0; moves = length-rowsIn moveRow (z .moves) moves i; entries = length-rowsIn entryRow (z .entries) entries i })
 
     pub listing-judged : sizeLine (record { code = 0; moves = z .moves; entries = z .entries }) ++ startLines files 0 (length (startsOf start))
@@ -105,6 +106,6 @@ module _ (case start : List ℕ) where
     line-guided n m e h round is =
         ap₂ (replyLine n) round
         (is
-        ∙ ap (λ o. o .reply) (run-tables case start n m (1024 * 5) e (64 * 2) (512 * 68) 1024 T)
+        ∙ ap (λ o. o .reply) (run-tables case start n m (1024 * 5) e (64 * entryWidth) (512 * 68) 1024 T)
         ∙ sym (ap (λ d. d .reply) (answers-guided (listingGuide files n) (prepared .sound) h (prepared .table-is))))
         ∙ sym (startLine-is files n)

@@ -6,6 +6,7 @@ use mathlib.Core.Path.{_≡_}
 use mathlib.Core.List.{List}
 use native.Mathlib.Omega.{arith}
 use lib.ListN.{length}
+use Rattle.services.specs.Memory.{entryWidth}
 use Rattle.tables.specs.declared.Table.{Table}
 use Rattle.saturate.specs.Case.{CaseSaturated}
 use Rattle.sound_files.specs.Refusal.{FilesSound}
@@ -15,6 +16,6 @@ use Rattle.listing_text.specs.Prepared.{TableReady}
 
 -- the tables of a case that fits
 pub prepared : {case start : List ℕ} {fits : Bool} {z : Table} {k : ℕ} {inner entries moves sizes : List ℕ} → FilesSound case start
-    → CaseSaturated case (1024 * 5) (64 * 2) fits z k inner entries moves sizes → fits ≡ true → length inner ≡ 192 → length sizes ≡ 2050
+    → CaseSaturated case (1024 * 5) (64 * entryWidth) fits z k inner entries moves sizes → fits ≡ true → length inner ≡ 192 → length sizes ≡ 2050
     → TableReady case start z inner entries moves k sizes
 prepared s C f i l = record { sound = s; tables = tables-stand C (s .sound-case) f i (omega arith); table-is = table-there C f }

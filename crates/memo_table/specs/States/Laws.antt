@@ -12,17 +12,12 @@ use borrow.Author.Tests.{eq-eqb}
 use Rattle.words.specs.Laws.Tests.{by-test}
 use Rattle.words.specs.Order.{same}
 use Rattle.words.specs.Order.Laws.{same-eq, differs-same}
-use Rattle.tables.specs.Rows.{firstOf}
 use Rattle.memo_table.specs.declared.State.{State}
 use Rattle.memo_table.specs.States.{stateWords, stateFrom}
 
 pub state-length : (x : State) → length (stateWords x) ≡ 9
 unfolding stateWords
 state-length x = refl
-
-pub state-words : (f : ℕ → ℕ) → stateWords (stateFrom f) ≡ firstOf 9 f
-unfolding stateWords firstOf
-state-words f = refl
 
 pub state-back : (x : State) → stateFrom (λ j. getD (stateWords x) j 0) ≡ x
 unfolding stateWords

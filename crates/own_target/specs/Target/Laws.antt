@@ -18,6 +18,7 @@ use Rattle.files.specs.Bytes.{countOf}
 use Rattle.files.specs.Case.{head, edgeRecords, ownOf, caseRefusal}
 use Rattle.files.specs.Case.Laws.{case-placed, case-head, case-bounds, case-table, case-moves-few, case-states-few}
 use Rattle.files.specs.Case.Records.{inner-out}
+use Rattle.services.specs.Memory.{entryWidth}
 use Rattle.tables.specs.declared.Table.{Table}
 use Rattle.tables.specs.Rows.Laws.{length-rowsIn}
 use Rattle.tables.specs.Layouts.{edgeRow, entryRow, moveRow}
@@ -38,7 +39,7 @@ use Rattle.own_target.specs.Target.{configurationIn}
 
 module _ (file : List ℕ) (sound : caseRefusal file ≡ 0) where
   -- tables of these lengths have room for it
-  pub own-room : (inner entries moves : List ℕ) → 192 ≤ length inner → 128 ≤ length entries → 5120 ≤ length moves → RoomForOwn file inner entries moves
+  pub own-room : (inner entries moves : List ℕ) → 192 ≤ length inner → 64 * entryWidth ≤ length entries → 5120 ≤ length moves → RoomForOwn file inner entries moves
   own-room inner entries moves hi he hm =
       let edges : countOf file 2 ≤ 64 = case-placed file sound .edges-count in
       let states : ownOf file .J + length (ownOf file .entries) ≤ 64 = case-states-few file sound in
@@ -76,7 +77,7 @@ module _ (file : List ℕ) (sound : caseRefusal file ≡ 0) where
 
   -- tables of these lengths that hold it are as acceptance asks
   pub own-named : (z : Table) (inner entries moves : List ℕ) → automatonOf z inner entries moves ≡ ownOf file
-      → 192 ≤ length inner → 128 ≤ length entries → 5120 ≤ length moves → TablesNamed z inner entries moves
+      → 192 ≤ length inner → 64 * entryWidth ≤ length entries → 5120 ≤ length moves → TablesNamed z inner entries moves
   own-named z inner entries moves own hi he hm =
       let ni : z .edges ≡ length (ownOf file .inner) = sym (length-rowsIn edgeRow (z .edges) inner) ∙ ap (λ (A : Automaton). length (A .inner)) own in
       let ne : z .entries ≡ length (ownOf file .entries) = sym (length-rowsIn entryRow (z .entries) entries) ∙ ap (λ (A : Automaton). length (A .entries)) own in

@@ -5,6 +5,7 @@ use mathlib.Core.Path.{_≡_, ap, ap₂, sym, subst, _∙_}
 use mathlib.Core.List.{List}
 use native.Mathlib.Omega.{arith}
 use Rattle.replies.specs.declared.Reply.{Reply}
+use Rattle.services.specs.Memory.{entryWidth}
 use Rattle.services.specs.Guide.{GuideDone, guideService, cellWords}
 use Rattle.start_file.specs.Checks.{filesOf}
 use Rattle.guided_start.specs.Run.{guideInput}
@@ -15,16 +16,16 @@ use Rattle.answer_text.specs.Bounds.{Bounded}
 use Rattle.run_text.specs.Laws.Bounds.{guide-bounded}
 
 -- the round of the answer, by judge's word
-pub round-is : (case start : List ℕ) (number : ℕ) {w r : ℕ} → w ≡ judgedWord case start number (1024 * 5) (64 * 2) → r ≡ w - 1
+pub round-is : (case start : List ℕ) (number : ℕ) {w r : ℕ} → w ≡ judgedWord case start number (1024 * 5) (64 * entryWidth) → r ≡ w - 1
     → r ≡ roundWon (filesOf case start) number
 unfolding roundWon listingJudge
 round-is case start number is e = e ∙ ap (λ (w : ℕ). w - 1) is
 
 module _ (case start : List ℕ) (number : ℕ) {reply : Reply} {moves entries cells trace : List ℕ}
-    (is : guideDone reply moves entries cells trace ≡ guideService (guideInput case start number (1024 * 5) (64 * 2) (4096 * 68) 65536)) where
+    (is : guideDone reply moves entries cells trace ≡ guideService (guideInput case start number (1024 * 5) (64 * entryWidth) (4096 * 68) 65536)) where
   pub answer-bounded : Bounded number 65536 reply
   answer-bounded =
-      subst (Bounded number 65536) (sym (ap (λ (d : GuideDone). d .reply) is)) (guide-bounded (guideInput case start number (1024 * 5) (64 * 2) (4096 * 68) 65536))
+      subst (Bounded number 65536) (sym (ap (λ (d : GuideDone). d .reply) is)) (guide-bounded (guideInput case start number (1024 * 5) (64 * entryWidth) (4096 * 68) 65536))
 
   pub answer-is : {r : ℕ} → r ≡ roundWon (filesOf case start) number → answerText number r reply trace ≡ runText (filesOf case start) number
   unfolding runText runGuide cellWords

@@ -26,7 +26,7 @@ use Rattle.files.specs.Case.Laws.{case-placed, case-head, case-rules, case-inne
 use Rattle.automata.specs.Facts.Laws.{moveAt-facts}
 use Rattle.bytes_in.specs.Records.{recordAt}
 use Rattle.case_file.specs.Forms.{HoldsRules}
-use Rattle.services.specs.Memory.{lent}
+use Rattle.services.specs.Memory.{lent, entryWidth}
 use Rattle.tables.specs.declared.Table.{Table}
 use Rattle.tables.specs.Rows.{Layout, rowAt, rowsIn, putRow}
 use Rattle.tables.specs.Rows.Laws.{firstOf-list, length-rowsIn, getD-rowsIn}
@@ -159,12 +159,12 @@ module _ (file : List ℕ) (sound : caseRefusal file ≡ 0) where
             let c : length (ownOf file .moves) ≡ countOf file 3 = own-moves in
             omega arith
 
-    pub entries-tell : (n : ℕ) → countOf file 3 ≤ m / 5 → n ≡ length (ownOf file .entries) → leb n (e / 2) ≡ within (lent m e) (ownOf file)
+    pub entries-tell : (n : ℕ) → countOf file 3 ≤ m / 5 → n ≡ length (ownOf file .entries) → leb n (e / entryWidth) ≡ within (lent m e) (ownOf file)
     unfolding lent
-    entries-tell n h q = by-test (leb n (e / 2)) (λ t. t ∙ sym (keeps-within (lent m e) (ownOf file) (keeps (leb-true n (e / 2) t))))
-        (λ t. by-test (within (lent m e) (ownOf file)) (λ w. absurd (no (leb-false n (e / 2) t) w)) (λ w. t ∙ sym w))
+    entries-tell n h q = by-test (leb n (e / entryWidth)) (λ t. t ∙ sym (keeps-within (lent m e) (ownOf file) (keeps (leb-true n (e / entryWidth) t))))
+        (λ t. by-test (within (lent m e) (ownOf file)) (λ w. absurd (no (leb-false n (e / entryWidth) t) w)) (λ w. t ∙ sym w))
       where
-        keeps : n ≤ e / 2 → KeepsLimits (lent m e) (ownOf file)
+        keeps : n ≤ e / entryWidth → KeepsLimits (lent m e) (ownOf file)
         keeps b =
             let c : length (ownOf file .moves) ≡ countOf file 3 = own-moves in
             record {
@@ -173,8 +173,8 @@ module _ (file : List ℕ) (sound : caseRefusal file ≡ 0) where
               states-fit = case-states-few file sound;
             }
 
-        no : e / 2 < n → within (lent m e) (ownOf file) ≡ true → ⊥
-        no b w = let a : length (ownOf file .entries) ≤ e / 2 = within-keeps (lent m e) (ownOf file) w .entries-fit in omega arith
+        no : e / entryWidth < n → within (lent m e) (ownOf file) ≡ true → ⊥
+        no b w = let a : length (ownOf file .entries) ≤ e / entryWidth = within-keeps (lent m e) (ownOf file) w .entries-fit in omega arith
 
     pub total-is : (h : Head) (n : ℕ) → h ≡ head file → n ≡ length (entriesOf h (edgeRecords file)) → n ≡ length (ownOf file .entries)
     unfolding ownOf
@@ -186,7 +186,7 @@ module _ (file : List ℕ) (sound : caseRefusal file ≡ 0) where
     own-room inner entries moves ri le lm w =
         let k : KeepsLimits (lent m e) (ownOf file) = within-keeps (lent m e) (ownOf file) w in
         let a : length (ownOf file .moves) ≤ min (m / 5) 1024 = k .moves-fit in
-        let b : length (ownOf file .entries) ≤ e / 2 = k .entries-fit in
+        let b : length (ownOf file .entries) ≤ e / entryWidth = k .entries-fit in
         let c : min (m / 5) 1024 ≤ m / 5 = min-le-left (m / 5) 1024 in
         let d : length (ownOf file .moves) ≡ countOf file 3 = own-moves in
         let f : countOf file 2 ≤ 64 = case-placed file sound .edges-count in
@@ -221,7 +221,7 @@ module _ (file : List ℕ) (sound : caseRefusal file ≡ 0) where
       given ri le lm w =
           let k : KeepsLimits (lent m e) (ownOf file) = within-keeps (lent m e) (ownOf file) w in
           let a : length (ownOf file .moves) ≤ min (m / 5) 1024 = k .moves-fit in
-          let b : length (ownOf file .entries) ≤ e / 2 = k .entries-fit in
+          let b : length (ownOf file .entries) ≤ e / entryWidth = k .entries-fit in
           let c : min (m / 5) 1024 ≤ m / 5 = min-le-left (m / 5) 1024 in
           let ni : z .edges ≡ length (ownOf file .inner) = edges-number in
           let ne : z .entries ≡ length (ownOf file .entries) = entries-number in

@@ -13,7 +13,7 @@ use Rattle.files.specs.Bytes.{firstHit, testsOn}
 use Rattle.files.specs.Bytes.Laws.{numbered, firstHit-past, firstHit-stays, firstHit-testsOn, numbered-testsOn}
 use Rattle.files.specs.Case.{caseTests, caseRefusal, rulesOf, ownOf}
 use Rattle.replies.specs.declared.Saturation.{Saturation}
-use Rattle.services.specs.Memory.{padded, moveTable, entryTable, lent}
+use Rattle.services.specs.Memory.{padded, entryWidth, counted, moveTable, entryTable, lent}
 use Rattle.services.specs.Saturate.{Lent, saturated, tooLarge, sizeTests, saturateRefusal, saturateRefused, saturateFilled, saturateAnswer, saturateService}
 use Rattle.tables.specs.declared.Table.{Table}
 use Rattle.tables.specs.Rows.{rowsIn}
@@ -74,7 +74,7 @@ zero-done case moves entries moves′ entries′ code p q = λ i. theDone (theRe
 
 -- the moves and entries of the table, with zeros behind them
 pub filled-done : (case moves entries inner moves′ entries′ : List ℕ) (z : Table) (sizes : List Size)
-    → length moves′ ≡ length moves → length entries′ ≡ length entries → z .moves * 5 ≤ length moves′ → z .entries * 2 ≤ length entries′
+    → length moves′ ≡ length moves → length entries′ ≡ length entries → z .moves * 5 ≤ length moves′ → z .entries * entryWidth ≤ length entries′
     → Filled moveRow (z .moves) moves′ → Filled entryRow (z .entries) entries′
     → theDone (record { code = 0; moves = z .moves; entries = z .entries }) moves′ entries′
     ≡ saturateFilled (theLent case moves entries) (record { table = automatonOf z inner entries′ moves′; sizes = sizes })

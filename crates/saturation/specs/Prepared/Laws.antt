@@ -28,29 +28,9 @@ use Rattle.readings.specs.Memo.{MemoBefore, MemoUpTo}
 use Rattle.readings.specs.Memo.Laws.{memo-next}
 use Rattle.premises.specs.Before.{tableBefore, SettledBy}
 use Rattle.results.specs.Collecting.{newResults}
-use Rattle.added_results.specs.Adding.{Grows}
-use Rattle.saturation.specs.Prepared.{StatesExist, Prepared}
-
--- ---- states that exist
-
-add-exist : (A : Automaton) (x : Result) → StatesExist A → StatesExist (add A x)
-unfolding add moveAt newMove
-add-exist A x h =
-    record {
-      exists = λ i b.
-          let grow = withEntry-grows (x .control) (x .S) (A .entries) in
-          let new = entryNumber-below (x .control) (x .S) (A .entries) in
-          ⊎-elim
-          (λ w. let old = h .exists i (w .0) in
-          subst (λ (m : Move). m .state < A .J + length (withEntry (x .control) (x .S) (A .entries))) (sym (w .1)) (omega (arith, old, grow)))
-          (λ w. subst (λ (m : Move). m .state < A .J + length (withEntry (x .control) (x .S) (A .entries))) (sym (w .1)) (omega (arith, new)))
-          (last-or-before (A .moves) (newMove A x) i noMove b);
-    }
-
-pub addAll-exist : (A : Automaton) (xs : List Result) → StatesExist A → StatesExist (addAll A xs)
-unfolding addAll
-addAll-exist A [] h = h
-addAll-exist A (x ∷ xs) h = addAll-exist (add A x) xs (add-exist A x h)
+use Rattle.added_results.specs.Adding.{StatesExist, Grows}
+use Rattle.added_results.specs.Adding.Exist.{addAll-exist}
+use Rattle.saturation.specs.Prepared.{Prepared}
 
 -- ---- round 1
 

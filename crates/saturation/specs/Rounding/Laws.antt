@@ -16,6 +16,7 @@ use Rattle.automata.specs.Automaton.{Automaton}
 use Rattle.automata.specs.Derivation.{Result}
 use Rattle.automata.specs.Saturation.{addAll, extend, round}
 use Rattle.rounds.specs.Added.{addAll-length}
+use Rattle.services.specs.Memory.{entryWidth}
 use Rattle.tables.specs.declared.Table.{Table}
 use Rattle.tables.specs.Rows.{rowsIn}
 use Rattle.tables.specs.Rows.Laws.{length-rowsIn}
@@ -30,7 +31,7 @@ use Rattle.saturation.specs.Rounding.{Standing, Rounded}
 pub standing-entries : (z : Table) (mostMoves mostEntries : ℕ) (inner entries moves : List ℕ) → Standing z mostMoves mostEntries inner entries moves → EntriesStand z entries
 standing-entries z mostMoves mostEntries inner entries moves s =
     let a : z .entries ≤ mostEntries = s .growing .entries-few in
-    let b : mostEntries * 2 ≤ length entries = s .growing .entries-lent in
+    let b : mostEntries * entryWidth ≤ length entries = s .growing .entries-lent in
     let c : z .inner1 + mostEntries ≤ 64 = s .growing .states-few in
     record { entries-lent = omega arith; states-few = omega arith }
 
@@ -110,7 +111,7 @@ module _ (rules : List Rule) (inner : List ℕ) where
             let el : length entries′ ≡ length entries = g .entries-long in
             let ml : length moves′ ≡ length moves = g .moves-long in
             let lent : mostMoves * 5 ≤ length moves = s .moves-lent in
-            let first : mostEntries * 2 ≤ length entries = s .growing .entries-lent in
+            let first : mostEntries * entryWidth ≤ length entries = s .growing .entries-lent in
             let few : z .inner1 + mostEntries ≤ 64 = s .growing .states-few in
             let room : z .edges * 3 ≤ length inner = s .edges .edges-lent in
             record {

@@ -15,7 +15,7 @@ use Rattle.automata.specs.Automaton.{Automaton}
 use Rattle.automata.specs.Saturation.{Size, sizeOf, within, round, saturate, saturateFrom}
 use Rattle.rounds.specs.Rounds.{round-extends, still-same}
 use Rattle.rounds.specs.Limits.{KeepsLimits, within-keeps, keeps-within, saturateFrom-exceeds, saturateFrom-ends, saturateFrom-goes-on}
-use Rattle.services.specs.Memory.{lent}
+use Rattle.services.specs.Memory.{lent, entryWidth}
 use Rattle.tables.specs.declared.Table.{Table}
 use Rattle.tables.specs.Rows.{firstOf, rowsIn, putRow}
 use Rattle.tables.specs.Rows.Laws.{length-rowsIn, put-more}
@@ -35,15 +35,15 @@ module _ (m e J : ℕ) (small : J ≤ 64) (A : Automaton) (same : A .J ≡ J) wh
   pub fits-within : length (A .moves) ≤ mostMoves m → length (A .entries) ≤ mostEntries e J → within (lent m e) A ≡ true
   unfolding mostMoves mostEntries lent
   fits-within a b =
-      let c : min (e / 2) (64 - J) ≤ e / 2 = min-le-left (e / 2) (64 - J) in
-      let d : min (e / 2) (64 - J) ≤ 64 - J = min-le-right (e / 2) (64 - J) in
+      let c : min (e / entryWidth) (64 - J) ≤ e / entryWidth = min-le-left (e / entryWidth) (64 - J) in
+      let d : min (e / entryWidth) (64 - J) ≤ 64 - J = min-le-right (e / entryWidth) (64 - J) in
       keeps-within (lent m e) A (record { moves-fit = a; entries-fit = omega arith; states-fit = omega arith })
 
   pub within-fits : within (lent m e) A ≡ true → (length (A .moves) ≤ mostMoves m) × (length (A .entries) ≤ mostEntries e J)
   unfolding mostMoves mostEntries lent
   within-fits h =
       let k : KeepsLimits (lent m e) A = within-keeps (lent m e) A h in
-      let a : length (A .entries) ≤ e / 2 = k .entries-fit in
+      let a : length (A .entries) ≤ e / entryWidth = k .entries-fit in
       let b : A .J + length (A .entries) ≤ 64 = k .states-fit in
       (k .moves-fit, le-min a (omega arith))
 
@@ -60,12 +60,12 @@ module _ (rules : List Rule) (inner : List ℕ) (z : Table) (entries moves : Lis
   pub runs-given : (sizes : List ℕ) → Given z inner entries moves → RunsRounds rules inner z entries moves z 0 entries moves sizes
   unfolding saturate rowsIn firstOf mostMoves mostEntries
   runs-given sizes g =
-      let a : z .entries * 2 ≤ length entries = g .entries-stand .entries-lent in
+      let a : z .entries * entryWidth ≤ length entries = g .entries-stand .entries-lent in
       let b : z .inner1 + z .entries ≤ 64 = g .entries-stand .states-few in
       let c : z .moves * 5 ≤ length moves = g .moves-stand .moves-lent in
       let d : z .moves ≤ 1024 = g .moves-few in
-      let e : min (length entries / 2) (64 - z .inner1) ≤ length entries / 2 = min-le-left (length entries / 2) (64 - z .inner1) in
-      let f : min (length entries / 2) (64 - z .inner1) ≤ 64 - z .inner1 = min-le-right (length entries / 2) (64 - z .inner1) in
+      let e : min (length entries / entryWidth) (64 - z .inner1) ≤ length entries / entryWidth = min-le-left (length entries / entryWidth) (64 - z .inner1) in
+      let f : min (length entries / entryWidth) (64 - z .inner1) ≤ 64 - z .inner1 = min-le-right (length entries / entryWidth) (64 - z .inner1) in
       let h : min (length moves / 5) 1024 ≤ length moves / 5 = min-le-left (length moves / 5) 1024 in
       record {
         standing = record {

@@ -5,16 +5,11 @@ use mathlib.Core.Path.{_≡_, refl}
 use native.Mathlib.Omega.{arith}
 use lib.ListN.{length, getD}
 use Rattle.automata.specs.Saturation.{Size}
-use Rattle.tables.specs.Rows.{firstOf}
 use Rattle.saturation.specs.Sizes.{sizeWords, sizeFrom}
 
 pub size-length : (x : Size) → length (sizeWords x) ≡ 2
 unfolding sizeWords
 size-length x = refl
-
-pub size-words : (f : ℕ → ℕ) → sizeWords (sizeFrom f) ≡ firstOf 2 f
-unfolding sizeWords firstOf
-size-words f = refl
 
 pub size-back : (x : Size) → sizeFrom (λ j. getD (sizeWords x) j 0) ≡ x
 unfolding sizeWords

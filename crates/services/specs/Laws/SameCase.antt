@@ -22,7 +22,7 @@ use Rattle.files.specs.Bytes.{Test, firstHit, testsOn}
 use Rattle.files.specs.Case.{caseTests, caseRefusal}
 use Rattle.files.specs.Start.{Files, startTests, startFileRight, startsOf, cellsOf, configurationOf, startAt}
 use Rattle.files.specs.Rewriting.{SameCase}
-use Rattle.services.specs.Memory.{lent}
+use Rattle.services.specs.Memory.{lent, entryWidth, counted, largest}
 use Rattle.services.specs.Saturate.{Lent, saturated, tooLarge, sizeTests, saturateRefusal}
 use Rattle.services.specs.Saturate.{SaturateDone, saturateRefused, saturateFilled, saturateAnswer, saturateService}
 use Rattle.services.specs.Saturate.Laws.{case-first, case-passed}
@@ -31,7 +31,7 @@ use Rattle.services.specs.Judge.{JudgeDone, judgeLeft, judgeAnswer, judg
 use Rattle.services.specs.Guide.{GuideInput, guideLent, guideFiles, numberTests, guideRefusal, cellWords, cellsLent, startNamed, guideWalk, accepted, guideRun}
 use Rattle.services.specs.Guide.{GuideDone, guideLeft, refused, guideAnswer, guideService}
 use Rattle.services.specs.Replay.{ReplayInput, replayFiles, replayCells, traceTests, cellTests, replayRefusal, replayRun, replayReply, replayService}
-use Rattle.services.specs.Listing.{listingJudge, listingGuide, sizeLine, replyLine, roundWon, startLine, startLines, refusedText, judgedText, listingText}
+use Rattle.services.specs.Listing.{listingLent, listingJudge, listingGuide, sizeLine, largestCount, mostLine, replyLine, roundWon, startLine, startLines, refusedText, judgedText, listingText}
 use Rattle.services.specs.Run.{runGuide, answerText, runText}
 use Rattle.services.specs.Brackets.{BracketsInput, bracketsFiles, rootText, lengthTests, bracketsRefusal, BracketsDone, bracketsAnswer, bracketsService}
 use Rattle.services.specs.Brackets.{showInput, shown, showText}
@@ -75,6 +75,10 @@ module _ {one other : List ℕ} (s : SameCase one other) where
     large-alike : tooLarge (lend one) ≡ tooLarge (lend other)
     unfolding tooLarge
     large-alike = λ i. elim (saturated-alike i) [ none ↦ true | some T ↦ false ]
+
+    count-alike : largestCount (lend one) ≡ largestCount (lend other)
+    unfolding largestCount
+    count-alike = λ i. elim (saturated-alike i) [ none ↦ 0 | some T ↦ largest (counted (T .table)) ]
 
     -- ---- saturate
 
@@ -199,12 +203,12 @@ module _ {one other : List ℕ} (s : SameCase one other) where
 
     round-alike : (n : ℕ) → roundWon (files one) n ≡ roundWon (files other) n
     unfolding roundWon listingJudge
-    round-alike n = ap (λ (d : JudgeDone). getD (d .answers) n 0 - 1) (judge-alike start (1024 * 5) (64 * 2) 64)
+    round-alike n = ap (λ (d : JudgeDone). getD (d .answers) n 0 - 1) (judge-alike start (1024 * 5) (64 * entryWidth) 64)
 
     line-alike : (n : ℕ) → startLine (files one) n ≡ startLine (files other) n
     unfolding startLine listingGuide
     line-alike n =
-        ap₂ (λ (r : ℕ) (d : GuideDone). replyLine n r (d .reply)) (round-alike n) (guide-alike start n (1024 * 5) (64 * 2) (512 * cellWords) 1024)
+        ap₂ (λ (r : ℕ) (d : GuideDone). replyLine n r (d .reply)) (round-alike n) (guide-alike start n (1024 * 5) (64 * entryWidth) (512 * cellWords) 1024)
 
     lines-alike : (n k : ℕ) → startLines (files one) n k ≡ startLines (files other) n k
     unfolding startLines
@@ -212,21 +216,23 @@ module _ {one other : List ℕ} (s : SameCase one other) where
     lines-alike n (suc k) = ap₂ _++_ (line-alike n) (lines-alike (suc n) k)
 
     judged-alike : judgedText (files one) ≡ judgedText (files other)
-    unfolding judgedText
+    unfolding judgedText listingLent
     judged-alike =
-        ap₂ (λ (d : SaturateDone) (lines : List ℕ). sizeLine (d .reply) ++ lines) (saturate-alike (1024 * 5) (64 * 2)) (lines-alike 0 (length (startsOf start)))
+        ap₂ _++_
+        (ap₂ (λ (d : SaturateDone) (n : ℕ). sizeLine (d .reply) ++ mostLine n) (saturate-alike (1024 * 5) (64 * entryWidth)) (count-alike (1024 * 5) (64 * entryWidth)))
+        (lines-alike 0 (length (startsOf start)))
 
     pub listing-alike : listingText (files one) ≡ listingText (files other)
     unfolding listingText listingJudge
     listing-alike =
         ap₂ (λ (d : JudgeDone) (text : List ℕ). elim (eqb (d .code) 0) [ true ↦ text | false ↦ refusedText (d .code) ])
-        (judge-alike start (1024 * 5) (64 * 2) 64) judged-alike
+        (judge-alike start (1024 * 5) (64 * entryWidth) 64) judged-alike
 
     pub run-text-alike : (n : ℕ) → runText (files one) n ≡ runText (files other) n
     unfolding runText runGuide
     run-text-alike n =
         ap₂ (λ (r : ℕ) (d : GuideDone). answerText n r (d .reply) (d .trace)) (round-alike n)
-        (guide-alike start n (1024 * 5) (64 * 2) (4096 * cellWords) 65536)
+        (guide-alike start n (1024 * 5) (64 * entryWidth) (4096 * cellWords) 65536)
 
     pub show-alike : (n : ℕ) → showText (files one) n ≡ showText (files other) n
     unfolding showText showInput

@@ -9,8 +9,8 @@ use lib.ListN.{length, getD, drop, length-append}
 use lib.Seq.{sets, sets-eq}
 use Rattle.words.specs.Lists.{each, zeros}
 use Rattle.words.specs.Lists.Laws.{length-zeros, drop-zeros}
-use Rattle.automata.specs.Automaton.{Automaton}
-use Rattle.services.specs.Memory.{padded, moveWords, entryWords, moveTable, entryTable}
+use Rattle.automata.specs.Automaton.{Automaton, Move, Entry}
+use Rattle.services.specs.Memory.{padded, withCounts, counted, moveWords, entryWords, entryWidth, moveTable, entryTable}
 
 pub padded-none : (n : ℕ) → padded n [] ≡ zeros n
 unfolding padded
@@ -59,6 +59,13 @@ pub length-moveTable : (A : Automaton) → length (moveTable A) ≡ length (A .m
 unfolding moveTable moveWords
 length-moveTable A = length-each 5 moveWords (A .moves) (λ m. refl)
 
-pub length-entryTable : (A : Automaton) → length (entryTable A) ≡ length (A .entries) * 2
-unfolding entryTable entryWords
-length-entryTable A = length-each 2 entryWords (A .entries) (λ e. refl)
+pub length-withCounts : (ms : List Move) (r : ℕ) (es : List Entry) → length (withCounts ms r es) ≡ length es
+unfolding withCounts
+length-withCounts ms r [] = refl
+length-withCounts ms r (e ∷ es) = ap suc (length-withCounts ms (suc r) es)
+
+pub length-entryTable : (A : Automaton) → length (entryTable A) ≡ length (A .entries) * entryWidth
+unfolding entryTable entryWords counted
+length-entryTable A =
+    length-each entryWidth entryWords (counted A) (λ c. refl)
+    ∙ ap (λ (n : ℕ). n * entryWidth) (length-withCounts (A .moves) (A .J) (A .entries))

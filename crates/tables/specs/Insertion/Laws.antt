@@ -15,7 +15,7 @@ use Rattle.words.specs.Lists.Laws.{each-append, each-one, each-map}
 use Rattle.words.specs.Order.{less, insert}
 use Rattle.words.specs.Order.Laws.{less-neither, insert-before, insert-after, insert-held, by-place}
 use Rattle.words.specs.Laws.Tests.{by-test}
-use Rattle.tables.specs.Rows.{firstOf, Layout, rowAt, rowsIn}
+use Rattle.tables.specs.Rows.{firstOf, Layout, Exact, rowAt, rowsIn}
 use Rattle.tables.specs.Rows.Laws.{row-before, length-firstOf, getD-firstOf, firstOf-same, firstOf-list, row-words, words-rowsIn, length-rowsIn, length-each-words}
 use Rattle.tables.specs.Insertion.{rowWords, wordRows, withRow, insertedIn, leading, reached, Inserted}
 
@@ -284,12 +284,12 @@ module _ {A : Type 0} (key : A → List ℕ) where
   map-firstOf zero f = refl
   map-firstOf (suc n) f = ap (λ (l : List (List ℕ)). l ++ (key (f n) ∷ [])) (map-firstOf n f) ∙ sym (map-append key (firstOf n f) (f n ∷ []))
 
-module _ {A : Type 0} (L : Layout A) (n : ℕ) (t : List ℕ) (fits : n * L .width ≤ length t) where
+module _ {A : Type 0} (L : Layout A) (x : Exact L) (n : ℕ) (t : List ℕ) (fits : n * L .width ≤ length t) where
   rows-words : wordRows (L .width) n t ≡ map (L .words) (rowsIn L n t)
   unfolding wordRows rowsIn
   rows-words =
       firstOf-same n (rowWords (L .width) t) (λ i. L .words (rowAt L t i))
-      (λ i h. row-words L i t (let r : i * L .width + L .width ≤ n * L .width = row-before (L .width) n i h in omega arith))
+      (λ i h. row-words L x i t (let r : i * L .width + L .width ≤ n * L .width = row-before (L .width) n i h in omega arith))
       ∙ map-firstOf (L .words) n (rowAt L t)
 
   with-words : (a : A) → withRow n (L .words a) t ≡ map (L .words) (insert (L .words) a (rowsIn L n t))

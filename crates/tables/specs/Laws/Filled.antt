@@ -11,7 +11,7 @@ use lib.Seq.{drop-drop}
 use Rattle.words.specs.Lists.{each, zeros}
 use Rattle.words.specs.Lists.Laws.{drop-zeros}
 use Rattle.services.specs.Memory.{padded}
-use Rattle.tables.specs.Rows.{Layout, rowsIn, putRow}
+use Rattle.tables.specs.Rows.{Layout, Exact, rowsIn, putRow}
 use Rattle.tables.specs.Rows.Laws.{length-rowsIn, length-putRow, drop-putRow, rowsIn-whole, length-each-words}
 
 module _ {A : Type 0} (L : Layout A) where
@@ -40,10 +40,10 @@ module _ {A : Type 0} (L : Layout A) where
       }
 
   -- the whole table, by its rows
-  pub filled-whole : (n : ℕ) (t : List ℕ) → n * L .width ≤ length t → Filled n t → t ≡ padded (length t) (each (rowsIn L n t) (L .words))
+  pub filled-whole : Exact L → (n : ℕ) (t : List ℕ) → n * L .width ≤ length t → Filled n t → t ≡ padded (length t) (each (rowsIn L n t) (L .words))
   unfolding padded
-  filled-whole n t h f =
+  filled-whole x n t h f =
       let e : length (each (rowsIn L n t) (L .words)) ≡ n * L .width =
       length-each-words L (rowsIn L n t) ∙ ap (λ (k : ℕ). k * L .width) (length-rowsIn L n t) in
-      rowsIn-whole L n t h
-      ∙ ap (λ (x : List ℕ). each (rowsIn L n t) (L .words) ++ x) (f .behind ∙ ap (λ (k : ℕ). zeros (length t - k)) (sym e))
+      rowsIn-whole L x n t h
+      ∙ ap (λ (ws : List ℕ). each (rowsIn L n t) (L .words) ++ ws) (f .behind ∙ ap (λ (k : ℕ). zeros (length t - k)) (sym e))

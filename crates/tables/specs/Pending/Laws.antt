@@ -13,6 +13,7 @@ use Rattle.words.specs.Laws.Tests.{by-test}
 use Rattle.automata.specs.Derivation.{Result, resultKey}
 use Rattle.tables.specs.Rows.{rowsIn}
 use Rattle.tables.specs.Layouts.{resultRow}
+use Rattle.tables.specs.Laws.Exact.{result-exact}
 use Rattle.tables.specs.Insertion.{withRow, insertedIn}
 use Rattle.tables.specs.Insertion.Laws.{layout-length, layout-inserted}
 use Rattle.tables.specs.Pending.{limited, insertWithin, pendingIn}
@@ -47,13 +48,13 @@ module _ (room : ℕ) (x : Result) where
   insert-within n r t t′ h b e f =
       let l : List Result = insert resultKey x (rowsIn resultRow n t) in
       let fits : n * 6 ≤ length t = omega arith in
-      let (len, few) = layout-length resultRow n t fits r x e in
+      let (len, few) = layout-length resultRow result-exact n t fits r x e in
       let before : insertWithin room x (pendingIn room n t) ≡ limited room l = ap (insertWithin room x) (pending-fits room n t h) in (
         by-test (leb r room)
             (λ q.
             let k : r ≤ room = leb-true r room q in
             pending-fits room r t′ k
-            ∙ ap some (layout-inserted resultRow n t fits room r t′ x e f k .rows)
+            ∙ ap some (layout-inserted resultRow result-exact n t fits room r t′ x e f k .rows)
             ∙ sym (before ∙ limited-fits room l (omega arith)))
             (λ q.
             let k : room < r = leb-false r room q in

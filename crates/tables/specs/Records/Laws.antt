@@ -6,9 +6,9 @@ use native.Mathlib.Omega.{arith}
 use lib.ListN.{length, getD}
 use Rattle.automata.specs.Automaton.{Move, Entry, Edge, choiceKey}
 use Rattle.automata.specs.Derivation.{Result, resultKey}
-use Rattle.services.specs.Memory.{moveWords, entryWords}
+use Rattle.services.specs.Memory.{Counted, moveWords, entryWords, entryWidth}
 use Rattle.tables.specs.Rows.{firstOf}
-use Rattle.tables.specs.Records.{moveFrom, entryFrom, edgeFrom, resultFrom}
+use Rattle.tables.specs.Records.{newWords, moveFrom, entryFrom, countedFrom, edgeFrom, resultFrom}
 
 pub move-length : (x : Move) → length (moveWords x) ≡ 5
 unfolding moveWords
@@ -25,20 +25,31 @@ move-back x = refl
 pub move-same : (f g : ℕ → ℕ) → ((j : ℕ) → j < 5 → f j ≡ g j) → moveFrom f ≡ moveFrom g
 move-same f g h = λ i. record { state = h 0 (omega arith) i; symbol = h 1 (omega arith) i; order = h 2 (omega arith) i; B = h 3 (omega arith) i; R = h 4 (omega arith) i }
 
-pub entry-length : (x : Entry) → length (entryWords x) ≡ 2
-unfolding entryWords
-entry-length x = refl
+pub new-length : (x : Entry) → length (newWords x) ≡ entryWidth
+unfolding newWords entryWords
+new-length x = refl
 
-pub entry-words : (f : ℕ → ℕ) → entryWords (entryFrom f) ≡ firstOf 2 f
-unfolding entryWords firstOf
-entry-words f = refl
-
-pub entry-back : (x : Entry) → entryFrom (λ j. getD (entryWords x) j 0) ≡ x
-unfolding entryWords
+pub entry-back : (x : Entry) → entryFrom (λ j. getD (newWords x) j 0) ≡ x
+unfolding newWords entryWords
 entry-back x = refl
 
-pub entry-same : (f g : ℕ → ℕ) → ((j : ℕ) → j < 2 → f j ≡ g j) → entryFrom f ≡ entryFrom g
+pub entry-same : (f g : ℕ → ℕ) → ((j : ℕ) → j < entryWidth → f j ≡ g j) → entryFrom f ≡ entryFrom g
 entry-same f g h = λ i. record { control = h 0 (omega arith) i; S = h 1 (omega arith) i }
+
+pub counted-length : (x : Counted) → length (entryWords x) ≡ entryWidth
+unfolding entryWords
+counted-length x = refl
+
+pub counted-words : (f : ℕ → ℕ) → entryWords (countedFrom f) ≡ firstOf entryWidth f
+unfolding entryWords firstOf
+counted-words f = refl
+
+pub counted-back : (x : Counted) → countedFrom (λ j. getD (entryWords x) j 0) ≡ x
+unfolding entryWords
+counted-back x = refl
+
+pub counted-same : (f g : ℕ → ℕ) → ((j : ℕ) → j < entryWidth → f j ≡ g j) → countedFrom f ≡ countedFrom g
+counted-same f g h = λ i. record { entry = entry-same f g h i; moves = h 2 (omega arith) i }
 
 pub edge-length : (x : Edge) → length (choiceKey x) ≡ 3
 unfolding choiceKey

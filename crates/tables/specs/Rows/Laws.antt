@@ -11,7 +11,7 @@ use lib.ListN.{length, getD, set, take, drop, length-append, length-drop, take-a
 use lib.Seq.{sets, sets-eq, length-sets, getD-set-other, drop-set-lt, take-add, getD-append-seam, getD-append-add, getD-take, getD-drop, ext-getD, length-take-le}
 use Rattle.words.specs.Lists.{each}
 use Rattle.words.specs.Lists.Laws.{each-append, each-one}
-use Rattle.tables.specs.Rows.{firstOf, Layout, rowAt, rowsIn, putRow}
+use Rattle.tables.specs.Rows.{firstOf, Layout, Exact, rowAt, rowsIn, putRow}
 
 -- ---- the first values of a function
 
@@ -149,23 +149,23 @@ module _ {A : Type 0} (L : Layout A) where
 
   -- ---- the words of the first rows
 
-  pub row-words : (n : ℕ) (t : List ℕ) → n * L .width + L .width ≤ length t → take (L .width) (drop (n * L .width) t) ≡ L .words (rowAt L t n)
+  pub row-words : Exact L → (n : ℕ) (t : List ℕ) → n * L .width + L .width ≤ length t → take (L .width) (drop (n * L .width) t) ≡ L .words (rowAt L t n)
   unfolding rowAt
-  row-words n t h =
+  row-words x n t h =
       sym
-      (L .words-read (λ j. getD t (n * L .width + j) 0)
+      (x .words-read (λ j. getD t (n * L .width + j) 0)
       ∙ firstOf-list (take (L .width) (drop (n * L .width) t)) (L .width) (λ j. getD t (n * L .width + j) 0) 0
       (length-take-le (L .width) (drop (n * L .width) t) (simp length-drop (omega arith)))
       (λ j l. sym (getD-take (L .width) (drop (n * L .width) t) j 0 l ∙ getD-drop (n * L .width) t j 0)))
 
-  pub rowsIn-words : (n : ℕ) (t : List ℕ) → n * L .width ≤ length t → take (n * L .width) t ≡ each (rowsIn L n t) (L .words)
+  pub rowsIn-words : Exact L → (n : ℕ) (t : List ℕ) → n * L .width ≤ length t → take (n * L .width) t ≡ each (rowsIn L n t) (L .words)
   unfolding rowsIn firstOf each
-  rowsIn-words zero t h = ap (λ (k : ℕ). take k t) (zero-mul (L .width))
-  rowsIn-words (suc n) t h =
+  rowsIn-words x zero t h = ap (λ (k : ℕ). take k t) (zero-mul (L .width))
+  rowsIn-words x (suc n) t h =
       let e : suc n * L .width ≡ n * L .width + L .width = suc-mul n (L .width) in
       ap (λ (k : ℕ). take k t) e
       ∙ take-add (n * L .width) (L .width) t
-      ∙ ap₂ _++_ (rowsIn-words n t (omega arith)) (row-words n t (omega arith) ∙ sym (each-one (rowAt L t n) (L .words)))
+      ∙ ap₂ _++_ (rowsIn-words x n t (omega arith)) (row-words x n t (omega arith) ∙ sym (each-one (rowAt L t n) (L .words)))
       ∙ sym (each-append (rowsIn L n t) (rowAt L t n ∷ []) (L .words))
 
   -- a table that begins with a record has it as its row 0, and what follows as its later rows
@@ -205,9 +205,9 @@ module _ {A : Type 0} (L : Layout A) where
       rowsIn-list (length (x ∷ xs)) (each (x ∷ xs) (L .words) ++ rest) (x ∷ xs) x refl (λ i h. row-each (x ∷ xs) rest i x h)
 
   -- a table is the words of its first rows and what stands behind them
-  pub rowsIn-whole : (n : ℕ) (t : List ℕ) → n * L .width ≤ length t → t ≡ each (rowsIn L n t) (L .words) ++ drop (n * L .width) t
-  rowsIn-whole n t h =
-      sym (take-append-drop (n * L .width) t) ∙ ap (λ (x : List ℕ). x ++ drop (n * L .width) t) (rowsIn-words n t h)
+  pub rowsIn-whole : Exact L → (n : ℕ) (t : List ℕ) → n * L .width ≤ length t → t ≡ each (rowsIn L n t) (L .words) ++ drop (n * L .width) t
+  rowsIn-whole x n t h =
+      sym (take-append-drop (n * L .width) t) ∙ ap (λ (ws : List ℕ). ws ++ drop (n * L .width) t) (rowsIn-words x n t h)
 
   pub length-each-words : (l : List A) → length (each l (L .words)) ≡ length l * L .width
   unfolding each

@@ -1,0 +1,27 @@
+-- `tables::count_at` meets its contract.
+-- Assumes nothing.
+use mathlib.Core.Path.{refl}
+use Rattle.tables.specs.Rows.{rowAt}
+use borrow.Author.Needs.{needs}
+use Rattle.tables.proofs.count_at.Statement.{statement}
+use Rattle.tables.proofs.count_at.Tie as tie
+
+mul-result : tie.Need-mul-result
+mul-result c = search needs
+
+add-result : tie.Need-add-result
+add-result c = search needs
+
+mul-result-2 : tie.Need-mul-result-2
+mul-result-2 c = search needs
+
+shared-slice-read-result : tie.Need-shared-slice-read-result
+shared-slice-read-result c = search needs
+
+returns : tie.Need-returns
+unfolding rowAt
+returns c = refl
+
+pub count-at-spec : {M : Type 1} → statement M
+count-at-spec =
+    tie.close (tie.spec mul-result add-result mul-result-2 shared-slice-read-result returns)
