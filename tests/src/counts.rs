@@ -1,6 +1,6 @@
-//! How many moves an entry has (document 02, §7): what the services of one of the two
-//! implementations say of it, beside a walk through the moves that they lent back;
-//! tables of every length; and what the counts of a table hang on.
+//! How many moves an entry has (document 02, §7): what one of the two implementations
+//! says of it beside a walk through the moves that it writes, entry tables of every
+//! length, and what the counts of a table hang on.
 
 use self::Kind::*;
 use crate::callers::{Answers, Services};
@@ -14,9 +14,20 @@ use crate::table::Table;
 
 // ---- by walking
 
-/// The saturated table of a sound case as the services lend it back, if it fits: the
-/// third word of each entry is "the count by walking", moves of inner states count
-/// for none, and all words after the table are zero. Answers the counts.
+/// The order-1 states of moves written as words.
+fn states(moves: &[u64]) -> impl Iterator<Item = u64> {
+    moves.chunks(MOVE_WORDS).map(|words| words[0])
+}
+
+/// "The count by walking" for each entry; their states come after `inner` inner ones.
+fn walked(moves: &[u64], inner: u64, entries: usize) -> Vec<u64> {
+    let count = |one: u64| states(moves).filter(|&state| state == one).count() as u64;
+    (inner..).take(entries).map(count).collect()
+}
+
+/// The third words of the entries of a case's saturated table, if it fits. They are
+/// the counts by walking, their sum is the number of moves that are not of inner
+/// states, and all words after the table are zero.
 fn counts(services: Services, case: &Case, name: &str) -> Option<Vec<u64>> {
     let mut lent = Lent::as_listing();
     lent.fill();
@@ -31,14 +42,10 @@ fn counts(services: Services, case: &Case, name: &str) -> Option<Vec<u64>> {
     let (moves, after) = lent.moves.split_at(MOVE_WORDS * moves as usize);
     let after = after.iter().chain(&lent.entries[3 * entries..]);
     assert!(after.copied().all(|word| word == 0), "{name}");
-    // The entries are numbered after the inner states.
-    let first = u64::from(case.inner_one);
-    let states = || moves.chunks(MOVE_WORDS).map(|words| words[0]);
-    let walked = |number: u64| states().filter(|&state| state == first + number).count() as u64;
     let counts = lent.counts(entries);
-    let expected: Vec<u64> = (0..entries as u64).map(walked).collect();
-    assert_eq!(counts, expected, "{name}");
-    let of_entries = states().filter(|&state| state >= first).count();
+    let inner = u64::from(case.inner_one);
+    assert_eq!(counts, walked(moves, inner, entries), "{name}");
+    let of_entries = states(moves).filter(|&state| state >= inner).count();
     assert_eq!(counts.iter().sum::<u64>(), of_entries as u64, "{name}");
     Some(counts)
 }

@@ -28,7 +28,7 @@ fn all_entries() -> Case {
 
 /// "Proved to give 2 to the power n": a pop 1 and a collapse 1 from each control
 /// to itself give entry n two moves, whose rest set and whose annotation set is
-/// the entry alone.
+/// the entry alone. Its third word is their number (§7).
 pub fn check_words(saturate: Saturate) {
     let mut case = all_entries();
     let rules = |p| [rule(p, 0, 5, 0, p), rule(p, 0, 7, 0, p)];

@@ -31,11 +31,9 @@ use second::won::{EXAMPLE_WORDS, example_case, example_start};
 fn check_listing(both: &mut Both, (case, start): (&[u8], &[u8]), step: usize, text: &str) {
     let printed = proved::listing(case, start);
     let Listed {
-        text: without,
-        rounds,
-        most,
+        text: own, rounds, ..
     } = listed(&printed);
-    assert_eq!(without, text);
+    assert_eq!(own, text);
     let refusal = both.judge(case, start);
     if refusal != 0 {
         assert_eq!(printed, format!("refused {refusal}\n"));
@@ -48,8 +46,8 @@ fn check_listing(both: &mut Both, (case, start): (&[u8], &[u8]), step: usize, te
     let (_, moves, entries) = both.saturate(case);
     let lines: Vec<&str> = printed.lines().collect();
     assert_eq!(lines[0], format!("moves {moves} entries {entries}"));
-    let counts = both.lent.counts(entries as usize);
-    assert_eq!(most, Some(counts.into_iter().max().unwrap_or(0)));
+    let most = both.lent.counts(entries as usize).into_iter().max();
+    assert_eq!(lines[1], format!("most {}", most.unwrap_or(0)));
     assert_eq!(lines.len(), 2 + starts);
     for (number, line) in lines[2..].iter().enumerate().step_by(step) {
         let reply = both.guide(case, start, number as u64);

@@ -49,56 +49,56 @@ use Rattle.demands.specs.Instances.{inputA, unrefused-A, run-A, replayA}
 -- ---- the inputs: model A with tables of 17 and 7 words, 10 cells and three trace words
 
 unfoldable pub lentA : Lent
-lentA = record { case = caseA; moves = 17; entries = 7 }
+lentA = record { case = caseA; moves = 17; entries = 11 }
 
 -- "with two moves lent", and four words more
 unfoldable pub lentTwo : Lent
-lentTwo = record { case = caseA; moves = 14; entries = 7 }
+lentTwo = record { case = caseA; moves = 14; entries = 11 }
 
 unfoldable pub guideA : ℕ → GuideInput
-guideA n = record { case = caseA; start = startA; number = n; moves = 17; entries = 7; cells = 10 * 68; trace = 3 }
+guideA n = record { case = caseA; start = startA; number = n; moves = 17; entries = 11; cells = 10 * 68; trace = 3 }
 
 -- the circle model, with as many
 unfoldable pub guideCircle : GuideInput
-guideCircle = record { case = caseCircle; start = startC; number = 0; moves = 17; entries = 7; cells = 10 * 68; trace = 3 }
+guideCircle = record { case = caseCircle; start = startC; number = 0; moves = 17; entries = 11; cells = 10 * 68; trace = 3 }
 
 -- model B with its entry written twice, and with a final order-1 set that names it
 unfoldable pub lentTwice : Lent
-lentTwice = record { case = caseBTwice; moves = 17; entries = 7 }
+lentTwice = record { case = caseBTwice; moves = 17; entries = 11 }
 
 unfoldable pub lentNamed : Lent
-lentNamed = record { case = caseBNamed; moves = 17; entries = 7 }
+lentNamed = record { case = caseBNamed; moves = 17; entries = 11 }
 
 -- cases in a tool's codes: 5 for our rewrite; one of ours that is not in the record; a byte twice in it and a rule that breaks a bound; a zero;
 -- a byte twice; five lines and the first body at byte 33
 unfoldable pub lentTurned : Lent
-lentTurned = record { case = caseTurned 5; moves = 17; entries = 7 }
+lentTurned = record { case = caseTurned 5; moves = 17; entries = 11 }
 
 unfoldable pub lentOurs : Lent
-lentOurs = record { case = caseToolOurs; moves = 17; entries = 7 }
+lentOurs = record { case = caseToolOurs; moves = 17; entries = 11 }
 
 unfoldable pub lentBroken : Lent
-lentBroken = record { case = caseToolBroken; moves = 17; entries = 7 }
+lentBroken = record { case = caseToolBroken; moves = 17; entries = 11 }
 
 unfoldable pub lentZero : Lent
-lentZero = record { case = caseToolZero; moves = 17; entries = 7 }
+lentZero = record { case = caseToolZero; moves = 17; entries = 11 }
 
 unfoldable pub lentTwiceCoded : Lent
-lentTwiceCoded = record { case = caseToolTwice; moves = 17; entries = 7 }
+lentTwiceCoded = record { case = caseToolTwice; moves = 17; entries = 11 }
 
 unfoldable pub lentEarly : Lent
-lentEarly = record { case = caseToolEarly; moves = 17; entries = 7 }
+lentEarly = record { case = caseToolEarly; moves = 17; entries = 11 }
 
 -- judge of empty stacks, with three answers: with a final entry [1,{2}] beside [1,empty], and with model B's entry final
 unfoldable pub inputOther : JudgeInput
-inputOther = record { case = caseBOther; start = startEmpty; moves = 17; entries = 7; answers = 3 }
+inputOther = record { case = caseBOther; start = startEmpty; moves = 17; entries = 11; answers = 3 }
 
 unfoldable pub inputFound : JudgeInput
-inputFound = record { case = caseBFinal; start = startEmpty; moves = 17; entries = 7; answers = 3 }
+inputFound = record { case = caseBFinal; start = startEmpty; moves = 17; entries = 11; answers = 3 }
 
 -- a finished script, the empty stack with a final control, with as much lent as for model A
 unfoldable pub guideFinished : GuideInput
-guideFinished = record { case = caseFinished; start = startFinished; number = 3; moves = 17; entries = 7; cells = 10 * 68; trace = 3 }
+guideFinished = record { case = caseFinished; start = startFinished; number = 3; moves = 17; entries = 11; cells = 10 * 68; trace = 3 }
 
 -- replay of a trace that collapses, with nine cells, and of one that goes past the target, with seven
 unfoldable pub replayCollapse : ℕ → List ℕ → ReplayInput

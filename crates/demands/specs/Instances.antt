@@ -31,16 +31,16 @@ use Rattle.demands.specs.Rewritten.Proof.{rewritten}
 
 -- judge with tables of 17 and 7 words and five answers
 unfoldable pub inputA : JudgeInput
-inputA = record { case = caseA; start = startA; moves = 17; entries = 7; answers = 5 }
+inputA = record { case = caseA; start = startA; moves = 17; entries = 11; answers = 5 }
 
 unfoldable pub inputB : JudgeInput
-inputB = record { case = caseB; start = startB; moves = 17; entries = 7; answers = 5 }
+inputB = record { case = caseB; start = startB; moves = 17; entries = 11; answers = 5 }
 
 unfoldable pub inputBFinal : JudgeInput
-inputBFinal = record { case = caseBFinal; start = startB; moves = 17; entries = 7; answers = 5 }
+inputBFinal = record { case = caseBFinal; start = startB; moves = 17; entries = 11; answers = 5 }
 
 unfoldable pub inputC : JudgeInput
-inputC = record { case = caseC; start = startC; moves = 17; entries = 7; answers = 5 }
+inputC = record { case = caseC; start = startC; moves = 17; entries = 11; answers = 5 }
 
 -- start 0 of model A is marked yes, so its guided run arrives, whatever tables, cells and trace are lent
 pub marked-A : MarkedYes inputA 0

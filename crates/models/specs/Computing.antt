@@ -58,11 +58,11 @@ unfolding Judge.judgeLent Judge.judgeFiles Judge.answerTests Judge.judgeRefusal 
 open-judge = 0
 
 unfoldable pub open-listing : ℕ
-unfolding Listing.ascii Listing.digitsBefore Listing.decimal Listing.listingJudge Listing.listingGuide Listing.sizeLine Listing.countsText Listing.haltText Listing.replyText Listing.replyLine Listing.roundWon Listing.startLine Listing.startLines Listing.refusedText Listing.judgedText Listing.listingText
+unfolding Listing.ascii Listing.digitsBefore Listing.decimal Listing.listingLent Listing.listingJudge Listing.listingGuide Listing.sizeLine Listing.largestCount Listing.mostLine Listing.countsText Listing.haltText Listing.replyText Listing.replyLine Listing.roundWon Listing.startLine Listing.startLines Listing.refusedText Listing.judgedText Listing.listingText
 open-listing = 0
 
 unfoldable pub open-memory : ℕ
-unfolding Lists.zeros Memory.padded Memory.moveWords Memory.entryWords Memory.moveTable Memory.entryTable Memory.lent
+unfolding Lists.zeros Memory.padded Memory.moveCount Memory.withCounts Memory.counted Memory.largest Memory.moveWords Memory.entryWords Memory.moveTable Memory.entryTable Memory.lent
 open-memory = 0
 
 unfoldable pub open-replay : ℕ
@@ -78,7 +78,7 @@ unfolding Saturate.saturated Saturate.tooLarge Saturate.sizeTests Saturate.satur
 open-saturate = 0
 
 unfoldable pub open-files : ℕ
-unfolding Files.two Files.line Files.headWith Files.head Files.rule Files.entry Files.finalEntry Files.plain Files.start Files.empty1 Files.symbol Files.empty2 Files.above Files.caseA Files.startA Files.caseBWith Files.caseB Files.startB Files.caseBFinal Files.startLone Files.startEmpty Files.caseBTwice Files.caseBNamed Files.caseBOther Files.caseFinished Files.startFinished Files.caseC Files.startC Files.startCC Files.caseCircle Files.casePast Files.caseCollapse Files.startCollapse Files.caseBrackets Files.startBrackets Files.caseCoded Files.toolCodes Files.toolRules Files.caseTool Files.zeroCodes Files.twiceCodes Files.caseToolZero Files.caseToolTwice Files.caseToolBroken Files.caseToolSymbols Files.caseToolOurs Files.caseToolEarly Files.caseToolFour Files.caseAFive Files.caseTurned Files.times Files.startsA Files.rulesA Files.itselfA
+unfolding Files.two Files.line Files.headWith Files.head Files.rule Files.entry Files.finalEntry Files.plain Files.start Files.empty1 Files.symbol Files.empty2 Files.above Files.caseA Files.startA Files.caseBWith Files.caseB Files.startB Files.caseBFinal Files.startLone Files.startEmpty Files.caseBTwice Files.caseBNamed Files.caseBOther Files.caseFinished Files.startFinished Files.caseC Files.startC Files.startCC Files.caseCircle Files.casePast Files.caseCollapse Files.startCollapse Files.caseInner Files.caseMore Files.caseNone Files.startNone Files.caseBrackets Files.startBrackets Files.caseCoded Files.toolCodes Files.toolRules Files.caseTool Files.zeroCodes Files.twiceCodes Files.caseToolZero Files.caseToolTwice Files.caseToolBroken Files.caseToolSymbols Files.caseToolOurs Files.caseToolEarly Files.caseToolFour Files.caseAFive Files.caseTurned Files.times Files.startsA Files.rulesA Files.itselfA
 open-files = 0
 
 unfoldable pub computed : ℕ

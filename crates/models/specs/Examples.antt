@@ -27,19 +27,19 @@ use Rattle.services.specs.Run.{runText, numberNamed}
 use Rattle.services.specs.Brackets.{bracketsService, showText}
 use Rattle.models.specs.Computing.{computed}
 use Rattle.models.specs.Files.{two, caseA, startA, caseB, startB, caseBFinal, startLone, startEmpty, caseBTwice, caseBNamed, caseBOther, caseFinished, startFinished, caseC, startC, startCC, casePast, caseCollapse, startCollapse, startsA, rulesA, itselfA}
-use Rattle.models.specs.Files.{caseBrackets, startBrackets, caseTool, caseToolZero, caseToolTwice, caseToolBroken, caseToolSymbols, caseToolOurs, caseToolEarly, caseToolFour, caseAFive, caseTurned}
+use Rattle.models.specs.Files.{caseInner, caseMore, caseNone, startNone, caseBrackets, startBrackets, caseTool, caseToolZero, caseToolTwice, caseToolBroken, caseToolSymbols, caseToolOurs, caseToolEarly, caseToolFour, caseAFive, caseTurned}
 
 -- ---- what an example says
 
 pub data Example : Type 0 where
   -- the table after so many rounds of the case
   table : List ℕ → ℕ → Automaton → Example
-  -- saturate, with 17 words lent for moves (three records and two words) or 14, and 7 for entries: its code and its two numbers, then
-  -- what both slices hold
-  saturates : List ℕ → ℕ → ℕ → ℕ → ℕ → List ℕ → List ℕ → Example
-  -- judge, with 17 and 7 words and so many answers lent, words of 16 bits: its code, and what the answers hold
+  -- saturate, with so many words lent for moves, 17 (three records and two words) or 14, and so many for entries, 11 (three records and two
+  -- words) or 8: its code and its two numbers, then what both slices hold
+  saturates : List ℕ → ℕ → ℕ → ℕ → ℕ → ℕ → List ℕ → List ℕ → Example
+  -- judge, with 17 and 11 words and so many answers lent, words of 16 bits: its code, and what the answers hold
   judges : List ℕ → List ℕ → ℕ → ℕ → List ℕ → Example
-  -- guide to the start of this number, with 17 and 7 words, 10 cells and 3 trace words lent: its reply, and what the trace holds
+  -- guide to the start of this number, with 17 and 11 words, 10 cells and 3 trace words lent: its reply, and what the trace holds
   guides : List ℕ → List ℕ → ℕ → Reply → List ℕ → Example
   -- replay of the trace of these bytes from the start of this number, with so many bytes lent for cells: its reply
   replays : List ℕ → List ℕ → ℕ → List ℕ → ℕ → Replayed → Example
@@ -55,15 +55,15 @@ pub data Example : Type 0 where
 -- The example is what the definitions give. All other lent memory is zero.
 abbrev pub Holds : Example → Type 0
 Holds (table case n A) = tableAfter (rulesOf case) (ownOf case) n ≡ A
-Holds (saturates case lent code moves entries moveWords entryWords) =
-    saturateService (record { case = case; moves = lent; entries = 7 })
+Holds (saturates case movesLent entriesLent code moves entries moveWords entryWords) =
+    saturateService (record { case = case; moves = movesLent; entries = entriesLent })
     ≡ record { reply = record { code = code; moves = moves; entries = entries }; moves = moveWords; entries = entryWords }
 Holds (judges case start answers code words) =
-    judgeService (record { case = case; start = start; moves = 17; entries = 7; answers = answers })
-    ≡ record { code = code; moves = zeros 17; entries = zeros 7; answers = words }
+    judgeService (record { case = case; start = start; moves = 17; entries = 11; answers = answers })
+    ≡ record { code = code; moves = zeros 17; entries = zeros 11; answers = words }
 Holds (guides case start number reply trace) =
-    guideService (record { case = case; start = start; number = number; moves = 17; entries = 7; cells = 10 * 68; trace = 3 })
-    ≡ record { reply = reply; moves = zeros 17; entries = zeros 7; cells = zeros (10 * 68); trace = trace }
+    guideService (record { case = case; start = start; number = number; moves = 17; entries = 11; cells = 10 * 68; trace = 3 })
+    ≡ record { reply = reply; moves = zeros 17; entries = zeros 11; cells = zeros (10 * 68); trace = trace }
 Holds (replays case start number trace cells reply) =
     replayService (record { case = case; start = start; number = number; trace = trace; cells = cells })
     ≡ record { reply = reply; cells = zeros cells }
@@ -103,9 +103,9 @@ examples =
     ∷ table caseA 1 Models.firstA
     ∷ table caseA 2 Models.tableA
     ∷ table caseA 3 Models.tableA
-    ∷ saturates caseA 17 0 3 3
+    ∷ saturates caseA 17 11 0 3 3
     (0 ∷ 1 ∷ 0 ∷ 0 ∷ 0 ∷ 1 ∷ 1 ∷ 2 ∷ 2 ∷ 0 ∷ 2 ∷ 0 ∷ 0 ∷ 0 ∷ 0 ∷ 0 ∷ 0 ∷ [])
-    (1 ∷ 0 ∷ 0 ∷ 0 ∷ 0 ∷ 2 ∷ 0 ∷ [])
+    (1 ∷ 0 ∷ 1 ∷ 0 ∷ 0 ∷ 1 ∷ 0 ∷ 2 ∷ 1 ∷ 0 ∷ 0 ∷ [])
     -- "Starts (0,5), (1,3), (0,3). Yes, by rules 0, 1. Yes, no step. No." Won in round 2 and in round 0: "0 for no, otherwise that round plus 1."
     ∷ judges caseA startA 5 0 (3 ∷ 1 ∷ 0 ∷ 0 ∷ 0 ∷ [])
     -- "Refusal 8 counts these words": three are enough for three starts, two are not.
@@ -115,9 +115,9 @@ examples =
     ∷ guides caseA startA 1 (arrived 0 6) (0 ∷ 0 ∷ 0 ∷ [])
     ∷ guides caseA startA 2 NoRun (0 ∷ 0 ∷ 0 ∷ [])
     -- "With two moves lent: 9."
-    ∷ saturates caseA 14 9 0 0 (zeros 14) (zeros 7)
+    ∷ saturates caseA 14 11 9 0 0 (zeros 14) (zeros 11)
     -- "Model A's first start prints `start 0 yes 2 2 9`."
-    ∷ lists caseA startA (ascii "moves 3 entries 3\nstart 0 yes 2 2 9\nstart 1 yes 0 0 6\nstart 2 no\n")
+    ∷ lists caseA startA (ascii "moves 3 entries 3\nmost 1\nstart 0 yes 2 2 9\nstart 1 yes 0 0 6\nstart 2 no\n")
     -- and `run` for each of its starts, and for one that is not in the file
     ∷ runs caseA startA (ascii "0") (ascii "start 0 yes 2 2 9\n0 1\n")
     ∷ runs caseA startA (ascii "1") (ascii "start 1 yes 0 0 6\n\n")
@@ -144,8 +144,8 @@ examples =
     ∷ guides caseFinished startFinished 1 (arrived 1 5) (1 ∷ 0 ∷ 0 ∷ [])
     ∷ guides caseFinished startFinished 3 (arrived 0 5) (0 ∷ 0 ∷ 0 ∷ [])
     -- "A second entry for the same state and S is refusal 4"; the final order-1 set names inner states only.
-    ∷ saturates caseBTwice 17 4 0 0 (zeros 17) (zeros 7)
-    ∷ saturates caseBNamed 17 2 0 0 (zeros 17) (zeros 7)
+    ∷ saturates caseBTwice 17 11 4 0 0 (zeros 17) (zeros 11)
+    ∷ saturates caseBNamed 17 11 2 0 0 (zeros 17) (zeros 11)
     -- "[[0]], a file of four cells: yes, rules 0, 1, 8 cells. [[0],[0]]: yes, rule 1 alone."
     ∷ judges caseC startC 1 0 (3 ∷ [])
     ∷ guides caseC startC 0 (arrived 2 8) (0 ∷ 1 ∷ 0 ∷ [])
@@ -176,30 +176,30 @@ examples =
     ∷ replays caseCollapse startCollapse 1 (two 0) (9 * 6) (FailsAt 0)
     ∷ replays caseCollapse startCollapse 1 (two 1) (8 * 6) Accepted
     -- Document 02, 5: "A case with such a body has the marks, trace and refusals from 3 on of the case rewritten to our codes", here those of A.
-    ∷ saturates caseTool 17 0 3 3
+    ∷ saturates caseTool 17 11 0 3 3
     (0 ∷ 1 ∷ 0 ∷ 0 ∷ 0 ∷ 1 ∷ 1 ∷ 2 ∷ 2 ∷ 0 ∷ 2 ∷ 0 ∷ 0 ∷ 0 ∷ 0 ∷ 0 ∷ 0 ∷ [])
-    (1 ∷ 0 ∷ 0 ∷ 0 ∷ 0 ∷ 2 ∷ 0 ∷ [])
+    (1 ∷ 0 ∷ 1 ∷ 0 ∷ 0 ∷ 1 ∷ 0 ∷ 2 ∷ 1 ∷ 0 ∷ 0 ∷ [])
     ∷ judges caseTool startA 5 0 (3 ∷ 1 ∷ 0 ∷ 0 ∷ 0 ∷ [])
     ∷ guides caseTool startA 0 (arrived 2 9) (0 ∷ 1 ∷ 0 ∷ [])
     ∷ replays caseTool startA 0 (two 0 ++ two 1) (9 * 6) Accepted
-    ∷ lists caseTool startA (ascii "moves 3 entries 3\nstart 0 yes 2 2 9\nstart 1 yes 0 0 6\nstart 2 no\n")
+    ∷ lists caseTool startA (ascii "moves 3 entries 3\nmost 1\nstart 0 yes 2 2 9\nstart 1 yes 0 0 6\nstart 2 no\n")
     -- "The record's nth byte, from 1, is the tool's code for our operation n": with the record 5, 1, 2, 3, 4, 6, 7, 8 the rule (0,0,5,1,1) rewrites
     -- [[0]] to [[1]], so its b names a symbol; and (0,0,1,1,1) pushes, so that the target is missed.
     ∷ judges (caseTurned 5) startLone 1 0 (2 ∷ [])
     ∷ guides (caseTurned 5) startLone 0 (arrived 1 6) (0 ∷ 0 ∷ 0 ∷ [])
     ∷ judges (caseTurned 1) startLone 1 0 (0 ∷ [])
     -- 12: "the eight bytes are not all different, or one is zero, after 2", and before 3, of a rule that breaks a bound
-    ∷ saturates caseToolZero 17 12 0 0 (zeros 17) (zeros 7)
-    ∷ saturates caseToolTwice 17 12 0 0 (zeros 17) (zeros 7)
-    ∷ saturates caseToolBroken 17 12 0 0 (zeros 17) (zeros 7)
-    ∷ saturates caseToolSymbols 17 2 0 0 (zeros 17) (zeros 7)
+    ∷ saturates caseToolZero 17 11 12 0 0 (zeros 17) (zeros 11)
+    ∷ saturates caseToolTwice 17 11 12 0 0 (zeros 17) (zeros 11)
+    ∷ saturates caseToolBroken 17 11 12 0 0 (zeros 17) (zeros 11)
+    ∷ saturates caseToolSymbols 17 11 2 0 0 (zeros 17) (zeros 11)
     -- "A code not in the record is refusal 3", also one of ours.
-    ∷ saturates caseToolOurs 17 3 0 0 (zeros 17) (zeros 7)
+    ∷ saturates caseToolOurs 17 11 3 0 0 (zeros 17) (zeros 11)
     -- "Then the first byte is 5, the first body starts at byte 41": five lines and the first body at byte 33, five lines behind a first byte 4, and
     -- four behind a first byte 5 are refusal 1.
-    ∷ saturates caseToolEarly 17 1 0 0 (zeros 17) (zeros 7)
-    ∷ saturates caseToolFour 17 1 0 0 (zeros 17) (zeros 7)
-    ∷ saturates caseAFive 17 1 0 0 (zeros 17) (zeros 7)
+    ∷ saturates caseToolEarly 17 11 1 0 0 (zeros 17) (zeros 11)
+    ∷ saturates caseToolFour 17 11 1 0 0 (zeros 17) (zeros 11)
+    ∷ saturates caseAFive 17 11 1 0 0 (zeros 17) (zeros 11)
     -- Document 02, 6: "cell 3 of model A prints as `[[1 1{[]}]]`", the root of start 1. "The reply is the text's length; bytes after it are zero."
     ∷ prints caseA startA 1 14 (Brackets.Printed 11) (ascii "[[1 1{[]}]]" ++ zeros 3)
     ∷ prints caseA startA 1 11 (Brackets.Printed 11) (ascii "[[1 1{[]}]]")
@@ -225,17 +225,28 @@ examples =
     ∷ shows caseA startA 0 (ascii "[[0 1{[]}][1 1{[]}]]\n")
     ∷ shows caseA startA 1 (ascii "[[1 1{[]}]]\n")
     ∷ shows caseA startA 3 (ascii "refused 7\n")
+    -- Document 02, 7: "Keep the count as a third word of the entry." "Only whole records count": eight words hold two entries of model A's three.
+    ∷ saturates caseA 17 8 9 0 0 (zeros 17) (zeros 8)
+    -- "It must equal the count by walking": moves of inner states are no entry's, and moves that rounds add to an entry of the file are its own.
+    ∷ saturates caseInner 17 11 0 1 1 (zeros 17) (zeros 11)
+    ∷ saturates caseMore 17 11 0 3 1
+    (0 ∷ 0 ∷ 0 ∷ 0 ∷ 0 ∷ 0 ∷ 1 ∷ 0 ∷ 0 ∷ 0 ∷ 0 ∷ 2 ∷ 0 ∷ 0 ∷ 0 ∷ 0 ∷ 0 ∷ [])
+    (0 ∷ 0 ∷ 3 ∷ zeros 8)
+    -- "A line after its first: `most` and the largest such count, 0 without entries."
+    ∷ lists caseMore startNone (ascii "moves 3 entries 1\nmost 3\nstart 0 no\n")
+    ∷ lists caseInner startNone (ascii "moves 1 entries 1\nmost 0\nstart 0 no\n")
+    ∷ lists caseNone startNone (ascii "moves 0 entries 0\nmost 0\nstart 0 no\n")
     -- "At the edges: 64 starts pass, 65 give 5; 256 rules pass, 257 give 1; a cell naming itself gives 6."
     ∷ judges caseA (startsA 64) 64 0 (replicate 64 1)
     ∷ judges caseA (startsA 65) 65 5 (zeros 65)
-    ∷ saturates (rulesA 256) 17 0 2 2
+    ∷ saturates (rulesA 256) 17 11 0 2 2
     (0 ∷ 1 ∷ 0 ∷ 0 ∷ 0 ∷ 1 ∷ 1 ∷ 2 ∷ 2 ∷ 0 ∷ 0 ∷ 0 ∷ 0 ∷ 0 ∷ 0 ∷ 0 ∷ 0 ∷ [])
-    (1 ∷ 0 ∷ 0 ∷ 0 ∷ 0 ∷ 0 ∷ 0 ∷ [])
-    ∷ saturates (rulesA 257) 17 1 0 0 (zeros 17) (zeros 7)
+    (1 ∷ 0 ∷ 1 ∷ 0 ∷ 0 ∷ 1 ∷ 0 ∷ 0 ∷ 0 ∷ 0 ∷ 0 ∷ [])
+    ∷ saturates (rulesA 257) 17 11 1 0 0 (zeros 17) (zeros 11)
     ∷ judges caseA itselfA 5 6 (zeros 5)
     ∷ []
 
 pub all-hold : AllHold examples
 unfolding computed Models.ownA Models.firstA Models.tableA
 all-hold =
-    (refl, (refl, (refl, (refl, (refl, (refl, (refl, (refl, (refl, (refl, (refl, (refl, (refl, (refl, (refl, (refl, (refl, (refl, (refl, (refl, (refl, (refl, (refl, (refl, (refl, (refl, (refl, (refl, (refl, (refl, (refl, (refl, (refl, (refl, (refl, (refl, (refl, (refl, (refl, (refl, (refl, (refl, (refl, (refl, (refl, (refl, (refl, (refl, (refl, (refl, (refl, (refl, (refl, (refl, (refl, (refl, (refl, (refl, (refl, (refl, (refl, (refl, (refl, (refl, (refl, (refl, (refl, (refl, (refl, (refl, (refl, (refl, (refl, (refl, (refl, (refl, (refl, (refl, (refl, (refl, (refl, (refl, (refl, (refl, (refl, (refl, (refl, (refl, (refl, (refl, (refl, (refl, (refl, tt)))))))))))))))))))))))))))))))))))))))))))))))))))))))))))))))))))))))))))))))))))))))))))))
+    (refl, (refl, (refl, (refl, (refl, (refl, (refl, (refl, (refl, (refl, (refl, (refl, (refl, (refl, (refl, (refl, (refl, (refl, (refl, (refl, (refl, (refl, (refl, (refl, (refl, (refl, (refl, (refl, (refl, (refl, (refl, (refl, (refl, (refl, (refl, (refl, (refl, (refl, (refl, (refl, (refl, (refl, (refl, (refl, (refl, (refl, (refl, (refl, (refl, (refl, (refl, (refl, (refl, (refl, (refl, (refl, (refl, (refl, (refl, (refl, (refl, (refl, (refl, (refl, (refl, (refl, (refl, (refl, (refl, (refl, (refl, (refl, (refl, (refl, (refl, (refl, (refl, (refl, (refl, (refl, (refl, (refl, (refl, (refl, (refl, (refl, (refl, (refl, (refl, (refl, (refl, (refl, (refl, (refl, (refl, (refl, (refl, (refl, (refl, tt)))))))))))))))))))))))))))))))))))))))))))))))))))))))))))))))))))))))))))))))))))))))))))))))))))

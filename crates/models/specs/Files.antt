@@ -235,6 +235,30 @@ startCollapse =
     ++ symbol 0 3 0
     ++ above 6 2
 
+-- ---- document 02, 7
+
+-- an entry without moves, beside a move of inner state 0
+unfoldable pub caseInner : List ℕ
+caseInner = (4 ∷ []) ++ line 1 1 33 ++ line 2 0 47 ++ line 3 1 47 ++ line 4 1 51 ++ head 1 0 1 1 ++ entry 0 0 ++ plain 0 0
+
+-- an entry with a move on symbol 0; the rules rewrite 1 to 0 and 2 to 1
+unfoldable pub caseMore : List ℕ
+caseMore =
+    (4 ∷ []) ++ line 1 1 33 ++ line 2 2 47 ++ line 3 1 57 ++ line 4 1 61
+    ++ head 1 0 0 3
+    ++ rule 0 1 1 0 0
+    ++ rule 0 2 1 1 0
+    ++ entry 0 0
+    ++ plain 0 0
+
+-- no entry
+unfoldable pub caseNone : List ℕ
+caseNone = (4 ∷ []) ++ line 1 1 33 ++ line 2 0 47 ++ line 3 0 47 ++ line 4 0 47 ++ head 1 0 0 1
+
+-- the empty order-2 stack
+unfoldable pub startNone : List ℕ
+startNone = (2 ∷ []) ++ line 1 1 17 ++ line 2 1 20 ++ start 0 0 ++ empty2
+
 -- ---- a start as brackets
 
 -- P 1, I 0, J 0, A 32; no rule, edge or move

@@ -1,6 +1,7 @@
 -- What a round finds prepared: the index of the moves, what the table of the round before gives, the memo table.
 -- Assumes nothing.
 pub mod Laws
+use Prim.Native.Nat.{ℕ}
 use mathlib.Core.List.{List}
 use Rattle.stacks.specs.System.{Rule}
 use Rattle.automata.specs.Saturation.{results}

@@ -11,15 +11,17 @@ use Rattle.stacks.specs.System.{Rule}
 use Rattle.automata.specs.Saturation.{round}
 use Rattle.tables.specs.declared.Table.{Table}
 use Rattle.tables.specs.Held.{automatonOf, EdgesStand}
+use Rattle.tables.specs.Counts.{CountsStand}
 use Rattle.results.specs.Collecting.{newResults}
 use Rattle.added_results.specs.Adding.{Growing, Grows}
 
--- The tables stand in their slices, with room for so many moves and entries.
+-- The tables stand in their slices, with room for so many moves and entries, and with each entry the number of its moves.
 pub record Standing (z : Table) (mostMoves mostEntries : ℕ) (inner entries moves : List ℕ) : Type 0 where
   pub edges : EdgesStand z inner
   pub growing : Growing z mostEntries entries
   pub moves-few : z .moves ≤ mostMoves
   pub moves-lent : mostMoves * 5 ≤ length moves
+  pub counts : CountsStand z entries moves
 
 module _ (rules : List Rule) (inner : List ℕ) where
   -- The tables after a round, or a limit is passed.

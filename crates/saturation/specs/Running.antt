@@ -15,8 +15,9 @@ use Rattle.tables.specs.declared.Table.{Table}
 use Rattle.tables.specs.Rows.{rowsIn}
 use Rattle.tables.specs.Layouts.{entryRow, moveRow}
 use Rattle.tables.specs.Held.{automatonOf, EdgesStand, EntriesStand, MovesStand}
+use Rattle.tables.specs.Counts.{CountsStand}
 use Rattle.tables.specs.Laws.Filled.{Filled}
-use Rattle.saturation.specs.Prepared.{StatesExist}
+use Rattle.added_results.specs.Adding.{StatesExist}
 use Rattle.saturation.specs.Rounding.{Standing}
 use Rattle.saturation.specs.Layout.{sizeRow}
 
@@ -30,13 +31,14 @@ mostEntries words states = min (words / entryWidth) (64 - states)
 
 -- ---- the loop
 
--- The tables of round 0, with at most 1,024 moves, each of a state that exists.
+-- The tables of round 0, with at most 1,024 moves, each of a state that exists, and with each entry the number of its moves.
 pub record Given (z : Table) (inner entries moves : List ℕ) : Type 0 where
   pub edges : EdgesStand z inner
   pub entries-stand : EntriesStand z entries
   pub moves-stand : MovesStand z moves
   pub moves-few : z .moves ≤ 1024
   pub states-exist : StatesExist (automatonOf z inner entries moves)
+  pub counts : CountsStand z entries moves
 
 -- the saturated table with its sizes, or none
 unfoldable pub ended : Bool → Automaton → List Size → Option Saturated

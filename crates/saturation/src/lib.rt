@@ -10,6 +10,7 @@ ghost use Rattle.move_index.specs.Keys.{ByState, ByWords};
 ghost use Rattle.readings.specs.Memo.{MemoBefore, MemoUpTo};
 ghost use Rattle.premises.specs.Before.{tableBefore, SettledBy};
 ghost use Rattle.results.specs.Collecting.{RulesStand, rulesIn};
+ghost use Rattle.added_results.specs.Adding.{StatesExist};
 ghost use Rattle.saturation.specs.Rounding.{Standing, Rounded};
 ghost use Rattle.saturation.specs.Running.{mostMoves, mostEntries, Given, Ends};
 ghost use Rattle.saturation.specs.Sizes.{theSize, asSize};
@@ -40,7 +41,7 @@ fn add_round(
     pending: &mut [u64],
     most: Capacity,
 ) -> Grown
-    requires { ⌜ Standing z (most .moves) (most .entries) (now inner) (now entries) (now moves) × RulesStand count (now body) × (most .moves * 6 ≤ length (now pending)) × ByState (z .moves) (now moves) (now states) × ByWords (z .moves) (now moves) (now words) × SettledBy (automatonOf z (now inner) (now entries) (now moves)) t (results (rulesIn count (now body)) (tableBefore t (automatonOf z (now inner) (now entries) (now moves)))) × MemoBefore (z .moves) (now memo) ⌝ }
+    requires { ⌜ Standing z (most .moves) (most .entries) (now inner) (now entries) (now moves) × RulesStand count (now body) × (most .moves * 6 ≤ length (now pending)) × ByState (z .moves) (now moves) (now states) × ByWords (z .moves) (now moves) (now words) × SettledBy (automatonOf z (now inner) (now entries) (now moves)) t (results (rulesIn count (now body)) (tableBefore t (automatonOf z (now inner) (now entries) (now moves)))) × MemoBefore (z .moves) (now memo) × StatesExist (automatonOf z (now inner) (now entries) (now moves)) ⌝ }
     ensures { λ g. ⌜ Rounded (rulesIn count (now (body .entry))) (now (inner .entry)) z (most .moves) (most .entries) (now (entries .entry)) (now (moves .entry)) (g .fits) (g .table) (now (entries .exit)) (now (moves .exit)) ⌝ }
     ensures memo { λ g. ⌜ MemoUpTo (z .moves) (now (memo .exit)) ⌝ }
 {

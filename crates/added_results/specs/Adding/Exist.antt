@@ -15,6 +15,8 @@ use Rattle.rounds.specs.Entries.{entryNumber-below, withEntry-grows}
 use Rattle.rounds.specs.Added.{newMove}
 use Rattle.services.specs.Memory.{moveCount}
 use Rattle.services.specs.Memory.Counts.{count-none}
+use Rattle.tables.specs.declared.Table.{Table}
+use Rattle.tables.specs.Held.{automatonOf}
 use Rattle.added_results.specs.Adding.{StatesExist}
 
 add-exist : (A : Automaton) (x : Result) → StatesExist A → StatesExist (add A x)
@@ -35,6 +37,11 @@ pub addAll-exist : (A : Automaton) (xs : List Result) → StatesExist A → Stat
 unfolding addAll
 addAll-exist A [] h = h
 addAll-exist A (x ∷ xs) h = addAll-exist (add A x) xs (add-exist A x h)
+
+-- the inner edges do not matter
+pub exist-any : (z : Table) (inner inner′ entries moves : List ℕ) → StatesExist (automatonOf z inner entries moves) → StatesExist (automatonOf z inner′ entries moves)
+unfolding moveAt
+exist-any z inner inner′ entries moves h = record { exists = h .exists }
 
 pub none-past : (A : Automaton) (r : ℕ) → StatesExist A → states A ≤ r → moveCount (A .moves) r ≡ 0
 unfolding moveAt

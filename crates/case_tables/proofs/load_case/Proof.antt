@@ -93,7 +93,7 @@ returns c =
     let m : HoldsOwn moveRow (ownOf (c .before .before .before .before .before .before .before .before .before .before .before .before .before .before .before .before .before .before .before .before .before .before .before .before .before .before .before .before .args .file .now) .moves) (c .before .before .before .before .before .before .before .before .before .before .before .before .before .before .before .before .before .before .before .before .before .before .before .before .before .before .before .before .args .moves .now) _ _ =
     holds-moves _ _ _ _ _ (c .before .before .before .before .before .before .before .before .before .before .move-body .ensures) move-count (c .before .before .before .before .before .before .before .load-moves .ensures .0) (c .before .before .before .before .before .before .before .before .before .before .before .before .before .before .before .before .before .before .before .before .before .before .before .before .before .before .before .before .pre .1 .move-room) in
     let finals = own-finals _ _ _ _ (c .before .before .edge-body3 .ensures) edge-count (c .before .final-entries .ensures) (c .join .ensures) in
-    (own-loaded _ _ _ _ _ _ _ _ _ the-head refl finals refl i e m, (i .is, (e .is, (m .is, own-counted _ _ _ _ _ _ _ the-head refl e m))))
+    (own-loaded _ _ _ _ _ _ _ _ _ the-head refl finals refl i e m, (i .is, (e .is, (m .is, own-counted _ _ _ _ _ _ _ _ _ the-head refl e m))))
 
 pub load-case-spec : {M : Type 1} → statement M
 load-case-spec =

@@ -16,7 +16,7 @@ use Rattle.tables.specs.declared.Table.{Table}
 use Rattle.tables.specs.Rows.{Layout, rowsIn}
 use Rattle.tables.specs.Layouts.{edgeRow, entryRow, countedRow, moveRow}
 use Rattle.tables.specs.Laws.Exact.{counted-exact}
-use Rattle.tables.specs.Counts.{CountsAre, CountsStand}
+use Rattle.tables.specs.Counts.{CountsAre}
 use Rattle.tables.specs.Counts.Laws.{rows-counts, rows-entries}
 use Rattle.tables.specs.Held.{automatonOf}
 use Rattle.bytes_in.specs.Records.{bodyOf}
@@ -85,12 +85,12 @@ module _ (file e₀ e : List ℕ) (n : ℕ) (h : HoldsOwn countedRow (counted (o
   holds-counts = rows-counts (ownOf file .J) n e (ownOf file .moves) (ownOf file .entries) known-few known-rows
 
 -- "the count by walking after round 0"
-pub own-counted : (file : List ℕ) (z : Table) (e₀ e m₀ m : List ℕ) (h : Head) → h ≡ head file → z .inner1 ≡ h .J
-    → HoldsOwn countedRow (counted (ownOf file)) e₀ e (z .entries) → HoldsOwn moveRow (ownOf file .moves) m₀ m (z .moves) → CountsStand z e m
+pub own-counted : (file : List ℕ) (J n k : ℕ) (e₀ e m₀ m : List ℕ) (h : Head) → h ≡ head file → J ≡ h .J
+    → HoldsOwn countedRow (counted (ownOf file)) e₀ e n → HoldsOwn moveRow (ownOf file .moves) m₀ m k → CountsAre J n e (rowsIn moveRow k m)
 unfolding ownOf
-own-counted file z e₀ e m₀ m h g j he hm =
-    subst₂ (λ (k : ℕ) (ms : List Move). CountsAre k (z .entries) e ms) (sym (j ∙ ap (λ (x : Head). x .J) g))
-    (sym (holds-rows moveRow (ownOf file .moves) m₀ m (z .moves) hm)) (holds-counts file e₀ e (z .entries) he)
+own-counted file J n k e₀ e m₀ m h g j he hm =
+    subst₂ (λ (x : ℕ) (ms : List Move). CountsAre x n e ms) (sym (j ∙ ap (λ (x : Head). x .J) g))
+    (sym (holds-rows moveRow (ownOf file .moves) m₀ m k hm)) (holds-counts file e₀ e n he)
 
 pub own-loaded : (file : List ℕ) (z : Table) (i₀ i e₀ e m₀ m : List ℕ) (h : Head) → h ≡ head file
     → z .inner1 ≡ h .J → z .final1 ≡ join (h .final1) (setOf (finalEntries h (h .J) (edgeRecords file))) → z .final2 ≡ h .final2

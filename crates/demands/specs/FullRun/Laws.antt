@@ -1,6 +1,6 @@
 -- The full run of a start is one, whatever tables are lent. A guide's halt in the words of the walk is its halt in document 01's words.
 -- Assumes nothing.
-use Prim.Native.Nat.{ℕ, suc, _+_, _-_, _≤_, _<_, min}
+use Prim.Native.Nat.{ℕ, suc, _+_, _-_, _*_, _≤_, _<_, min}
 use mathlib.Core.Bool.{true}
 use mathlib.Core.Path.{_≡_, refl, ap, sym, _∙_}
 use mathlib.Core.Option.{some, Option·some-injective, Option·none-ne-some}

@@ -17,6 +17,7 @@ use Rattle.stacks.specs.Stack.{Operation, rewrite, push1, push2, copy, pop1, po
 use Rattle.automata.specs.Automaton.{Automaton, Move, Edge, Entry, noMove, noEdge, noEntry, edges, moveAt, edgeAt, entryAt, entrySet, entryEdge}
 use Rattle.automata.specs.Automaton.Laws.{entryAt-some, entryAt-set, edgeAt-inner, edge-cases, entry-edge}
 use Rattle.automata.specs.Derivation.{named}
+use Rattle.services.specs.Memory.{entryWidth}
 use Rattle.tables.specs.declared.Table.{Table}
 use Rattle.tables.specs.Rows.{rowAt, rowsIn}
 use Rattle.tables.specs.Rows.Laws.{length-rowsIn, getD-rowsIn}
@@ -53,7 +54,7 @@ module _ (z : Table) (inner entries moves : List ℕ) where
       let (e, at, g) = entryAt-some A r h in
       let (l, is) = getElem?-some (rowsIn entryRow (z .entries) entries) e g in
       let row : rowAt entryRow entries e ≡ x = sym (getD-rowsIn entryRow (z .entries) entries e noEntry (omega arith)) ∙ is noEntry in
-      subst (λ (s : ℕ). s < 2 ^ 64) (ap (λ (y : Entry). y .S) row ∙ sym (entryAt-set A r h)) (words (e * 2 + 1)))
+      subst (λ (s : ℕ). s < 2 ^ 64) (ap (λ (y : Entry). y .S) row ∙ sym (entryAt-set A r h)) (words (e * entryWidth + 1)))
 
   first-small : TablesWithin z inner entries moves → (e : ℕ) → edgeAt A e .first < 64
   unfolding edgeAt

@@ -6,9 +6,10 @@ use Prim.Native.Nat.{ℕ}
 use lib.ListN.{length-replicate}
 use borrow.Author.Tests.{not-true, not-false}
 use Rattle.files.specs.Case.Laws.{case-in-place}
-use Rattle.saturate.specs.Case.Laws.{long-enough, own-room, given, rules-stand, case-ends, case-over, filled-own, entries-number, moves-number}
+use Rattle.saturate.specs.Case.Laws.{long-enough, own-room, given, rules-stand, case-ends, case-over, filled-own, counted-number, moves-number}
 use Rattle.case_file.specs.Forms.Laws.{holds-rules}
-use Rattle.tables.specs.Layouts.{entryRow, moveRow}
+use Rattle.tables.specs.Layouts.{countedRow, moveRow}
+use Rattle.tables.specs.Counts.Laws.{filled-entries}
 use borrow.Author.Needs.{needs}
 use Rattle.saturate.proofs.saturate_case.Statement.{statement}
 use Rattle.saturate.proofs.saturate_case.Tie as tie
@@ -38,7 +39,16 @@ slice-aggregate-saturate-tables : tie.Need-slice-aggregate-saturate-tables
 slice-aggregate-saturate-tables c = search needs
 
 saturate-tables-requires : tie.Need-saturate-tables-requires
-saturate-tables-requires c κs = (given _ (c .before .before .before .before .before .before .before .before .before .before .before .before .before .before .before .before .before .before .before .before .before .before .before .before .before .before .before .before .pre .0) _ _ (c .before .before .before .before .before .before .before .before .before .before .before .before .before .before .before .before .load-case .result) _ _ _ (c .before .before .before .before .before .before .before .before .before .before .before .before .before .before .before .before .load-case .ensures .0) (omega (arith, (c .before .before .before .before .before .before .before .before .before .before .before .before .before .before .before .before .before .before .before .before .before .before .before .before .before .before .before .before .pre .1 .inner-room), (c .before .before .before .before .before .before .before .before .before .before .before .before .before .before .before .before .load-case .kept .1 .0))) (c .before .before .before .before .before .before .before .before .before .before .before .before .before .before .before .before .load-case .kept .1 .1 .0) (c .before .before .before .before .before .before .before .before .before .before .before .before .before .before .before .before .load-case .kept .1 .1 .1 .0) (sym (c .before .before .before .before .before .before .before .before .before .before .before .before .before .before .before .before .before .before .before .before .before .own-fits .ensures) ∙ not-false (c .before .before .before .before .before .before .before .before .before .before .before .before .before .before .before .before .before .before .before .before .before .own-fits .result) (c .before .before .before .before .before .before .before .before .before .before .before .before .before .before .before .before .before .before .before .before .if1 .left)), rules-stand _ (c .before .before .before .before .before .before .before .before .before .before .before .before .before .before .before .before .before .before .before .before .before .before .before .before .before .before .before .before .pre .0) _ _ (holds-rules _ (case-in-place _ (c .before .before .before .before .before .before .before .before .before .before .before .before .before .before .before .before .before .before .before .before .before .before .before .before .before .before .before .before .pre .0)) (c .before .before .before .before .before .before .count-of .ensures .0) (c .before .before .before .before .before .before .before .before .put-rules .ensures)), (c .before .before .before .before .before .before .before .before .before .before .before .before .before .before .before .before .before .before .before .before .before .before .before .before .before .before .before .before .pre .1 .pending-room), (c .before .before .before .before .before .before .before .before .before .before .before .before .before .before .before .before .before .before .before .before .before .before .before .before .before .before .before .before .pre .1 .sizes-room))
+saturate-tables-requires c κs =
+    let sound = c .before .before .before .before .before .before .before .before .before .before .before .before .before .before .before .before .before .before .before .before .before .before .before .before .before .before .before .before .pre .0 in
+    let loaded = c .before .before .before .before .before .before .before .before .before .before .before .before .before .before .before .before .load-case .ensures in
+    let fits = sym (c .before .before .before .before .before .before .before .before .before .before .before .before .before .before .before .before .before .before .before .before .before .own-fits .ensures) ∙ not-false (c .before .before .before .before .before .before .before .before .before .before .before .before .before .before .before .before .before .before .before .before .before .own-fits .result) (c .before .before .before .before .before .before .before .before .before .before .before .before .before .before .before .before .before .before .before .before .if1 .left) in
+    let room = omega (arith, c .before .before .before .before .before .before .before .before .before .before .before .before .before .before .before .before .before .before .before .before .before .before .before .before .before .before .before .before .pre .1 .inner-room, c .before .before .before .before .before .before .before .before .before .before .before .before .before .before .before .before .load-case .kept .1 .0) in (
+      given _ sound _ _ (c .before .before .before .before .before .before .before .before .before .before .before .before .before .before .before .before .load-case .result) _ _ _ (loaded .0) room (c .before .before .before .before .before .before .before .before .before .before .before .before .before .before .before .before .load-case .kept .1 .1 .0) (c .before .before .before .before .before .before .before .before .before .before .before .before .before .before .before .before .load-case .kept .1 .1 .1 .0) fits (loaded .1 .1 .1 .1),
+      rules-stand _ sound _ _ (holds-rules _ (case-in-place _ sound) (c .before .before .before .before .before .before .count-of .ensures .0) (c .before .before .before .before .before .before .before .before .put-rules .ensures)),
+      c .before .before .before .before .before .before .before .before .before .before .before .before .before .before .before .before .before .before .before .before .before .before .before .before .before .before .before .before .pre .1 .pending-room,
+      c .before .before .before .before .before .before .before .before .before .before .before .before .before .before .before .before .before .before .before .before .before .before .before .before .before .before .before .before .pre .1 .sizes-room,
+    )
 
 same-length : tie.Need-same-length
 same-length c = search needs
@@ -56,7 +66,14 @@ same-length-5 : tie.Need-same-length-5
 same-length-5 c = search needs
 
 returns-2 : tie.Need-returns-2
-returns-2 c = case-ends _ (c .before .before .before .before .before .before .before .before .before .before .before .before .before .before .before .before .before .before .before .before .before .before .before .before .before .before .before .before .before .before .before .before .before .before .before .before .before .pre .0) _ _ (c .before .before .before .before .before .before .before .before .before .before .before .before .before .before .before .before .before .before .before .before .before .before .before .before .before .load-case .result) _ _ _ (c .before .before .before .before .before .before .before .before .before .before .before .before .before .before .before .before .before .before .before .before .before .before .before .before .before .load-case .ensures .0) _ _ (holds-rules _ (case-in-place _ (c .before .before .before .before .before .before .before .before .before .before .before .before .before .before .before .before .before .before .before .before .before .before .before .before .before .before .before .before .before .before .before .before .before .before .before .before .before .pre .0)) (c .before .before .before .before .before .before .before .before .before .before .before .before .before .before .before .count-of .ensures .0) (c .before .before .before .before .before .before .before .before .before .before .before .before .before .before .before .before .before .put-rules .ensures)) (c .before .before .before .before .before .before .before .before .before .before .before .before .before .before .before .before .before .before .before .before .before .before .before .before .before .load-case .kept .1 .1 .0) (c .before .before .before .before .before .before .before .before .before .before .before .before .before .before .before .before .before .before .before .before .before .before .before .before .before .load-case .kept .1 .1 .1 .0) (filled-own entryRow _ _ _ _ (c .before .before .before .before .before .before .before .before .before .before .before .before .before .before .before .before .before .before .before .before .before .before .before .before .before .before .before .before .before .before .before .before .before .before .before .before .before .pre .1 .entries-zero) (c .before .before .before .before .before .before .before .before .before .before .before .before .before .before .before .before .before .before .before .before .before .before .before .before .before .load-case .ensures .1 .1 .0) (entries-number _ (c .before .before .before .before .before .before .before .before .before .before .before .before .before .before .before .before .before .before .before .before .before .before .before .before .before .before .before .before .before .before .before .before .before .before .before .before .before .pre .0) 0 0 (c .before .before .before .before .before .before .before .before .before .before .before .before .before .before .before .before .before .before .before .before .before .before .before .before .before .load-case .result) _ _ _ (c .before .before .before .before .before .before .before .before .before .before .before .before .before .before .before .before .before .before .before .before .before .before .before .before .before .load-case .ensures .0))) (filled-own moveRow _ _ _ _ (c .before .before .before .before .before .before .before .before .before .before .before .before .before .before .before .before .before .before .before .before .before .before .before .before .before .before .before .before .before .before .before .before .before .before .before .before .before .pre .1 .moves-zero) (c .before .before .before .before .before .before .before .before .before .before .before .before .before .before .before .before .before .before .before .before .before .before .before .before .before .load-case .ensures .1 .1 .1) (moves-number _ (c .before .before .before .before .before .before .before .before .before .before .before .before .before .before .before .before .before .before .before .before .before .before .before .before .before .before .before .before .before .before .before .before .before .before .before .before .before .pre .0) 0 0 (c .before .before .before .before .before .before .before .before .before .before .before .before .before .before .before .before .before .before .before .before .before .before .before .before .before .load-case .result) _ _ _ (c .before .before .before .before .before .before .before .before .before .before .before .before .before .before .before .before .before .before .before .before .before .before .before .before .before .load-case .ensures .0))) _ _ _ _ _ _ (c .before .before .before .before .before .before .before .before .saturate-tables .ensures)
+returns-2 c =
+    let sound = c .before .before .before .before .before .before .before .before .before .before .before .before .before .before .before .before .before .before .before .before .before .before .before .before .before .before .before .before .before .before .before .before .before .before .before .before .before .pre .0 in
+    let loaded = c .before .before .before .before .before .before .before .before .before .before .before .before .before .before .before .before .before .before .before .before .before .before .before .before .before .load-case .ensures in
+    let rules = holds-rules _ (case-in-place _ sound) (c .before .before .before .before .before .before .before .before .before .before .before .before .before .before .before .count-of .ensures .0) (c .before .before .before .before .before .before .before .before .before .before .before .before .before .before .before .before .before .put-rules .ensures) in
+    let entries-behind = filled-entries (filled-own countedRow _ _ _ _ (c .before .before .before .before .before .before .before .before .before .before .before .before .before .before .before .before .before .before .before .before .before .before .before .before .before .before .before .before .before .before .before .before .before .before .before .before .before .pre .1 .entries-zero) (loaded .1 .1 .0) (counted-number _ sound 0 0 (c .before .before .before .before .before .before .before .before .before .before .before .before .before .before .before .before .before .before .before .before .before .before .before .before .before .load-case .result) _ _ _ (loaded .0))) in
+    let moves-behind = filled-own moveRow _ _ _ _ (c .before .before .before .before .before .before .before .before .before .before .before .before .before .before .before .before .before .before .before .before .before .before .before .before .before .before .before .before .before .before .before .before .before .before .before .before .before .pre .1 .moves-zero) (loaded .1 .1 .1 .0) (moves-number _ sound 0 0 (c .before .before .before .before .before .before .before .before .before .before .before .before .before .before .before .before .before .before .before .before .before .before .before .before .before .load-case .result) _ _ _ (loaded .0)) in
+    case-ends _ sound _ _ (c .before .before .before .before .before .before .before .before .before .before .before .before .before .before .before .before .before .before .before .before .before .before .before .before .before .load-case .result) _ _ _ (loaded .0) _ _ rules (c .before .before .before .before .before .before .before .before .before .before .before .before .before .before .before .before .before .before .before .before .before .before .before .before .before .load-case .kept .1 .1 .0) (c .before .before .before .before .before .before .before .before .before .before .before .before .before .before .before .before .before .before .before .before .before .before .before .before .before .load-case .kept .1 .1 .1 .0) entries-behind moves-behind
+    _ _ _ _ _ _ (c .before .before .before .before .before .before .before .before .saturate-tables .ensures)
 
 pub saturate-case-spec : {M : Type 1} → statement M
 saturate-case-spec = tie.close (tie.spec own-fits-requires nothing-requires returns load-case-requires slice-aggregate-put-rules put-rules-requires count-of-requires slice-aggregate-saturate-tables saturate-tables-requires same-length same-length-2 same-length-3 same-length-4 same-length-5 returns-2)

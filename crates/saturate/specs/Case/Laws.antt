@@ -26,18 +26,20 @@ use Rattle.files.specs.Case.Laws.{case-placed, case-head, case-rules, case-inne
 use Rattle.automata.specs.Facts.Laws.{moveAt-facts}
 use Rattle.bytes_in.specs.Records.{recordAt}
 use Rattle.case_file.specs.Forms.{HoldsRules}
-use Rattle.services.specs.Memory.{lent, entryWidth}
+use Rattle.services.specs.Memory.{lent, entryWidth, counted}
+use Rattle.services.specs.Memory.Laws.{length-withCounts}
 use Rattle.tables.specs.declared.Table.{Table}
 use Rattle.tables.specs.Rows.{Layout, rowAt, rowsIn, putRow}
 use Rattle.tables.specs.Rows.Laws.{firstOf-list, length-rowsIn, getD-rowsIn}
 use Rattle.tables.specs.Layouts.{edgeRow, entryRow, moveRow}
 use Rattle.tables.specs.Held.{automatonOf}
+use Rattle.tables.specs.Counts.{CountsStand}
 use Rattle.tables.specs.Laws.Filled.{Filled, filled-zeros, filled-put}
 use Rattle.case_tables.specs.WrittenRows.{written}
 use Rattle.case_tables.specs.Own.{RoomForOwn}
 use Rattle.results.specs.Collecting.{ruleIn, rulesIn, RulesStand}
 use Rattle.saturation.specs.Rounding.{Standing}
-use Rattle.saturation.specs.Prepared.{StatesExist}
+use Rattle.added_results.specs.Adding.{StatesExist}
 use Rattle.saturation.specs.Running.{mostMoves, mostEntries, Given, ended, Ends}
 use Rattle.saturation.specs.Layout.{sizeRow}
 use Rattle.saturate.specs.Case.{CaseSaturated}
@@ -199,6 +201,10 @@ module _ (file : List ℕ) (sound : caseRefusal file ≡ 0) where
       pub entries-number : z .entries ≡ length (ownOf file .entries)
       entries-number = sym (length-rowsIn entryRow (z .entries) entries) ∙ ap (λ (A : Automaton). length (A .entries)) own
 
+      pub counted-number : z .entries ≡ length (counted (ownOf file))
+      unfolding counted
+      counted-number = entries-number ∙ sym (length-withCounts (ownOf file .moves) (ownOf file .J) (ownOf file .entries))
+
       pub moves-number : z .moves ≡ length (ownOf file .moves)
       moves-number = sym (length-rowsIn moveRow (z .moves) moves) ∙ ap (λ (A : Automaton). length (A .moves)) own
 
@@ -216,9 +222,9 @@ module _ (file : List ℕ) (sound : caseRefusal file ≡ 0) where
           let p : rowAt edgeRow inner i .first ≡ getD (ownOf file .inner) i noEdge .first = ap (λ (x : Edge). x .first) q in
           omega arith
 
-      pub given : 192 ≤ length inner → length entries ≡ e → length moves ≡ m → within (lent m e) (ownOf file) ≡ true → Given z inner entries moves
+      pub given : 192 ≤ length inner → length entries ≡ e → length moves ≡ m → within (lent m e) (ownOf file) ≡ true → CountsStand z entries moves → Given z inner entries moves
       unfolding lent
-      given ri le lm w =
+      given ri le lm w counts =
           let k : KeepsLimits (lent m e) (ownOf file) = within-keeps (lent m e) (ownOf file) w in
           let a : length (ownOf file .moves) ≤ min (m / 5) 1024 = k .moves-fit in
           let b : length (ownOf file .entries) ≤ e / entryWidth = k .entries-fit in
@@ -236,6 +242,7 @@ module _ (file : List ℕ) (sound : caseRefusal file ≡ 0) where
             moves-stand = record { moves-lent = omega arith };
             moves-few = omega arith;
             states-exist = subst StatesExist (sym own) (record { exists = λ i b. moveAt-facts (case-table file sound) i b .state-exists });
+            counts = counts;
           }
 
       -- ---- the end

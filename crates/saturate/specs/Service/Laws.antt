@@ -2,24 +2,27 @@
 -- Assumes nothing.
 use Prim.Native.Nat.{ℕ, _*_, _≤_}
 use mathlib.Core.Bool.{Bool, true, false}
-use mathlib.Core.Path.{_≡_, ap, ap₂, sym, _∙_}
+use mathlib.Core.Path.{_≡_, refl, ap, ap₂, sym, _∙_}
 use mathlib.Core.Option.{none, some}
 use mathlib.Core.List.{List}
 use lib.ListN.{length}
 use borrow.Author.Tests.{ne-eqb}
-use Rattle.words.specs.Lists.{every, zeros}
+use Rattle.words.specs.Lists.{each, every, zeros}
 use Rattle.automata.specs.Saturation.{Size, Saturated, saturate}
 use Rattle.files.specs.Bytes.{firstHit, testsOn}
 use Rattle.files.specs.Bytes.Laws.{numbered, firstHit-past, firstHit-stays, firstHit-testsOn, numbered-testsOn}
 use Rattle.files.specs.Case.{caseTests, caseRefusal, rulesOf, ownOf}
 use Rattle.replies.specs.declared.Saturation.{Saturation}
-use Rattle.services.specs.Memory.{padded, entryWidth, counted, moveTable, entryTable, lent}
+use Rattle.services.specs.Memory.{padded, Counted, counted, entryWords, entryWidth, moveTable, entryTable, lent}
 use Rattle.services.specs.Saturate.{Lent, saturated, tooLarge, sizeTests, saturateRefusal, saturateRefused, saturateFilled, saturateAnswer, saturateService}
 use Rattle.tables.specs.declared.Table.{Table}
 use Rattle.tables.specs.Rows.{rowsIn}
 use Rattle.tables.specs.Rows.Laws.{length-rowsIn}
-use Rattle.tables.specs.Layouts.{entryRow, moveRow}
+use Rattle.tables.specs.Layouts.{entryRow, countedRow, moveRow}
 use Rattle.tables.specs.Held.{automatonOf, EntriesStand, MovesStand}
+use Rattle.tables.specs.Counts.{CountsStand}
+use Rattle.tables.specs.Counts.Laws.{counted-rows, filled-counted}
+use Rattle.tables.specs.Laws.Exact.{move-exact, counted-exact}
 use Rattle.tables.specs.Laws.Filled.{Filled, filled-whole}
 use Rattle.saturation.specs.Rounding.{Standing}
 use Rattle.saturation.specs.Rounding.Laws.{standing-entries, standing-moves}
@@ -75,17 +78,19 @@ zero-done case moves entries moves′ entries′ code p q = λ i. theDone (theRe
 -- the moves and entries of the table, with zeros behind them
 pub filled-done : (case moves entries inner moves′ entries′ : List ℕ) (z : Table) (sizes : List Size)
     → length moves′ ≡ length moves → length entries′ ≡ length entries → z .moves * 5 ≤ length moves′ → z .entries * entryWidth ≤ length entries′
-    → Filled moveRow (z .moves) moves′ → Filled entryRow (z .entries) entries′
+    → Filled moveRow (z .moves) moves′ → Filled entryRow (z .entries) entries′ → CountsStand z entries′ moves′
     → theDone (record { code = 0; moves = z .moves; entries = z .entries }) moves′ entries′
     ≡ saturateFilled (theLent case moves entries) (record { table = automatonOf z inner entries′ moves′; sizes = sizes })
-unfolding saturateFilled moveTable entryTable
-filled-done case moves entries inner moves′ entries′ z sizes lm le hm he fm fe =
+unfolding saturateFilled moveTable entryTable counted
+filled-done case moves entries inner moves′ entries′ z sizes lm le hm he fm fe counts =
     let m : length (rowsIn moveRow (z .moves) moves′) ≡ z .moves = length-rowsIn moveRow (z .moves) moves′ in
     let e : length (rowsIn entryRow (z .entries) entries′) ≡ z .entries = length-rowsIn entryRow (z .entries) entries′ in
     let p : moves′ ≡ padded (length moves) (moveTable (automatonOf z inner entries′ moves′)) =
-    filled-whole moveRow (z .moves) moves′ hm fm ∙ ap (λ (n : ℕ). padded n (moveTable (automatonOf z inner entries′ moves′))) lm in
+    filled-whole moveRow move-exact (z .moves) moves′ hm fm ∙ ap (λ (n : ℕ). padded n (moveTable (automatonOf z inner entries′ moves′))) lm in
     let q : entries′ ≡ padded (length entries) (entryTable (automatonOf z inner entries′ moves′)) =
-    filled-whole entryRow (z .entries) entries′ he fe ∙ ap (λ (n : ℕ). padded n (entryTable (automatonOf z inner entries′ moves′))) le in
+    filled-whole countedRow counted-exact (z .entries) entries′ he (filled-counted fe)
+    ∙ ap₂ (λ (n : ℕ) (l : List Counted). padded n (each l entryWords)) le
+    (counted-rows (z .inner1) (z .entries) entries′ (rowsIn moveRow (z .moves) moves′) (rowsIn entryRow (z .entries) entries′) refl counts) in
     λ i. theDone (record { code = 0; moves = sym m i; entries = sym e i }) (p i) (q i)
 
 -- ---- the code's three ends
@@ -122,7 +127,7 @@ module _ (case moves entries : List ℕ) where
         let st : Standing z (mostMoves m) (mostEntries e (ownOf case .J)) inner entries₁ moves₁ = s .standing f in
         let es : EntriesStand z entries₁ = standing-entries z (mostMoves m) (mostEntries e (ownOf case .J)) inner entries₁ moves₁ st in
         let ms : MovesStand z moves₁ = standing-moves z (mostMoves m) (mostEntries e (ownOf case .J)) inner entries₁ moves₁ st in
-        filled-done case moves entries inner moves₁ entries₁ z (rowsIn sizeRow k sizes) a b (ms .moves-lent) (es .entries-lent) (s .moves-filled f) (s .entries-filled f)
+        filled-done case moves entries inner moves₁ entries₁ z (rowsIn sizeRow k sizes) a b (ms .moves-lent) (es .entries-lent) (s .moves-filled f) (s .entries-filled f) (st .counts)
         ∙ done-filled (theLent case moves entries) (record { table = automatonOf z inner entries₁ moves₁; sizes = rowsIn sizeRow k sizes }) (sym ec ∙ sound)
         (saturated-is ∙ ap (λ (x : Bool). ended x (automatonOf z inner entries₁ moves₁) (rowsIn sizeRow k sizes)) f)
 

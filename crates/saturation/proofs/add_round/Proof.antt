@@ -1,6 +1,8 @@
 -- `saturation::add_round` meets its contract.
 -- Assumes nothing.
 use native.Mathlib.Omega.{arith}
+use mathlib.Core.List.{[]}
+use Rattle.added_results.specs.Adding.Exist.{exist-any}
 use Rattle.saturation.specs.Rounding.Laws.{standing-entries, standing-moves, rounded-over, rounded-added}
 use borrow.Author.Needs.{needs}
 use Rattle.saturation.proofs.add_round.Statement.{statement}
@@ -41,7 +43,14 @@ returns : tie.Need-returns
 returns c = (rounded-over _ _ (c .before .before .before .before .before .before .before .before .before .before .before .before .before .before .before .before .before .before .before .before .args .z) _ _ _ _ (c .before .before .before .before .before .before .before .before .before .before .before .before .before .before .before .before .before .before .before .before .pre .0) _ _ (c .before .before .before .before .before .collect .ensures .0) (c .if1 .taken), c .before .before .before .before .before .collect .ensures .1 .1)
 
 add-results-requires : tie.Need-add-results-requires
-add-results-requires c κs = (c .before .before .before .before .before .before .before .before .before .before .before .before .before .before .before .before .before .before .before .before .before .before .before .pre .0 .growing, omega (arith, c .before .before .before .before .before .before .before .before .before .before .before .before .before .before .before .before .before .before .before .before .before .before .before .pre .0 .moves-few, c .before .before .before .before .before .before .before .before .before .before .before .before .before .before .before .before .before .before .before .before .before .before .before .pre .0 .moves-lent, c .before .before .before .if1 .left), omega (arith, c .before .before .before .before .before .before .before .before .before .before .before .before .before .before .before .before .before .before .before .before .before .before .before .pre .2, c .before .before .before .if1 .left, c .before .before .before .before .before .before .before .before .collect .kept .1 .1 .1 .1 .1 .1 .1 .1 .1 .1 .0))
+add-results-requires c κs =
+    let stands = c .before .before .before .before .before .before .before .before .before .before .before .before .before .before .before .before .before .before .before .before .before .before .before .pre .0 in (
+      stands .growing,
+      exist-any (c .before .before .before .before .before .before .before .before .before .before .before .before .before .before .before .before .before .before .before .before .before .before .before .args .z) _ [] _ _ (c .before .before .before .before .before .before .before .before .before .before .before .before .before .before .before .before .before .before .before .before .before .before .before .pre .7),
+      stands .counts,
+      omega (arith, stands .moves-few, stands .moves-lent, c .before .before .before .if1 .left),
+      omega (arith, c .before .before .before .before .before .before .before .before .before .before .before .before .before .before .before .before .before .before .before .before .before .before .before .pre .2, c .before .before .before .if1 .left, c .before .before .before .before .before .before .before .before .collect .kept .1 .1 .1 .1 .1 .1 .1 .1 .1 .1 .0),
+    )
 
 same-length-5 : tie.Need-same-length-5
 same-length-5 c = search needs
@@ -56,7 +65,9 @@ same-length-8 : tie.Need-same-length-8
 same-length-8 c = search needs
 
 returns-2 : tie.Need-returns-2
-returns-2 c = (rounded-added _ _ (c .before .before .before .before .before .before .before .before .before .before .before .before .before .before .before .before .before .before .before .before .before .before .before .before .before .before .before .before .args .z) _ _ _ _ (c .before .before .before .before .before .before .before .before .before .before .before .before .before .before .before .before .before .before .before .before .before .before .before .before .before .before .before .before .pre .0) _ _ (c .before .before .before .before .before .before .before .before .before .before .before .before .before .collect .ensures .0) _ _ _ _ (c .before .before .before .before .before .before .before .before .if1 .left) (c .before .before .before .before .add-results .ensures), c .before .before .before .before .before .before .before .before .before .before .before .before .before .collect .ensures .1 .1)
+returns-2 c =
+    let added = c .before .before .before .before .add-results .ensures in
+    (rounded-added _ _ (c .before .before .before .before .before .before .before .before .before .before .before .before .before .before .before .before .before .before .before .before .before .before .before .before .before .before .before .before .args .z) _ _ _ _ (c .before .before .before .before .before .before .before .before .before .before .before .before .before .before .before .before .before .before .before .before .before .before .before .before .before .before .before .before .pre .0) _ _ (c .before .before .before .before .before .before .before .before .before .before .before .before .before .collect .ensures .0) _ _ _ _ (c .before .before .before .before .before .before .before .before .if1 .left) (added .0) (added .1), c .before .before .before .before .before .before .before .before .before .before .before .before .before .collect .ensures .1 .1)
 
 pub add-round-spec : {M : Type 1} → statement M
 add-round-spec =

@@ -58,6 +58,7 @@ add-round-requires c κs =
       c .before .before .before .before .before .before .before .before .before .before .extend .ensures .1,
       turn .inv .3 .settled,
       turn .inv .3 .memo-before,
+      turn .inv .3 .states-exist,
     )
 
 same-length : tie.Need-same-length Inv-loop μ-loop

@@ -24,6 +24,7 @@ use Rattle.tables.specs.Layouts.{resultRow, moveRow}
 use Rattle.tables.specs.Pending.{limited, pendingIn}
 use Rattle.tables.specs.Pending.Laws.{limited-fits, limited-over, pending-fits, pending-over}
 use Rattle.tables.specs.Held.{automatonOf, EntriesStand, MovesStand}
+use Rattle.tables.specs.Counts.{CountsStand}
 use Rattle.results.specs.Collecting.{newResults}
 use Rattle.added_results.specs.Adding.{Grows, Added}
 use Rattle.saturation.specs.Rounding.{Standing, Rounded}
@@ -86,15 +87,15 @@ module _ (rules : List Rule) (inner : List ℕ) where
         }
 
     pub rounded-added : (fits : Bool) (z′ : Table) (entries′ moves′ : List ℕ) → n ≤ mostMoves - z .moves
-        → Added z mostEntries entries moves (rowsIn resultRow n pending) fits z′ entries′ moves′
+        → Added z mostEntries entries moves (rowsIn resultRow n pending) fits z′ entries′ moves′ → CountsStand z′ entries′ moves′
         → Rounded rules inner z mostMoves mostEntries entries moves fits z′ entries′ moves′
-    rounded-added fits z′ entries′ moves′ l a =
+    rounded-added fits z′ entries′ moves′ l a k =
         let b : Added z mostEntries entries moves (newResults rules (automatonOf z inner entries moves)) fits z′ entries′ moves′ =
         subst (λ (k : List Result). Added z mostEntries entries moves k fits z′ entries′ moves′) (collected-rows l) a in
         let len : length (newResults rules (automatonOf z inner entries moves)) ≡ n = sym (ap length (collected-rows l)) ∙ length-rowsIn resultRow n pending in
         record {
           grows = λ e. b .grows e;
-          standing = λ e. grown-standing fits z′ entries′ moves′ b e (omega (arith, s .moves-few));
+          standing = λ e. grown-standing fits z′ entries′ moves′ b e (omega (arith, s .moves-few)) k;
           over = λ e. inr (subst (λ (A : Automaton). mostEntries < length (A .entries)) (sym (round-is (automatonOf z inner entries moves))) (b .over e inner));
           entries-long = b .entries-long;
           moves-long = b .moves-long;
@@ -102,8 +103,8 @@ module _ (rules : List Rule) (inner : List ℕ) where
       where
         grown-standing : (fits : Bool) (z′ : Table) (entries′ moves′ : List ℕ)
             → Added z mostEntries entries moves (newResults rules (automatonOf z inner entries moves)) fits z′ entries′ moves′ → fits ≡ true
-            → z .moves + length (newResults rules (automatonOf z inner entries moves)) ≤ mostMoves → Standing z′ mostMoves mostEntries inner entries′ moves′
-        grown-standing fits z′ entries′ moves′ b e m =
+            → z .moves + length (newResults rules (automatonOf z inner entries moves)) ≤ mostMoves → CountsStand z′ entries′ moves′ → Standing z′ mostMoves mostEntries inner entries′ moves′
+        grown-standing fits z′ entries′ moves′ b e m counts =
             let g : Grows z entries moves (newResults rules (automatonOf z inner entries moves)) z′ entries′ moves′ = b .grows e in
             let more : z′ .moves ≡ z .moves + length (newResults rules (automatonOf z inner entries moves)) = g .moves-more in
             let states : z′ .inner1 ≡ z .inner1 = g .same-states in
@@ -119,4 +120,5 @@ module _ (rules : List Rule) (inner : List ℕ) where
               growing = record { entries-few = b .within e; entries-lent = omega arith; states-few = omega arith };
               moves-few = omega arith;
               moves-lent = omega arith;
+              counts = counts;
             }

@@ -73,6 +73,7 @@ module _ (rules : List Rule) (inner : List ℕ) (z : Table) (entries moves : Lis
           growing = record { entries-few = le-min (omega arith) (omega arith); entries-lent = omega arith; states-few = omega arith };
           moves-few = le-min (omega arith) d;
           moves-lent = omega arith;
+          counts = g .counts;
         };
         left = refl;
         count = omega arith;

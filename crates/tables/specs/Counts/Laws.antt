@@ -98,6 +98,13 @@ module _ (t : List ℕ) (k : ℕ) (room : k * entryWidth + entryWidth ≤ length
           ∙ ap (λ (j : ℕ). j + 1) (h .count-is i l)
           ∙ sym (count-more ms m (J + i) own)
 
+-- zeros behind the rows, by either reading of them
+pub filled-entries : {n : ℕ} {t : List ℕ} → Filled countedRow n t → Filled entryRow n t
+filled-entries f = record { behind = f .behind }
+
+pub filled-counted : {n : ℕ} {t : List ℕ} → Filled entryRow n t → Filled countedRow n t
+filled-counted f = record { behind = f .behind }
+
 -- ---- other changes
 
 module _ (J n : ℕ) (t : List ℕ) (ms : List Move) (h : CountsAre J n t ms) where
