@@ -1,8 +1,9 @@
 -- Document 01's idle programs, those that report another round, those that replay in another way, and those that take finished scripts or
--- tools' codes in another way; in Idle/Brackets.antt those that print in another way. The answer that each gives at a worked model contradicts
--- the demand's statement, read alone.
+-- tools' codes in another way; in Idle/Brackets.antt those that print in another way, in Idle/MoveCounts.antt those that count moves in another way. The
+-- answer that each gives at a worked model contradicts the demand's statement, read alone.
 -- Assumes nothing.
 pub mod Brackets
+pub mod MoveCounts
 use Prim.Native.Nat.{ℕ, _+_, _*_}
 use mathlib.Core.Bool.{false≢true}
 use mathlib.Core.Path.{_≡_, refl, ap, sym, _∙_, subst}
@@ -46,7 +47,7 @@ use Rattle.demands.specs.Finished.Proof.{finished-guides}
 use Rattle.demands.specs.Determined.{saturate-only, judge-only, run-only, replay-only}
 use Rattle.demands.specs.Instances.{inputA, unrefused-A, run-A, replayA}
 
--- ---- the inputs: model A with tables of 17 and 7 words, 10 cells and three trace words
+-- ---- the inputs: model A with tables of 17 and 11 words, 10 cells and three trace words
 
 unfoldable pub lentA : Lent
 lentA = record { case = caseA; moves = 17; entries = 11 }

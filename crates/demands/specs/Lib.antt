@@ -8,6 +8,7 @@ pub mod Demand2
 pub mod Demand3
 pub mod Replays
 pub mod Brackets
+pub mod MoveCounts
 pub mod Finished
 pub mod Rewritten
 pub mod Determined

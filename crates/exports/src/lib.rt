@@ -111,7 +111,7 @@ pub extern "C" fn analyser_listing(
     start: &[u8],
     text: &mut [u8; Limits::LISTING_TEXT],
 ) -> usize
-    ensures { λ _. ⌜ now (text .exit) ≡ padded 4280 (listingText (filesOf (now (case .entry)) (now (start .entry)))) ⌝ }
+    ensures { λ _. ⌜ now (text .exit) ≡ padded 4306 (listingText (filesOf (now (case .entry)) (now (start .entry)))) ⌝ }
     ensures long { λ r. ⌜ r ≡ length (listingText (filesOf (now (case .entry)) (now (start .entry)))) ⌝ }
 {
     listing_text::listing(case, start, text)

@@ -4,8 +4,10 @@ ghost use mathlib.Core.Path.{_≡_};
 ghost use Prim.Native.Nat.{_+_, _*_, _≤_, _<_};
 ghost use lib.ListN.{length};
 ghost use Rattle.files.specs.Start.{startsOf};
-ghost use Rattle.services.specs.Memory.{padded};
+ghost use Rattle.services.specs.Memory.{padded, entryWidth, largest};
 ghost use Rattle.services.specs.Listing.{startLine, startLines, listingText};
+ghost use Rattle.tables.specs.Rows.{rowsIn};
+ghost use Rattle.tables.specs.Layouts.{countedRow};
 ghost use Rattle.start_file.specs.Checks.{filesOf};
 ghost use Rattle.text.specs.Written.{Written};
 ghost use Rattle.sound_files.specs.Refusal.{FilesSound};
@@ -14,6 +16,20 @@ ghost use Rattle.listing_text.specs.Prepared.{TableReady};
 use limits::Limits;
 use replies::Saturation;
 use tables::Table;
+
+// The largest number of moves of an entry, among the first n.
+fn largest_count(entries: &[u64], n: usize) -> u64
+    requires { ⌜ n * entryWidth ≤ length (now entries) ⌝ }
+    ensures { λ r. ⌜ r ≡ largest (rowsIn countedRow n (now (entries .entry))) ⌝ }
+{
+    let mut i: usize = 0;
+    let mut most: u64 = 0;
+    while i < n {
+        most = numbers::larger(most, tables::count_at(entries, i));
+        i += 1;
+    }
+    most
+}
 
 // Writes the line of start n from `at` on and answers the place after it.
 fn start_line(
@@ -108,16 +124,18 @@ fn table_lines(
     k: usize,
     text: &mut [u8],
 ) -> usize
-    requires { ⌜ TableReady (now case) (now start) z (now inner) (now entries) (now moves) k (now sizes) × (4280 ≤ length (now text)) ⌝ }
+    requires { ⌜ TableReady (now case) (now start) z (now inner) (now entries) (now moves) k (now sizes) × (4306 ≤ length (now text)) ⌝ }
     ensures { λ r. ⌜ Written (now (text .entry)) 0 (listingText (filesOf (now (case .entry)) (now (start .entry)))) (now (text .exit)) r ⌝ }
-    ensures within { λ r. ⌜ r ≤ 4280 ⌝ }
+    ensures within { λ r. ⌜ r ≤ 4306 ⌝ }
 {
     let reply = Saturation {
         code: 0,
         moves: z.moves as u64,
         entries: z.entries as u64,
     };
-    let end = text::put_size_line(text, 0, reply);
+    let after_sizes = text::put_size_line(text, 0, reply);
+    let most = largest_count(entries, z.entries);
+    let end = text::put_most_line(text, after_sizes, most);
     let mut rounds = [0u16; Limits::START_CELLS * Limits::STATES1];
     sound_files::start_rounds(z, inner, entries, moves, sizes, k, start, &mut rounds);
     start_lines(
@@ -137,9 +155,9 @@ fn table_lines(
 
 // Writes the listing of sound files and answers its length.
 fn sound_listing(case: &[u8], start: &[u8], text: &mut [u8]) -> usize
-    requires { ⌜ FilesSound (now case) (now start) × (4280 ≤ length (now text)) ⌝ }
+    requires { ⌜ FilesSound (now case) (now start) × (4306 ≤ length (now text)) ⌝ }
     ensures { λ r. ⌜ Written (now (text .entry)) 0 (listingText (filesOf (now (case .entry)) (now (start .entry)))) (now (text .exit)) r ⌝ }
-    ensures within { λ r. ⌜ r ≤ 4280 ⌝ }
+    ensures within { λ r. ⌜ r ≤ 4306 ⌝ }
 {
     let mut moves = [0u64; Limits::MOVES * Limits::MOVE_WORDS];
     let mut entries = [0u64; Limits::STATES1 * Limits::ENTRY_WORDS];
@@ -164,9 +182,9 @@ fn sound_listing(case: &[u8], start: &[u8], text: &mut [u8]) -> usize
 
 // Writes the listing of a case file and a start file, zeros behind it, and answers its length.
 pub fn listing(case: &[u8], start: &[u8], text: &mut [u8; Limits::LISTING_TEXT]) -> usize
-    ensures { λ _. ⌜ now (text .exit) ≡ padded 4280 (listingText (filesOf (now (case .entry)) (now (start .entry)))) ⌝ }
+    ensures { λ _. ⌜ now (text .exit) ≡ padded 4306 (listingText (filesOf (now (case .entry)) (now (start .entry)))) ⌝ }
     ensures long { λ r. ⌜ r ≡ length (listingText (filesOf (now (case .entry)) (now (start .entry)))) ⌝ }
-    ensures within { λ r. ⌜ r ≤ 4280 ⌝ }
+    ensures within { λ r. ⌜ r ≤ 4306 ⌝ }
 {
     *text = [0u8; Limits::LISTING_TEXT];
     let refusal = sound_files::files_refusal(case, start);

@@ -8,6 +8,7 @@ ghost use Rattle.services.specs.Memory.{lent};
 ghost use Rattle.services.specs.Saturate.{saturateService};
 ghost use Rattle.demands.specs.Demand1.{SaturateStates};
 ghost use Rattle.demands.specs.Demand2.{SaturateSize};
+ghost use Rattle.demands.specs.MoveCounts.{CountsWalked};
 ghost use Rattle.saturate.specs.Case.{Working, CaseSaturated};
 ghost use Rattle.saturate.specs.Service.{theLent, theDone, theRefused};
 use limits::Limits;
@@ -79,11 +80,13 @@ fn refused(code: u64) -> Saturation
     }
 }
 
-// Fills the move table and the entry table with the saturated table of a case. Demands 1 and 2 hold of what it leaves.
+// Fills the move table and the entry table with the saturated table of a case. Demands 1 and 2 hold of what it leaves, and the third word of each entry
+// is the count of its moves by walking.
 pub fn saturate(case: &[u8], moves: &mut [u64], entries: &mut [u64]) -> Saturation
     ensures { λ r. ⌜ theDone r (now (moves .exit)) (now (entries .exit)) ≡ saturateService (theLent (now (case .entry)) (now (moves .entry)) (now (entries .entry))) ⌝ }
     ensures demand1 { λ r. ⌜ SaturateStates (theLent (now (case .entry)) (now (moves .entry)) (now (entries .entry))) (theDone r (now (moves .exit)) (now (entries .exit))) ⌝ }
     ensures demand2 { λ r. ⌜ SaturateSize (theLent (now (case .entry)) (now (moves .entry)) (now (entries .entry))) (r .code) ⌝ }
+    ensures counted { λ r. ⌜ (r .code ≡ 0 → CountsWalked (theLent (now (case .entry)) (now (moves .entry)) (now (entries .entry))) (theDone r (now (moves .exit)) (now (entries .exit)))) ⌝ }
 {
     zeroing::zero_u64(moves);
     zeroing::zero_u64(entries);

@@ -7,7 +7,7 @@ use replies::Saturation;
 ghost use mathlib.Core.List.{[], _∷_};
 ghost use Prim.Native.Nat.{_+_, _%_, _<_, _≤_};
 ghost use lib.ListN.{length};
-ghost use Rattle.services.specs.Listing.{decimal, sizeLine, countsText, haltText, replyText, replyLine, refusedText};
+ghost use Rattle.services.specs.Listing.{decimal, sizeLine, mostLine, countsText, haltText, replyText, replyLine, refusedText};
 ghost use Rattle.text.specs.Written.{Written};
 
 // These bytes.
@@ -118,6 +118,17 @@ pub fn put_size_line(out: &mut [u8], at: usize, r: Saturation) -> usize
     let entries = put_text(out, after_moves, b" entries ");
     let after_entries = put_decimal(out, entries, r.entries);
     put_text(out, after_entries, b"\n")
+}
+
+// `most 1`: at most 26 bytes.
+pub fn put_most_line(out: &mut [u8], at: usize, n: u64) -> usize
+    requires { ⌜ at + 26 ≤ length (now out) ⌝ }
+    ensures { λ e. ⌜ Written (now (out .entry)) at (mostLine n) (now (out .exit)) e ⌝ }
+    ensures within { λ e. ⌜ e ≤ at + 26 ⌝ }
+{
+    let number = put_text(out, at, b"most ");
+    let after_number = put_decimal(out, number, n);
+    put_text(out, after_number, b"\n")
 }
 
 // `start 0 yes 2 2 9`: at most 66 bytes.

@@ -2,7 +2,7 @@
 -- Assumes nothing.
 use Prim.Native.Nat.{ℕ, _-_, _*_, _<_}
 use mathlib.Core.Bool.{true, false}
-use mathlib.Core.Path.{_≡_, ap, ap₂, sym, _∙_}
+use mathlib.Core.Path.{_≡_, refl, ap, ap₂, sym, _∙_}
 use mathlib.Core.Option.{none}
 use mathlib.Core.List.{List, _++_}
 use native.Mathlib.Omega.{arith}
@@ -15,14 +15,16 @@ use Rattle.replies.specs.declared.Saturation.{Saturation}
 use Rattle.replies.specs.declared.Reply.{Reply}
 use Rattle.replies.specs.Numbers.{answerWord}
 use Rattle.files.specs.Start.{Files, startsOf, startAt}
-use Rattle.services.specs.Memory.{entryWidth}
+use Rattle.services.specs.Memory.{entryWidth, counted, largest}
 use Rattle.services.specs.Saturate.{saturated, saturateFilled, saturateService}
 use Rattle.services.specs.Judge.{judgeLent, judgeLeft, judgeService}
 use Rattle.services.specs.Guide.{guideLent, guideRun, guideLeft, cellWords}
-use Rattle.services.specs.Listing.{listingJudge, listingGuide, sizeLine, replyLine, roundWon, startLine, startLines, refusedText, judgedText, listingText}
+use Rattle.services.specs.Listing.{listingLent, listingJudge, listingGuide, sizeLine, largestCount, mostLine, replyLine, roundWon, startLine, startLines, refusedText, judgedText, listingText}
 use Rattle.tables.specs.declared.Table.{Table}
+use Rattle.tables.specs.Rows.{rowsIn}
 use Rattle.tables.specs.Rows.Laws.{length-rowsIn}
-use Rattle.tables.specs.Layouts.{entryRow, moveRow}
+use Rattle.tables.specs.Layouts.{entryRow, countedRow, moveRow}
+use Rattle.tables.specs.Counts.Laws.{counted-rows}
 use Rattle.start_file.specs.Checks.{filesOf}
 use Rattle.saturate.specs.Service.Laws.{done-filled}
 use Rattle.text.specs.Laws.Lines.{startLine-is}
@@ -80,11 +82,19 @@ module _ (case start : List ℕ) where
         ap (λ d. d .reply) (sym (done-filled (lentOf case (1024 * 5) (64 * entryWidth)) T (prepared .sound .sound-case) (prepared .table-is)))
         ∙ (λ i. record { code = 0; moves = length-rowsIn moveRow (z .moves) moves i; entries = length-rowsIn entryRow (z .entries) entries i })
 
-    pub listing-judged : sizeLine (record { code = 0; moves = z .moves; entries = z .entries }) ++ startLines files 0 (length (startsOf start))
+    -- the largest of the counts that stand in the rows
+    most-is : largest (rowsIn countedRow (z .entries) entries) ≡ largestCount (lentOf case (1024 * 5) (64 * entryWidth))
+    unfolding largestCount counted
+    most-is =
+        ap largest (counted-rows (z .inner1) (z .entries) entries (rowsIn moveRow (z .moves) moves) (rowsIn entryRow (z .entries) entries) refl (prepared .counts))
+        ∙ sym (rw (largestCount, prepared .table-is))
+
+    pub listing-judged : {n : ℕ} → n ≡ largest (rowsIn countedRow (z .entries) entries)
+        → sizeLine (record { code = 0; moves = z .moves; entries = z .entries }) ++ mostLine n ++ startLines files 0 (length (startsOf start))
         ≡ listingText files
-    unfolding listingJudge judgeLeft judgeLent judgedText
-    listing-judged =
-        ap (λ (r : Saturation). sizeLine r ++ startLines files 0 (length (startsOf start))) (sym sizes-are)
+    unfolding listingLent listingJudge judgeLeft judgeLent judgedText
+    listing-judged is =
+        ap₂ (λ (r : Saturation) (k : ℕ). sizeLine r ++ mostLine k ++ startLines files 0 (length (startsOf start))) (sym sizes-are) (is ∙ most-is)
         ∙ sym (text-judged files (ap (λ d. d .code) (judge.answers-judged (listingJudge files) (prepared .sound) (starts-few (prepared .sound)) (prepared .table-is))))
 
     -- the round of a start, by the words of the cells

@@ -18,4 +18,4 @@ use Rattle.listing_text.specs.Prepared.{TableReady}
 pub prepared : {case start : List ℕ} {fits : Bool} {z : Table} {k : ℕ} {inner entries moves sizes : List ℕ} → FilesSound case start
     → CaseSaturated case (1024 * 5) (64 * entryWidth) fits z k inner entries moves sizes → fits ≡ true → length inner ≡ 192 → length sizes ≡ 2050
     → TableReady case start z inner entries moves k sizes
-prepared s C f i l = record { sound = s; tables = tables-stand C (s .sound-case) f i (omega arith); table-is = table-there C f }
+prepared s C f i l = record { sound = s; tables = tables-stand C (s .sound-case) f i (omega arith); counts = C .standing f .counts; table-is = table-there C f }

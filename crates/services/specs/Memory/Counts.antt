@@ -1,6 +1,6 @@
 -- What holds of the numbers of moves: one move more, rows by number, and the largest count.
 -- Assumes nothing.
-use Prim.Native.Nat.{ℕ, zero, suc, _+_, _≤_, _<_, max}
+use Prim.Native.Nat.{ℕ, zero, suc, _+_, _*_, _≤_, _<_, max}
 use mathlib.Core.Path.{_≡_, refl, ap, sym, _∙_}
 use mathlib.Core.Logic.{_⊎_, inl, inr}
 use mathlib.Core.List.{List, [], _∷_, _++_}
@@ -9,11 +9,11 @@ use native.Mathlib.Omega.{arith}
 use lib.ListN.{length, getD, length-append}
 use lib.Dec.{eqb, leb}
 use borrow.Author.Tests.{eq-eqb, ne-eqb, leb-true, leb-false}
-use Rattle.words.specs.Lists.{only}
+use Rattle.words.specs.Lists.{each, only}
 use Rattle.words.specs.Lists.Laws.{only-yes, only-no, only-append}
 use Rattle.words.specs.Laws.Tests.{by-test}
 use Rattle.automata.specs.Automaton.{Move, Entry, noMove}
-use Rattle.services.specs.Memory.{moveCount, Counted, withCounts, largest}
+use Rattle.services.specs.Memory.{moveCount, Counted, withCounts, entryWords, largest}
 
 -- ---- the count by walking
 
@@ -63,6 +63,15 @@ withCounts-at ms r (x ∷ es) zero c e h = ap (λ (k : ℕ). record { entry = x;
 withCounts-at ms r (x ∷ es) (suc i) c e h =
     withCounts-at ms (suc r) es i c e (omega arith)
     ∙ ap (λ (k : ℕ). record { entry = getD es i e; moves = moveCount ms k }) (suc-add r i ∙ sym (add-suc r i))
+
+-- the third word of a record
+pub third-word : (cs : List Counted) (i : ℕ) (d : Counted) → i < length cs → getD (each cs entryWords) (i * 3 + 2) 0 ≡ getD cs i d .moves
+unfolding each entryWords
+third-word [] i d h = absurd (omega arith)
+third-word (c ∷ cs) zero d h = refl
+third-word (c ∷ cs) (suc i) d h =
+    let e : suc i * 3 + 2 ≡ suc (suc (suc (i * 3 + 2))) = omega arith in
+    ap (λ (k : ℕ). getD (each (c ∷ cs) entryWords) k 0) e ∙ third-word cs i d (omega arith)
 
 -- ---- the largest count
 
