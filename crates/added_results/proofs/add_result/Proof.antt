@@ -1,6 +1,5 @@
 -- `added_results::add_result` meets its contract.
 -- Assumes nothing.
-use native.Mathlib.Omega.{arith}
 use Rattle.tables.specs.Records.{asResult}
 use Rattle.added_results.specs.Adding.Laws.{added-over, counts-over, row-there, count-small, added-one, counts-one}
 use borrow.Author.Needs.{needs}

@@ -25,7 +25,7 @@ result-at-requires : tie.Need-result-at-requires Inv-loop μ-loop
 result-at-requires c κs = omega (arith, c .before .before .before .before .before .before .before .pre .4)
 
 add-result-requires : tie.Need-add-result-requires Inv-loop μ-loop
-add-result-requires c κs = 
+add-result-requires c κs =
     let z = c .before .before .before .before .before .before .before .before .args .z in
     let so-far = c .before .before .before .before .loop .inv .0 in (
       still-growing z _ _ _ _ _ _ _ _ _ so-far (c .before .before .before .before .before .before .before .before .pre .0),
@@ -41,7 +41,7 @@ same-length-2 : tie.Need-same-length-2 Inv-loop μ-loop
 same-length-2 c = search needs
 
 returns : tie.Need-returns Inv-loop μ-loop
-returns c = 
+returns c =
     let z = c .before .before .before .before .before .before .before .before .before .before .before .before .before .before .before .args .z in
     let over = not-true (c .before .before .before .before .before .before .add-result .result .fits) (c .if1 .taken) in
     (rows-over z _ _ _ _ _ _ _ _ _ (c .before .before .before .before .before .before .before .before .before .before .before .loop .inv .0) _ (c .before .before .before .before .before .before .before .before .before .before .loop-test .taken) (c .before .before .before .before .before .before .before .result-at .ensures) _ _ _ _ (c .before .before .before .before .before .before .add-result .ensures .0) over, c .before .before .before .before .before .before .add-result .ensures .1)
@@ -53,7 +53,7 @@ loop-less : tie.Need-loop-less Inv-loop μ-loop
 loop-less c = search needs
 
 loop-again : tie.Need-loop-again Inv-loop μ-loop
-loop-again c = 
+loop-again c =
     let z = c .before .before .before .before .before .before .before .before .before .before .before .before .before .before .before .before .args .z in
     let fits = not-false (c .before .before .before .before .before .before .before .add-result .result .fits) (c .before .if1 .left) in
     (rows-more z _ _ _ _ _ _ _ _ _ (c .before .before .before .before .before .before .before .before .before .before .before .before .loop .inv .0) _ (c .before .before .before .before .before .before .before .before .before .before .before .loop-test .taken) (c .before .before .before .before .before .before .before .before .result-at .ensures) _ _ _ _ (c .before .before .before .before .before .before .before .add-result .ensures .0) fits, c .before .before .before .before .before .before .before .add-result .ensures .1)

@@ -1,7 +1,6 @@
 -- `case_tables::count_move` meets its contract.
 -- Assumes nothing.
 use mathlib.Core.Path.{_∙_}
-use native.Mathlib.Omega.{arith}
 use Rattle.case_tables.specs.Counting.Laws.{counted-inner, counted-past, counted-there}
 use borrow.Author.Needs.{needs}
 use Rattle.case_tables.proofs.count_move.Statement.{statement}

@@ -1,7 +1,6 @@
 -- A move more is counted with its entry, and with no other; what all moves leave is the entries with their numbers of moves.
 -- Assumes nothing.
 use Prim.Native.Nat.{ℕ, suc, _+_, _-_, _*_, _^_, _≤_, _<_}
-use mathlib.Core.Bool.{true, false, _&&_}
 use mathlib.Core.Path.{_≡_, refl, ap, sym, _∙_, subst}
 use mathlib.Core.List.{List, [], _∷_, _++_, map}
 use native.Mathlib.Omega.{arith}
@@ -26,7 +25,6 @@ use Rattle.bytes_in.specs.Records.{recordAt}
 use Rattle.bytes_in.specs.Records.Laws.{map-more}
 use Rattle.case_tables.specs.WrittenRows.{written}
 use Rattle.case_tables.specs.WrittenRows.Laws.{rows-written, written-whole}
-
 use Rattle.case_tables.specs.Counting.{moveCounted, CountedSo}
 
 -- ---- by what the code tests

@@ -4,7 +4,6 @@
 use Prim.Native.Nat.{ℕ}
 use mathlib.Core.Path.{_≡_, refl, ap, sym, _∙_}
 use mathlib.Core.List.{List, [], _∷_}
-use lib.ListN.{getD}
 use borrow.Author.Tests.{eqb-false}
 use Rattle.services.specs.Saturate.{Lent, SaturateDone, saturateService}
 use Rattle.models.specs.Computing.{computed}

@@ -9,7 +9,7 @@ use native.Mathlib.Omega.{arith}
 use lib.ListN.{length, getD}
 use lib.Dec.{eqb}
 use borrow.Author.Tests.{eqb-false}
-use Rattle.words.specs.Lists.{each, only, zeros}
+use Rattle.words.specs.Lists.{each, only}
 use Rattle.words.specs.Lists.Laws.{only-yes, only-no}
 use Rattle.words.specs.Laws.Tests.{by-test}
 use Rattle.automata.specs.Automaton.{Automaton, Move, noEntry}

@@ -3,20 +3,16 @@
 use Prim.Native.Nat.{ℕ, _+_, _≤_, _<_}
 use mathlib.Core.Bool.{true, false, false≢true}
 use mathlib.Core.Path.{_≡_, refl, ap₂, sym, _∙_, subst}
-use mathlib.Core.Logic.{_⊎_, ⊎-elim}
-use mathlib.Core.List.{List, [], _∷_, List·Memᴰ}
+use mathlib.Core.List.{List, List·Memᴰ}
 use native.Mathlib.Omega.{arith}
 use lib.ListN.{length}
-use Rattle.words.specs.Lists.Laws.{last-or-before}
 use Rattle.stacks.specs.System.{Rule}
 use Rattle.automata.specs.Automaton.{Automaton, Move, noMove, moveAt}
 use Rattle.automata.specs.Facts.{states, Extends}
 use Rattle.automata.specs.Facts.Laws.{moveAt-kept, entries-grow}
-use Rattle.automata.specs.Derivation.{Result}
-use Rattle.automata.specs.Saturation.{add, addAll, extend, results, upTo, sizeOf, withEntry, held}
+use Rattle.automata.specs.Saturation.{extend, results, upTo, sizeOf, held}
 use Rattle.automata.specs.Saturation.Laws.{extends-upTo}
-use Rattle.rounds.specs.Entries.{entryNumber-below, withEntry-grows}
-use Rattle.rounds.specs.Added.{newMove, addAll-extends, extend-holds}
+use Rattle.rounds.specs.Added.{addAll-extends, extend-holds}
 use Rattle.tables.specs.declared.Table.{Table}
 use Rattle.tables.specs.Rows.{rowAt, rowsIn}
 use Rattle.tables.specs.Rows.Laws.{length-rowsIn, getD-rowsIn}

@@ -4,11 +4,10 @@ use Prim.Native.Nat.{ℕ, suc, _+_, _-_, _*_, _≤_, _<_}
 use mathlib.Core.Path.{_≡_, refl, ap, ap₂, sym, _∙_, subst}
 use mathlib.Core.Logic.{_⊎_, inl, inr}
 use mathlib.Core.List.{List, [], _∷_, _++_}
-use native.Mathlib.Nat.{add-zero}
 use native.Mathlib.Omega.{arith}
 use native.Mathlib.Numerals.{towards-suc}
 use lib.ListN.{length, getD, set, drop}
-use lib.Seq.{sets, set-getD}
+use lib.Seq.{set-getD}
 use Rattle.words.specs.Lists.{zeros}
 use Rattle.words.specs.Order.Laws.{number-cases}
 use Rattle.automata.specs.Automaton.{Move, Entry, noEntry}
