@@ -3,7 +3,7 @@
  * `rt staticlib exports` writes. Documents 01 and 02 (requests 1 to 7) say what
  * the five services do; this page says the same for a caller in C. crates/exports
  * proves each call equal to its definition; what this page says of numbers, words,
- * rounds, runs and texts are the theorems of crates/demands about these definitions
+ * counts, rounds, runs and texts are the theorems of crates/demands about these definitions
  * (docs/PROMISES.md).
  *
  * What is asked of the caller: each pointer points to as many elements as the

@@ -31,7 +31,8 @@ use Rattle.demands.specs.FullRun.{fullTrace}
 
 -- ---- saturate
 
--- "Saturate fills a move table .. and an entry table ..; only whole records count, the rest is zero", with its numbers of moves and entries.
+-- "Saturate fills a move table .. and an entry table ..; only whole records count, the rest is zero", with its numbers of moves and entries. The table of
+-- entries has "the count as a third word of the entry".
 pub record Filled (x : Lent) (d : SaturateDone) : Type 0 where
   pub table : Automaton
   pub saturated : SaturatedTable (x .case) table

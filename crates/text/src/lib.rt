@@ -4,10 +4,10 @@ use replies::Counts;
 use replies::Halt;
 use replies::Reply;
 use replies::Saturation;
-ghost use mathlib.Core.List.{[], _∷_};
+ghost use mathlib.Core.List.{[], _∷_, _++_};
 ghost use Prim.Native.Nat.{_+_, _%_, _<_, _≤_};
 ghost use lib.ListN.{length};
-ghost use Rattle.services.specs.Listing.{decimal, sizeLine, mostLine, countsText, haltText, replyText, replyLine, refusedText};
+ghost use Rattle.services.specs.Listing.{ascii, decimal, sizeLine, mostLine, countsText, haltText, replyText, replyLine, refusedText};
 ghost use Rattle.text.specs.Written.{Written};
 
 // These bytes.
@@ -107,6 +107,17 @@ fn put_reply(out: &mut [u8], at: usize, round: u64, reply: Reply) -> usize
 
 // ---- lines
 
+// These bytes, a number and a line end: at most 21 bytes more.
+fn put_number_line(out: &mut [u8], at: usize, s: &[u8], n: u64) -> usize
+    requires { ⌜ at + length (now s) + 21 ≤ length (now out) ⌝ }
+    ensures { λ e. ⌜ Written (now (out .entry)) at (now (s .entry) ++ decimal n ++ ascii "\n") (now (out .exit)) e ⌝ }
+    ensures within { λ e. ⌜ e ≤ at + length (now (s .entry)) + 21 ⌝ }
+{
+    let number = put_text(out, at, s);
+    let after_number = put_decimal(out, number, n);
+    put_text(out, after_number, b"\n")
+}
+
 // `moves 3 entries 3`: at most 56 bytes.
 pub fn put_size_line(out: &mut [u8], at: usize, r: Saturation) -> usize
     requires { ⌜ at + 56 ≤ length (now out) ⌝ }
@@ -126,9 +137,7 @@ pub fn put_most_line(out: &mut [u8], at: usize, n: u64) -> usize
     ensures { λ e. ⌜ Written (now (out .entry)) at (mostLine n) (now (out .exit)) e ⌝ }
     ensures within { λ e. ⌜ e ≤ at + 26 ⌝ }
 {
-    let number = put_text(out, at, b"most ");
-    let after_number = put_decimal(out, number, n);
-    put_text(out, after_number, b"\n")
+    put_number_line(out, at, b"most ", n)
 }
 
 // `start 0 yes 2 2 9`: at most 66 bytes.
@@ -149,7 +158,5 @@ pub fn put_refused(out: &mut [u8], at: usize, n: u64) -> usize
     ensures { λ e. ⌜ Written (now (out .entry)) at (refusedText n) (now (out .exit)) e ⌝ }
     ensures within { λ e. ⌜ e ≤ at + 29 ⌝ }
 {
-    let number = put_text(out, at, b"refused ");
-    let after_number = put_decimal(out, number, n);
-    put_text(out, after_number, b"\n")
+    put_number_line(out, at, b"refused ", n)
 }

@@ -11,7 +11,7 @@ use lib.ListN.{length, getD, length-map, List·getD-map}
 use lib.Dec.{leb, ltb}
 use borrow.Author.Tests.{leb-true, leb-false}
 use Rattle.words.specs.Lists.{only, zeros}
-use Rattle.words.specs.Lists.Laws.{getD-in, only-yes, only-no}
+use Rattle.words.specs.Lists.Laws.{getD-in, length-only}
 use Rattle.words.specs.Laws.Tests.{by-test}
 use Rattle.words.specs.Order.{insert, sorted}
 use Rattle.words.specs.Order.Laws.{by-place, insert-before, insert-after, insert-held}
@@ -62,13 +62,6 @@ module _ {A : Type 0} (key : A → List ℕ) where
       let a : length (sorted key l) ≤ length l = length-sorted l in
       let b : length (insert key x (sorted key l)) ≤ suc (length (sorted key l)) = length-insert x (sorted key l) in
       omega arith
-
-length-only : {A : Type 0} (test : A → Bool) (l : List A) → length (only test l) ≤ length l
-unfolding only
-length-only test [] = omega arith
-length-only test (x ∷ l) = by-test (test x)
-    (λ e. let a : length (only test l) ≤ length l = length-only test l in rw (only-yes test x l e) (omega arith))
-    (λ e. let a : length (only test l) ≤ length l = length-only test l in rw (only-no test x l e) (omega arith))
 
 -- ---- tables that were written
 

@@ -10,10 +10,10 @@ use lib.ListN.{length, getD, length-append}
 use lib.Dec.{eqb, leb}
 use borrow.Author.Tests.{eq-eqb, ne-eqb, leb-true, leb-false}
 use Rattle.words.specs.Lists.{each, only}
-use Rattle.words.specs.Lists.Laws.{only-yes, only-no, only-append}
+use Rattle.words.specs.Lists.Laws.{only-yes, only-no, only-append, length-only}
 use Rattle.words.specs.Laws.Tests.{by-test}
 use Rattle.automata.specs.Automaton.{Move, Entry, noMove}
-use Rattle.services.specs.Memory.{moveCount, Counted, withCounts, entryWords, largest}
+use Rattle.services.specs.Memory.{moveCount, Counted, withCounts, entryWords, entryWidth, largest}
 
 -- ---- the count by walking
 
@@ -37,13 +37,8 @@ count-same ms m r d =
     ∙ add-zero (length (only (λ (x : Move). eqb (x .state) r) ms))
 
 pub count-few : (ms : List Move) (r : ℕ) → moveCount ms r ≤ length ms
-unfolding moveCount only
-count-few [] r = omega arith
-count-few (m ∷ ms) r =
-    let k : length (only (λ (x : Move). eqb (x .state) r) ms) ≤ length ms = count-few ms r in
-    by-test (eqb (m .state) r)
-    (λ e. rw (only-yes (λ (x : Move). eqb (x .state) r) m ms e) (omega arith))
-    (λ e. rw (only-no (λ (x : Move). eqb (x .state) r) m ms e) (omega arith))
+unfolding moveCount
+count-few ms r = length-only (λ (x : Move). eqb (x .state) r) ms
 
 -- no move of the state
 pub count-none : (ms : List Move) (r : ℕ) → ((i : ℕ) → i < length ms → getD ms i noMove .state ≡ r → ⊥) → moveCount ms r ≡ 0
@@ -65,12 +60,12 @@ withCounts-at ms r (x ∷ es) (suc i) c e h =
     ∙ ap (λ (k : ℕ). record { entry = getD es i e; moves = moveCount ms k }) (suc-add r i ∙ sym (add-suc r i))
 
 -- the third word of a record
-pub third-word : (cs : List Counted) (i : ℕ) (d : Counted) → i < length cs → getD (each cs entryWords) (i * 3 + 2) 0 ≡ getD cs i d .moves
+pub third-word : (cs : List Counted) (i : ℕ) (d : Counted) → i < length cs → getD (each cs entryWords) (i * entryWidth + 2) 0 ≡ getD cs i d .moves
 unfolding each entryWords
 third-word [] i d h = absurd (omega arith)
 third-word (c ∷ cs) zero d h = refl
 third-word (c ∷ cs) (suc i) d h =
-    let e : suc i * 3 + 2 ≡ suc (suc (suc (i * 3 + 2))) = omega arith in
+    let e : suc i * entryWidth + 2 ≡ suc (suc (suc (i * entryWidth + 2))) = omega arith in
     ap (λ (k : ℕ). getD (each (c ∷ cs) entryWords) k 0) e ∙ third-word cs i d (omega arith)
 
 -- ---- the largest count

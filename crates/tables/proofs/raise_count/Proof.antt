@@ -2,6 +2,7 @@
 -- Assumes nothing.
 use Prim.Native.Nat.{_+_, _*_, _<_, _^_}
 use lib.ListN.{getD}
+use Rattle.services.specs.Memory.{entryWidth}
 use Rattle.tables.specs.Rows.{rowAt}
 use Rattle.tables.specs.Counts.Laws.{raised-word}
 use borrow.Author.Needs.{needs}
@@ -23,7 +24,7 @@ slice-read-t c = search needs
 add-t : tie.Need-add-t
 unfolding rowAt
 add-t c =
-    let small : getD (c .before .args .t .now) (c .before .args .i * 3 + 2) 0 + 1 < 2 ^ 64 = c .before .pre .1 in
+    let small : getD (c .before .args .t .now) (c .before .args .i * entryWidth + 2) 0 + 1 < 2 ^ 64 = c .before .pre .1 in
     search needs
 
 slice-write-t : tie.Need-slice-write-t

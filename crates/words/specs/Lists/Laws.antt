@@ -105,6 +105,13 @@ module _ {A : Type 0} where
   unfolding only
   only-no test x xs e = rw (only, e)
 
+  pub length-only : (test : A → Bool) (l : List A) → length (only test l) ≤ length l
+  unfolding only
+  length-only test [] = omega arith
+  length-only test (x ∷ l) = by-test (test x)
+      (λ e. let a : length (only test l) ≤ length l = length-only test l in rw (only-yes test x l e) (omega arith))
+      (λ e. let a : length (only test l) ≤ length l = length-only test l in rw (only-no test x l e) (omega arith))
+
   pub only-each : (test : A → Bool) (l : List A) → only test l ≡ each l (λ x. when (test x) (x ∷ []))
   unfolding only each when
   only-each test [] = refl
