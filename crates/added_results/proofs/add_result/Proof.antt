@@ -1,5 +1,8 @@
 -- `added_results::add_result` meets its contract.
 -- Assumes nothing.
+use Prim.Native.Nat.{_+_}
+use native.Mathlib.Nat.{le-max-right}
+use native.Mathlib.Omega.{arith}
 use Rattle.tables.specs.Records.{asResult}
 use Rattle.added_results.specs.Adding.Laws.{added-over, counts-over, row-there, count-small, added-one, counts-one}
 use borrow.Author.Needs.{needs}
@@ -28,11 +31,15 @@ put-move-requires c κs = search needs
 
 raise-count-requires : tie.Need-raise-count-requires
 raise-count-requires c κs =
+    let z = c .before .before .before .before .before .before .before .before .before .before .before .before .before .args .z in
     let entered = c .before .before .before .before .before .before .before .before .before .enter .ensures in
     let few = c .before .before .before .before .before .before .before .before .before .before .before .before .before .pre .0 .entries-few in
     let below = c .before .before .before .before .before .before .if1 .left in
-    let small = count-small (c .before .before .before .before .before .before .before .before .before .before .before .before .before .args .z) _ _ (c .before .before .before .before .before .before .before .before .before .before .before .before .before .args .moves .now) (asResult (c .before .before .before .before .before .before .before .before .before .before .before .before .before .args .x)) _ _ entered few below (c .before .before .before .before .before .before .before .before .before .before .before .before .before .pre .1) (c .before .before .before .before .before .before .before .before .before .before .before .before .before .pre .2) in
-    (row-there (c .before .before .before .before .before .before .before .before .before .before .before .before .before .args .z) _ _ (c .before .before .before .before .before .before .before .before .before .before .before .before .before .args .moves .now) (asResult (c .before .before .before .before .before .before .before .before .before .before .before .before .before .args .x)) _ _ entered few below (c .before .before .before .before .before .before .before .before .before .before .before .before .before .pre .0 .entries-lent), search needs)
+    let there = row-there z _ _ (c .before .before .before .before .before .before .before .before .before .before .before .before .before .args .moves .now) (asResult (c .before .before .before .before .before .before .before .before .before .before .before .before .before .args .x)) _ _ entered few below (c .before .before .before .before .before .before .before .before .before .before .before .before .before .pre .0 .entries-lent) in
+    let above = le-max-right (z .entries) (c .before .before .before .before .before .before .before .before .before .enter .result + 1) in (
+      omega (arith, there),
+      count-small z _ _ (c .before .before .before .before .before .before .before .before .before .before .before .before .before .args .moves .now) (asResult (c .before .before .before .before .before .before .before .before .before .before .before .before .before .args .x)) _ _ entered few below (c .before .before .before .before .before .before .before .before .before .before .before .before .before .pre .1) (c .before .before .before .before .before .before .before .before .before .before .before .before .before .pre .2) (search needs) _ (omega (arith, above)),
+    )
 
 add-larger-2 : tie.Need-add-larger-2
 add-larger-2 c = search needs

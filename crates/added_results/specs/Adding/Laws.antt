@@ -1,6 +1,6 @@
 -- What holds of results added to tables.
 -- Assumes nothing.
-use Prim.Native.Nat.{ℕ, suc, _+_, _*_, _≤_, _<_, max}
+use Prim.Native.Nat.{ℕ, suc, _+_, _*_, _^_, _≤_, _<_, max}
 use mathlib.Core.Bool.{Bool, true, false, true≢false, false≢true}
 use mathlib.Core.Path.{_≡_, refl, ap, ap₂, sym, _∙_, subst, subst₂}
 use mathlib.Core.List.{List, [], _∷_, _++_}
@@ -136,12 +136,14 @@ module _ (z : Table) (most : ℕ) (entries moves : List ℕ) (x : Result) (i : �
       let len : length (rowsIn entryRow (z .entries) entries) ≡ z .entries = length-rowsIn entryRow (z .entries) entries in
       h .counts l (z .inner1) (rowsIn moveRow (z .moves) moves) (none-past (automatonOf z [] entries moves) (z .inner1 + z .entries) s (omega arith)) c
 
-  -- and the count of this one can be raised
-  pub count-small : i < most → StatesExist (automatonOf z [] entries moves) → CountsStand z entries moves → rowAt countedRow entries′ i .moves ≤ z .moves
-  count-small l s c =
-      let above : i + 1 ≤ max (z .entries) (i + 1) = le-max-right (z .entries) (i + 1) in
-      subst (λ (k : ℕ). rowAt countedRow entries′ i .moves ≤ k) (length-rowsIn moveRow (z .moves) moves)
-      (count-bound (z .inner1) (max (z .entries) (i + 1)) entries′ (rowsIn moveRow (z .moves) moves) (counts-entered l s c) i (omega arith))
+  -- and each of their counts can be raised
+  pub count-small : i < most → StatesExist (automatonOf z [] entries moves) → CountsStand z entries moves → z .moves + 1 < 2 ^ 64
+      → (k : ℕ) → k < max (z .entries) (i + 1) → rowAt countedRow entries′ k .moves + 1 < 2 ^ 64
+  count-small l s c few k b =
+      let len : length (rowsIn moveRow (z .moves) moves) ≡ z .moves = length-rowsIn moveRow (z .moves) moves in
+      let bound : rowAt countedRow entries′ k .moves ≤ length (rowsIn moveRow (z .moves) moves) =
+      count-bound (z .inner1) (max (z .entries) (i + 1)) entries′ (rowsIn moveRow (z .moves) moves) (counts-entered l s c) k b in
+      omega arith
 
   module _ (n : ℕ) (entries″ moves′ : List ℕ) (l : i < most) (en : n ≡ max (z .entries) (i + 1)) (lent : most * entryWidth ≤ length entries)
       (er : entries″ ≡ raised entries′ i) (room : z .moves * 5 + 5 ≤ length moves) (em : moves′ ≡ putRow moveRow moves (z .moves) (lastMove z i x)) where

@@ -40,7 +40,7 @@ count-move-requires : tie.Need-count-move-requires Inv-loop μ-loop
 count-move-requires c κs =
     let so-far = c .before .before .before .before .before .before .before .loop .inv .3 in
     let long = so-far .long in
-    (omega (arith, long, c .before .before .before .before .before .before .before .before .before .before .before .pre .3), so-small _ _ _ _ _ _ so-far (omega (arith, c .before .before .before .before .before .before .before .loop .inv .0, c .before .before .before .before .before .before .before .before .before .before .before .pre .1)))
+    (omega (arith, long, c .before .before .before .before .before .before .before .before .before .before .before .pre .3), λ k l. so-small _ _ _ _ _ _ so-far (omega (arith, c .before .before .before .before .before .before .before .loop .inv .0, c .before .before .before .before .before .before .before .before .before .before .before .pre .1)) k (omega (arith, l)))
 
 add-i : tie.Need-add-i Inv-loop μ-loop
 add-i c = search needs
