@@ -10,8 +10,7 @@ use Rattle.files.specs.Case.{moveOf}
 use Rattle.tables.specs.Layouts.{moveRow}
 use Rattle.case_tables.specs.WrittenRows.{written}
 use Rattle.case_tables.specs.Decoded.Laws.{moves-more}
-use Rattle.case_tables.specs.Counting.{CountedSo}
-use Rattle.case_tables.specs.Counting.Laws.{so-none, so-step, so-small, so-whole}
+use Rattle.case_tables.specs.Counting.Laws.{CountedSo, so-none, so-step, so-small, so-whole}
 use borrow.Author.Needs.{needs}
 use Rattle.case_tables.proofs.load_moves.Statement.{statement}
 use Rattle.case_tables.proofs.load_moves.Tie as tie

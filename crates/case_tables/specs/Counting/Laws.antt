@@ -4,7 +4,7 @@ use Prim.Native.Nat.{ℕ, suc, _+_, _-_, _*_, _^_, _≤_, _<_}
 use mathlib.Core.Path.{_≡_, refl, ap, sym, _∙_, subst}
 use mathlib.Core.List.{List, [], _∷_, _++_, map}
 use native.Mathlib.Omega.{arith}
-use lib.ListN.{length, length-map}
+use lib.ListN.{length, drop, length-map}
 use lib.Dec.{leb, ltb}
 use borrow.Author.Tests.{le-leb, leb-true, leb-false, lt-leb, lt-ltb, le-ltb, ltb-true, ltb-false}
 use Rattle.words.specs.Lists.{only}
@@ -25,7 +25,7 @@ use Rattle.bytes_in.specs.Records.{recordAt}
 use Rattle.bytes_in.specs.Records.Laws.{map-more}
 use Rattle.case_tables.specs.WrittenRows.{written}
 use Rattle.case_tables.specs.WrittenRows.Laws.{rows-written, written-whole}
-use Rattle.case_tables.specs.Counting.{moveCounted, CountedSo}
+use Rattle.case_tables.specs.Counting.{moveCounted}
 
 -- ---- by what the code tests
 
@@ -62,6 +62,13 @@ counts-written J t es room =
     ∙ rows-written countedRow t l (omega arith))
 
 -- ---- move after move
+
+-- The first n rows of t are the entries of those of t₀, each with the number of its moves among these, and the words behind them stand as in t₀.
+pub record CountedSo (J n : ℕ) (t₀ t : List ℕ) (ms : List Move) : Type 0 where
+  pub entries-same : rowsIn entryRow n t ≡ rowsIn entryRow n t₀
+  pub behind : drop (n * entryWidth) t ≡ drop (n * entryWidth) t₀
+  pub long : length t ≡ length t₀
+  pub counts : CountsAre J n t ms
 
 module _ (J n : ℕ) (t₀ : List ℕ) where
   pub so-none : CountsAre J n t₀ [] → CountedSo J n t₀ t₀ []
