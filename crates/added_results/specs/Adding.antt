@@ -19,7 +19,8 @@ use Rattle.tables.specs.Held.{automatonOf}
 use Rattle.tables.specs.Counts.{CountsAre}
 use Rattle.tables.specs.Laws.Filled.{Filled}
 
--- From the first n rows of table t, entry e has number i, and t′ has it, if i is below `most`.
+-- From the first n rows of table t, entry e has number i, and t′ has it, if i is below `most`. Counts by walking stay so, where entry n has no moves if it
+-- is new.
 pub record Entered (t : List ℕ) (n most : ℕ) (e : Entry) (i : ℕ) (t′ : List ℕ) : Type 0 where
   pub number : i ≡ entryNumber (e .control) (e .S) (rowsIn entryRow n t)
   pub rows : i < most → rowsIn entryRow (max n (i + 1)) t′ ≡ withEntry (e .control) (e .S) (rowsIn entryRow n t)
