@@ -25,6 +25,10 @@ pub const LISTING_MOVES: usize = 1024;
 pub const LISTING_ENTRIES: usize = 64;
 pub const LISTING_CELLS: usize = 512;
 pub const LISTING_TRACE: usize = 1024;
+pub const LISTING_SIZE: Size = Size {
+    moves: LISTING_MOVES,
+    entries: LISTING_ENTRIES,
+};
 
 /// The answer of the guide.
 #[derive(Clone, Copy, Debug, PartialEq, Eq)]
@@ -258,10 +262,7 @@ pub fn listing(case: &[u8], start: &[u8]) -> String {
 fn listing_lines(case: &[u8], start: &[u8]) -> Result<String, Refusal> {
     let case = decode_case(case)?;
     let file = decode_start(start, &case)?;
-    let lent = Size {
-        moves: LISTING_MOVES,
-        entries: LISTING_ENTRIES,
-    };
+    let lent = LISTING_SIZE;
     let table = saturated_table(&case, lent).ok_or(9u64)?;
     let (moves, entries) = (table.moves().len(), table.entries().len());
     // "`most` and the largest such count, 0 without entries" (document 02, §7).

@@ -15,9 +15,8 @@ use second::models::{
 };
 use second::pairs::{gathered_pairs, late_pairs, pairs, sparse_pairs};
 use second::saturation::saturate;
-use second::services::{LISTING_ENTRIES, LISTING_MOVES};
+use second::services::LISTING_SIZE;
 use second::sound::{a_move, rule};
-use second::table::Size;
 
 /// The words of the first entries, and the listing with the start [[0]] from control
 /// 0; the words after them must be zero.
@@ -148,13 +147,9 @@ fn generated_files_in_proved() {
 /// They have every kind of entry and of largest count.
 #[test]
 fn generated_files_reach_every_kind() {
-    let size = Size {
-        moves: LISTING_MOVES,
-        entries: LISTING_ENTRIES,
-    };
     let mut reached = Kinds::default();
     for (_, pair) in counted_pairs() {
-        if let Some(table) = saturate(&pair.case, size) {
+        if let Some(table) = saturate(&pair.case, LISTING_SIZE) {
             reached.count(kinds(&pair.case, &table));
         }
     }

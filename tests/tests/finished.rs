@@ -11,8 +11,7 @@ use second::pairs::pairs;
 use second::replay::ReplayReply::{Accepted, Fails, Refused};
 use second::saturation::saturate;
 use second::services::GuideReply::{self, Arrived, CellsShort, NoRun, TraceFull};
-use second::services::{LISTING_ENTRIES, LISTING_MOVES, MOST_CELLS, listing};
-use second::table::Size;
+use second::services::{LISTING_ENTRIES, LISTING_MOVES, LISTING_SIZE, MOST_CELLS, listing};
 
 /// Guide's reply with so many cells and trace words, and its trace. Cells, tables
 /// and the trace behind the steps must be zero.
@@ -225,10 +224,7 @@ fn no_rule_applies_after_an_empty_stack() {
 fn generated_files_reach_every_kind() {
     let mut lent = Lent::new(LISTING_MOVES, LISTING_ENTRIES, 1024, 2048);
     let mut reached = Kinds::default();
-    let size = Size {
-        moves: LISTING_MOVES,
-        entries: LISTING_ENTRIES,
-    };
+    let size = LISTING_SIZE;
     for (_, pair) in pairs(250) {
         let Some(table) = saturate(&pair.case, size) else {
             continue;

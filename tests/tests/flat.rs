@@ -10,10 +10,10 @@ use second::lent::Lent;
 use second::lines::first_choices;
 use second::proved;
 use second::saturation::saturate;
-use second::services::{LISTING_ENTRIES, LISTING_MOVES, listing};
+use second::services::{LISTING_SIZE, listing};
 use second::sets::only;
 use second::sound::{pair, start, symbol};
-use second::table::{Size, Table};
+use second::table::Table;
 
 #[test]
 fn the_file() {
@@ -21,10 +21,7 @@ fn the_file() {
 }
 
 fn table(case: &Case) -> Table {
-    let lent = Size {
-        moves: LISTING_MOVES,
-        entries: LISTING_ENTRIES,
-    };
+    let lent = LISTING_SIZE;
     saturate(case, lent).expect("a table that fits")
 }
 

@@ -74,10 +74,8 @@ fn model_a_starts() {
     assert_no_run(&CASE_A, &START_A, 2);
 }
 
-/// "With two moves lent: 9."
-#[test]
-fn model_a_with_two_moves_lent() {
-    let mut lent = Lent::new(2, 64, 512, 1024);
+/// Model A's table is larger than what is lent: 9, and all memory zero.
+fn assert_too_large(mut lent: Lent) {
     assert_eq!(lent.saturate(&CASE_A), (9, 0, 0));
     assert!(lent.tables_are_zero());
     assert_eq!(lent.judge(&CASE_A, &START_A), 9);
@@ -87,18 +85,18 @@ fn model_a_with_two_moves_lent() {
     assert!(lent.trace_is_zero_from(0));
 }
 
+/// "With two moves lent: 9."
+#[test]
+fn model_a_with_two_moves_lent() {
+    assert_too_large(Lent::new(2, 64, 512, 1024));
+}
+
 /// Eight words hold two entries of three words, and the table has three.
 #[test]
 fn model_a_with_eight_words_for_entries() {
     let mut lent = Lent::as_listing();
     lent.entries.truncate(8);
-    assert_eq!(lent.saturate(&CASE_A), (9, 0, 0));
-    assert!(lent.tables_are_zero());
-    assert_eq!(lent.judge(&CASE_A, &START_A), 9);
-    assert!(lent.tables_are_zero() && lent.answers_are_zero());
-    assert_eq!(lent.guide(&CASE_A, &START_A, 0), Refused(9));
-    assert!(lent.tables_are_zero() && lent.cells_are_zero());
-    assert!(lent.trace_is_zero_from(0));
+    assert_too_large(lent);
 }
 
 /// Nine words are enough; one or two more are no entry, and stay zero.

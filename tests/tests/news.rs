@@ -5,21 +5,16 @@ use second::kinds::Kinds;
 use second::news::{KINDS, count};
 use second::pairs::{gathered_pairs, pairs};
 use second::saturation::saturate;
-use second::services::{LISTING_ENTRIES, LISTING_MOVES};
-use second::table::Size;
+use second::services::LISTING_SIZE;
 
 /// Old and new choices in every place, sets with several members, and results that
 /// arise in several ways: each kind is reached, and each mistake told.
 #[test]
 fn generated_files_reach_every_kind() {
-    let size = Size {
-        moves: LISTING_MOVES,
-        entries: LISTING_ENTRIES,
-    };
     let mut reached = Kinds::default();
     let (mut counted, mut left_out) = (0, 0);
     for (_, pair) in pairs(250).chain(gathered_pairs(250)) {
-        let Some(table) = saturate(&pair.case, size) else {
+        let Some(table) = saturate(&pair.case, LISTING_SIZE) else {
             continue;
         };
         if count(&mut reached, &pair.case, &table) {

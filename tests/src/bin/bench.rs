@@ -15,8 +15,7 @@ use second::file::decode_case;
 use second::flat::{FLAT, Flat};
 use second::lent::Lent;
 use second::replay::{self, ReplayReply};
-use second::services::{self, GuideReply, LISTING_ENTRIES, LISTING_MOVES};
-use second::table::Size;
+use second::services::{self, GuideReply, LISTING_SIZE};
 use second::traces::recorded;
 use second::{proved, saturation};
 
@@ -222,10 +221,7 @@ fn bench(file: &Larger) {
 
 /// The numbers of moves, entries and rounds of the case's table.
 fn table(case: &[u8]) -> (usize, usize, usize) {
-    let lent = Size {
-        moves: LISTING_MOVES,
-        entries: LISTING_ENTRIES,
-    };
+    let lent = LISTING_SIZE;
     let case = decode_case(case).expect("a sound case");
     let table = saturation::saturate(&case, lent).expect("a table that fits");
     (table.moves().len(), table.entries().len(), table.rounds())
