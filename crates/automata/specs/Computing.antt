@@ -46,7 +46,7 @@ unfolding Derivation.resultKey Derivation.clash Derivation.joinMove Derivation.j
 open-derivation = 0
 
 unfoldable pub open-saturation : ℕ
-unfolding Saturation.isResult Saturation.held Saturation.isEntry Saturation.entryNumber Saturation.withEntry Saturation.add Saturation.addAll Saturation.extend Saturation.results Saturation.round Saturation.tableAfter Saturation.sizeOf Saturation.within Saturation.saturateFrom Saturation.saturate Saturation.roundsAdded Saturation.upTo Saturation.lastUpTo Saturation.before Saturation.roundOf Saturation.ownMoves
+unfolding Saturation.isResult Saturation.held Saturation.isEntry Saturation.entryNumber Saturation.withEntry Saturation.add Saturation.addAll Saturation.extend Saturation.results Saturation.round Saturation.tableAfter Saturation.addsMove Saturation.sizeOf Saturation.within Saturation.saturateFrom Saturation.saturate Saturation.roundsAdded Saturation.upTo Saturation.lastUpTo Saturation.before Saturation.roundOf Saturation.ownMoves
 open-saturation = 0
 
 unfoldable pub open-won : ℕ

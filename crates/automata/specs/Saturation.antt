@@ -1,4 +1,4 @@
--- Saturation: one round, the table after n rounds, the saturated table within limits, a move's round and the table before it.
+-- Saturation: one round, the table after n rounds, the table of at most n rounds within limits, a move's round and the table before it.
 -- Assumes nothing.
 pub mod Laws
 use Prim.Native.Nat.{ℕ, zero, suc, _+_, _-_, min}
@@ -77,6 +77,10 @@ module _ (rules : List Rule) where
   tableAfter A zero = A
   tableAfter A (suc n) = round (tableAfter A n)
 
+  -- "Round n + 1 would add a move" to this table, that after n rounds; otherwise there is "nothing left to add".
+  unfoldable pub addsMove : Automaton → Bool
+  addsMove A = not (eqb (length (round A .moves)) (length (A .moves)))
+
 -- the numbers of moves and entries
 pub record Size : Type 0 where
   pub moves : ℕ
@@ -92,32 +96,36 @@ within lent A =
     && leb (length (A .entries)) (lent .entries)
     && leb (A .J + length (A .entries)) 64
 
--- a saturated table, with its sizes after round 0, 1 and so on to the last round that added a move
+-- a table saturated up to some round, with its sizes after round 0, 1 and so on to the last round run that added a move
 pub record Saturated : Type 0 where
   pub table : Automaton
   pub sizes : List Size
 
 module _ (rules : List Rule) (lent : Size) where
-  -- "The work ends when a round adds none": from the table after some round, with the sizes before it, at most k tables more.
+  -- "The work ends when a round adds none", or when the rounds asked for are run: from the table after some round, with the sizes before it, at
+  -- most n rounds more. There is no table where one of these rounds passes a limit.
   unfoldable pub saturateFrom : ℕ → List Size → Automaton → Option Saturated
-  saturateFrom zero sizes A = none
-  saturateFrom (suc k) sizes A =
+  saturateFrom zero sizes A = elim (within lent A) [ true ↦ some (record { table = A; sizes = sizes ++ (sizeOf A ∷ []) }) | false ↦ none ]
+  saturateFrom (suc n) sizes A =
       let next : Automaton = round rules A in
       let done : List Size = sizes ++ (sizeOf A ∷ []) in
       elim (within lent A) [
         | true ↦ elim (eqb (length (next .moves)) (length (A .moves))) [
           | true ↦ some (record { table = A; sizes = done })
-          | false ↦ saturateFrom k done next
+          | false ↦ saturateFrom n done next
         ]
         | false ↦ none
       ]
 
-  -- The saturated table of an own automaton, or none where it passes a limit. Each round but the last adds a move, so within the
-  -- limits there are at most 1,025 tables.
-  unfoldable pub saturate : Automaton → Option Saturated
-  saturate A = saturateFrom 1025 [] A
+  -- The table of an own automaton after at most n rounds, or none where it passes a limit.
+  unfoldable pub saturate : ℕ → Automaton → Option Saturated
+  saturate n A = saturateFrom n [] A
 
--- the rounds that added a move
+-- All rounds: each round but the last adds a move, so that with as many rounds a table has no more to add, or more than 1,024 moves.
+abbrev pub allRounds : ℕ
+allRounds = 1025
+
+-- "The rounds that added something"
 unfoldable pub roundsAdded : Saturated → ℕ
 roundsAdded T = length (T .sizes) - 1
 

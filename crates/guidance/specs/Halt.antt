@@ -11,7 +11,7 @@ use Rattle.replies.specs.declared.Counts.{Counts}
 use Rattle.replies.specs.declared.Halt.{Halt}
 use Rattle.replies.specs.declared.Halt.the-variants.{Arrived, TraceFull, CellsShort}
 use Rattle.replies.specs.declared.Reply.{Reply}
-use Rattle.replies.specs.declared.Reply.the-variants.{Refused, NoRun, Walked}
+use Rattle.replies.specs.declared.Reply.the-variants.{Refused, NoRun, Open, Walked}
 
 -- why a walk halts, in the order in which it is tested
 pub data Reason : Type 0 where
@@ -26,6 +26,7 @@ haltBy cells-short z = CellsShort z
 unfoldable pub isArrival : Reply → Bool
 isArrival (Refused n) = false
 isArrival NoRun = false
+isArrival Open = false
 isArrival (Walked (Arrived z)) = true
 isArrival (Walked (TraceFull z)) = false
 isArrival (Walked (CellsShort z)) = false

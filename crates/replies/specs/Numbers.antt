@@ -2,13 +2,14 @@
 -- Assumes nothing.
 pub mod Laws
 use Prim.Native.Nat.{ℕ, suc}
+use mathlib.Core.Bool.{Bool, true, false}
 use Rattle.replies.specs.declared.Acceptance.{Acceptance}
 use Rattle.replies.specs.declared.Acceptance.the-variants.{Never, Since}
 use Rattle.replies.specs.declared.Counts.{Counts}
 use Rattle.replies.specs.declared.Halt.{Halt}
 use Rattle.replies.specs.declared.Halt.the-variants.{Arrived, TraceFull, CellsShort}
 use Rattle.replies.specs.declared.Reply.{Reply}
-use Rattle.replies.specs.declared.Reply.the-variants.{Refused, NoRun, Walked}
+use Rattle.replies.specs.declared.Reply.the-variants.{Refused, NoRun, Open, Walked}
 use Rattle.replies.specs.declared.Replayed.{Replayed}
 use Rattle.replies.specs.declared.Replayed.the-variants as Replayed
 use Rattle.replies.specs.declared.Brackets.{Brackets}
@@ -18,6 +19,14 @@ use Rattle.replies.specs.declared.Brackets.the-variants as Brackets
 unfoldable pub answerWord : Acceptance → ℕ
 answerWord Never = 0
 answerWord (Since r) = suc r
+
+-- "Judge .. marks each start yes, no or open (65535)": open is the word of a start that is not accepted while a round more would add a move.
+abbrev pub openWord : ℕ
+openWord = 65535
+
+unfoldable pub markWord : Bool → Acceptance → ℕ
+markWord more Never = elim more [ true ↦ openWord | false ↦ 0 ]
+markWord more (Since r) = suc r
 
 -- the counts of a halt
 unfoldable pub countsOf : Halt → Counts
@@ -29,6 +38,7 @@ countsOf (CellsShort c) = c
 unfoldable pub refusalOf : Reply → ℕ
 refusalOf (Refused n) = n
 refusalOf NoRun = 0
+refusalOf Open = 0
 refusalOf (Walked h) = 0
 
 -- The number of an answer for a caller that has no enums. A refusal has document 01's number, a walk that arrived 0, and each of the other
@@ -36,6 +46,7 @@ refusalOf (Walked h) = 0
 abbrev pub numberOf : Reply → ℕ
 numberOf (Refused n) = n
 numberOf NoRun = 258
+numberOf Open = 259
 numberOf (Walked (Arrived c)) = 0
 numberOf (Walked (TraceFull c)) = 256
 numberOf (Walked (CellsShort c)) = 257
@@ -44,6 +55,7 @@ numberOf (Walked (CellsShort c)) = 257
 abbrev pub replyCounts : Reply → Counts
 replyCounts (Refused n) = record { steps = 0; cells = 0 }
 replyCounts NoRun = record { steps = 0; cells = 0 }
+replyCounts Open = record { steps = 0; cells = 0 }
 replyCounts (Walked (Arrived c)) = c
 replyCounts (Walked (TraceFull c)) = c
 replyCounts (Walked (CellsShort c)) = c

@@ -7,6 +7,12 @@ pub struct Saturation {
     pub entries: u64,
 }
 
+// What judge returns: 0 with the number of rounds that added a move, or a refusal's number with 0.
+pub struct Judged {
+    pub code: u64,
+    pub rounds: u64,
+}
+
 // Since when a stack is accepted from a state: from the table after this round on, or from no table.
 pub enum Acceptance {
     Never,
@@ -30,6 +36,7 @@ pub enum Halt {
 pub enum Reply {
     Refused(u64),
     NoRun,
+    Open,
     Walked(Halt),
 }
 

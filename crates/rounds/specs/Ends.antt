@@ -4,15 +4,16 @@
 use Prim.Native.Nat.{ℕ, zero, suc, _+_, _*_, _^_, _≤_, _<_}
 use mathlib.Core.Path.{_≡_, refl, ap, sym, _∙_, subst}
 use mathlib.Core.List.{List, List·Memᴰ}
-use native.Mathlib.Nat.{le-trans}
+use native.Mathlib.Nat.{le-trans, zero-add, add-zero}
 use native.Mathlib.Omega.{arith}
 use lib.ListN.{length}
-use Rattle.words.specs.Laws.Numbers.{paired-below, paired-parts, stops}
+use Rattle.words.specs.Laws.Numbers.{paired-below, paired-parts, stops, below-suc}
 use Rattle.words.specs.Lists.Once.{once-shorter, below, length-below, below-in}
 use Rattle.words.specs.Sets.Laws.{all-below}
+use Rattle.words.specs.Laws.Tests.{by-test}
 use Rattle.stacks.specs.System.{Rule}
 use Rattle.automata.specs.Automaton.{Automaton, Move, Entry, noMove, noEntry, entryKey, moveAt}
-use Rattle.automata.specs.Saturation.{tableAfter}
+use Rattle.automata.specs.Saturation.{tableAfter, addsMove}
 use Rattle.automata.specs.Facts.{RuleFacts, MoveFacts, TableFacts, RuleBounded, MoveBounded, Bounded, ofOrder, states, Closed}
 use Rattle.automata.specs.Facts.Laws.{moves-grow}
 use Rattle.rounds.specs.Bounded.{after-bounded}
@@ -20,6 +21,7 @@ use Rattle.rounds.specs.Kept.{after-facts}
 use Rattle.rounds.specs.Once.{after-moves-once}
 use Rattle.rounds.specs.Rounds.{after-suc, after-next, own-extends, still-closed}
 use Rattle.rounds.specs.LeastClosed.{MovesOnce}
+use Rattle.rounds.specs.Limits.{Adds, adds-some, nothing-closed}
 
 -- ---- entries
 
@@ -135,3 +137,21 @@ module _ {P Q K : ℕ} (rules : List Rule) (rule-facts : (ρ : Rule) → List·M
   work-ends =
       let (n, e) = stops (λ n. length (tableAfter rules own n .moves)) (moveBound P Q K (own .J)) (λ n. moves-grow (after-next rules own n)) after-moves-few in
       (n, still-closed rules (tableAfter rules own n) (rw (after-suc rules own n) at e))
+
+-- "The rounds that added something": where some table after rounds is closed, the first rounds each add a move, and the round after them adds
+-- none.
+pub rounds-end : (rules : List Rule) (own : Automaton) (n : ℕ) → Closed rules (tableAfter rules own n)
+    → (m : ℕ) × ((k : ℕ) → k < m → Adds rules own k) × Closed rules (tableAfter rules own m)
+rounds-end rules own n c = go n 0 (λ k l. absurd (omega arith)) (subst (λ (m : ℕ). Closed rules (tableAfter rules own m)) (sym (zero-add n)) c)
+  where
+    -- after m rounds that each add a move, and k rounds before a closed table
+    go : (k m : ℕ) → ((i : ℕ) → i < m → Adds rules own i) → Closed rules (tableAfter rules own (m + k))
+        → (r : ℕ) × ((i : ℕ) → i < r → Adds rules own i) × Closed rules (tableAfter rules own r)
+    go zero m before h = (m, before, subst (λ (i : ℕ). Closed rules (tableAfter rules own i)) (add-zero m) h)
+    go (suc k) m before h =
+        by-test (addsMove rules (tableAfter rules own m))
+        (λ t.
+        let e : m + suc k ≡ suc m + k = omega arith in
+        let g : Adds rules own m = rw (after-suc rules own m) (adds-some rules (tableAfter rules own m) t) in
+        go k (suc m) (below-suc (Adds rules own) m before g) (subst (λ (i : ℕ). Closed rules (tableAfter rules own i)) e h))
+        (λ t. (m, before, nothing-closed rules (tableAfter rules own m) t))

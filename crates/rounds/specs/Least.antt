@@ -12,14 +12,13 @@ use Rattle.stacks.specs.System.{Rule}
 use Rattle.automata.specs.Automaton.{Automaton, Move, moveAt, entryAt}
 use Rattle.automata.specs.Automaton.Laws.{entry, moveAt-in, entryAt-some, entryMove-at}
 use Rattle.automata.specs.Derivation.{Result, Derivation, derivations}
-use Rattle.automata.specs.Saturation.{held, add, addAll, extend, results, round, tableAfter, Size, Saturated}
+use Rattle.automata.specs.Saturation.{held, add, addAll, extend, results, round, tableAfter}
 use Rattle.automata.specs.Saturation.Laws.{StandsFor, held-stands, results-out}
 use Rattle.automata.specs.Facts.{RuleFacts, TableFacts, OwnFacts, Extends, Closed, Once}
 use Rattle.automata.specs.Facts.Laws.{extends-refl}
 use Rattle.rounds.specs.Entries.{withEntry-out}
 use Rattle.rounds.specs.Added.{newMove, added, added-out, add-extends, add-entry}
 use Rattle.rounds.specs.Rounds.{round-extends, round-holds}
-use Rattle.rounds.specs.Limits.{IsSaturated}
 use Rattle.rounds.specs.Kept.{after-facts}
 use Rattle.rounds.specs.Contains.{Same, SameMove, Contains}
 use Rattle.rounds.specs.Contains.Laws.{matched-map, same-kept, sameIn-kept, sameMove-kept, contains-kept, contains-self}
@@ -118,11 +117,6 @@ module _ {P : ℕ} (rules : List Rule) (rule-facts : (ρ : Rule) → List·Mem�
   closed-contains c once h zero = c
   closed-contains {C} c once h (suc n) =
       round-contains (closed-contains c once h n) (after-facts rules rule-facts F n) once rules rules (λ ρ j. j) (extends-refl C) (h .closed)
-
-  -- so it contains the saturated table
-  pub least : {lent : Size} {T : Saturated} → IsSaturated rules lent own T → {C : Automaton} → Contains own C → Once (C .entries) → Closed rules C
-      → Contains (T .table) C
-  least s {C} c once h = subst (λ (A : Automaton). Contains A C) (sym (s .after .table-is)) (closed-contains c once h (s .after .rounds))
 
   -- with more rules the table after n rounds contains that with fewer
   pub more-contains : OwnFacts P own → (more : List Rule) → ((ρ : Rule) → List·Memᴰ ρ more → RuleFacts P ρ) → ((ρ : Rule) → List·Memᴰ ρ rules → List·Memᴰ ρ more)

@@ -11,7 +11,7 @@ use Rattle.automata.specs.Automaton.{Automaton}
 use Rattle.automata.specs.Acceptance.{accepts2}
 use Rattle.automata.specs.Saturation.{Saturated}
 use Rattle.replies.specs.declared.Reply.{Reply}
-use Rattle.replies.specs.declared.Reply.the-variants.{Refused}
+use Rattle.replies.specs.declared.Reply.the-variants.{Refused, Open}
 use Rattle.replies.specs.declared.Halt.the-variants.{CellsShort}
 use Rattle.walks.specs.Guide.{Report, walkedBy, noRun, startWalk, guided}
 use Rattle.files.specs.Bytes.{Test, firstHit, testsOn}
@@ -20,12 +20,14 @@ use Rattle.files.specs.Start.{Files, Start, startTests, startsOf, cellsOf, conf
 use Rattle.services.specs.Memory.{padded}
 use Rattle.words.specs.Lists.{zeros}
 use Rattle.services.specs.Saturate.{Lent, saturated, sizeTests}
+use Rattle.services.specs.Judge.{moreToAdd}
 
--- the two files, the number of a start, and the lengths of the move and entry tables, cells and trace lent
+-- the two files, the number of a start, a number of rounds, and the lengths of the move and entry tables, cells and trace lent
 pub record GuideInput : Type 0 where
   pub case : List ℕ
   pub start : List ℕ
   pub number : ℕ
+  pub rounds : ℕ
   pub moves : ℕ
   pub entries : ℕ
   pub cells : ℕ
@@ -46,7 +48,7 @@ unfoldable pub guideRefusal : GuideInput → ℕ
 guideRefusal =
     firstHit
     (testsOn (λ x. x .case) caseTests
-    ++ (testsOn guideFiles startTests ++ (numberTests (λ x. x .start) (λ x. x .number) ++ testsOn guideLent sizeTests)))
+    ++ (testsOn guideFiles startTests ++ (numberTests (λ x. x .start) (λ x. x .number) ++ sizeTests guideLent (λ x. x .rounds))))
 
 -- A lent cell is 68 words of 16 bits: its four fields and a choice for each of 64 states.
 unfoldable pub cellWords : ℕ
@@ -72,9 +74,17 @@ guideWalk x T = elim (leb (length (cellsOf (x .start))) (cellsLent x)) [
 unfoldable pub accepted : Automaton → List ℕ → Start → Bool
 accepted A file x = accepts2 A (configurationOf file x .stack) (x .control)
 
--- "No run (the start is marked no, tested before the cells lent)."
+-- "An open start it answers with open, .. with no step and no cell."
+unfoldable pub openStart : Report
+openStart = record { reply = Open; trace = [] }
+
+-- "No run (the start is marked no, tested before the cells lent)", and open "tested where no run is". Guide "works on the table of those
+-- rounds alone".
 unfoldable pub guideRun : GuideInput → Saturated → Report
-guideRun x T = elim (accepted (T .table) (x .start) (startNamed x)) [ true ↦ guideWalk x T | false ↦ noRun ]
+guideRun x T = elim (accepted (T .table) (x .start) (startNamed x)) [
+  | true ↦ guideWalk x T
+  | false ↦ elim (moreToAdd (x .case) T) [ true ↦ openStart | false ↦ noRun ]
+]
 
 -- the reply, and all four lent slices afterwards
 pub record GuideDone : Type 0 where
@@ -99,10 +109,10 @@ refused n = record { reply = Refused n; trace = [] }
 
 unfoldable pub guideAnswer : GuideInput → ℕ → GuideDone
 guideAnswer x n = elim (eqb n 0) [
-  | true ↦ elim (saturated (guideLent x)) [ none ↦ guideLeft x (refused 9) | some T ↦ guideLeft x (guideRun x T) ]
+  | true ↦ elim (saturated (guideLent x) (x .rounds)) [ none ↦ guideLeft x (refused 9) | some T ↦ guideLeft x (guideRun x T) ]
   | false ↦ guideLeft x (refused n)
 ]
 
--- guide(case, start, number, moves, entries, cells, trace)
+-- guide(case, start, number, rounds, moves, entries, cells, trace)
 unfoldable pub guideService : GuideInput → GuideDone
 guideService x = guideAnswer x (guideRefusal x)

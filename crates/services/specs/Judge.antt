@@ -2,15 +2,15 @@
 -- Assumes nothing.
 pub mod Laws
 use Prim.Native.Nat.{ℕ}
-use mathlib.Core.Bool.{true, false}
+use mathlib.Core.Bool.{Bool, true, false}
 use mathlib.Core.Option.{none, some}
 use mathlib.Core.List.{List, [], _∷_, _++_, map}
 use lib.ListN.{length}
 use lib.Dec.{eqb, ltb}
-use Rattle.automata.specs.Saturation.{Saturated, roundsAdded}
+use Rattle.automata.specs.Saturation.{Saturated, addsMove, roundsAdded}
 use Rattle.automata.specs.Won.{won2}
 use Rattle.replies.specs.declared.Acceptance.{Acceptance}
-use Rattle.replies.specs.Numbers.{answerWord}
+use Rattle.replies.specs.Numbers.{markWord}
 use Rattle.files.specs.Bytes.{Test, firstHit, testsOn}
 use Rattle.files.specs.Case.{caseTests, ownOf, rulesOf}
 use Rattle.files.specs.Start.{Files, Start, startTests, startsOf, configurationOf}
@@ -18,10 +18,11 @@ use Rattle.services.specs.Memory.{padded}
 use Rattle.words.specs.Lists.{zeros}
 use Rattle.services.specs.Saturate.{Lent, saturated, sizeTests}
 
--- the two files, and the lengths of the move and entry tables and of the answers lent, words of 16 bits
+-- the two files, a number of rounds, and the lengths of the move and entry tables and of the answers lent, words of 16 bits
 pub record JudgeInput : Type 0 where
   pub case : List ℕ
   pub start : List ℕ
+  pub rounds : ℕ
   pub moves : ℕ
   pub entries : ℕ
   pub answers : ℕ
@@ -39,36 +40,43 @@ answerTests = record { fails = λ x. ltb (x .answers) (length (startsOf (x .star
 -- refusals 1 to 6, 8, 9 and 12
 unfoldable pub judgeRefusal : JudgeInput → ℕ
 judgeRefusal =
-    firstHit (testsOn (λ x. x .case) caseTests ++ (testsOn judgeFiles startTests ++ (answerTests ++ testsOn judgeLent sizeTests)))
+    firstHit (testsOn (λ x. x .case) caseTests ++ (testsOn judgeFiles startTests ++ (answerTests ++ sizeTests judgeLent (λ x. x .rounds))))
 
--- the least round, up to those that added a move, whose table accepts the start's stack from its control
+-- the least of the rounds run whose table accepts the start's stack from its control
 unfoldable pub won : List ℕ → Saturated → List ℕ → Start → Acceptance
 won case T file x = won2 (rulesOf case) (ownOf case) (roundsAdded T) (configurationOf file x .stack) (x .control)
 
--- "Judge then writes 16 bits per start: 0 for no, otherwise that round plus 1."
-unfoldable pub mark : List ℕ → Saturated → List ℕ → Start → ℕ
-mark case T file x = answerWord (won case T file x)
+-- a round more would add a move to the table
+unfoldable pub moreToAdd : List ℕ → Saturated → Bool
+moreToAdd case T = addsMove (rulesOf case) (T .table)
 
--- the number returned, and all three lent slices afterwards: "judge and guide zero their working tables"
+-- "Judge then writes 16 bits per start": "Yes means accepted after at most n rounds. No means not accepted and nothing left to add. Open means
+-- not accepted while round n + 1 would add a move."
+unfoldable pub mark : List ℕ → Saturated → List ℕ → Start → ℕ
+mark case T file x = markWord (moreToAdd case T) (won case T file x)
+
+-- The number returned, the count, "the rounds that added something, 0 in a refusal", and all three lent slices afterwards: "judge and guide
+-- zero their working tables".
 pub record JudgeDone : Type 0 where
   pub code : ℕ
+  pub rounds : ℕ
   pub moves : List ℕ
   pub entries : List ℕ
   pub answers : List ℕ
 
-unfoldable pub judgeLeft : JudgeInput → ℕ → List ℕ → JudgeDone
-judgeLeft x n marks =
-    record { code = n; moves = zeros (x .moves); entries = zeros (x .entries); answers = padded (x .answers) marks }
+unfoldable pub judgeLeft : JudgeInput → ℕ → ℕ → List ℕ → JudgeDone
+judgeLeft x n rounds marks =
+    record { code = n; rounds = rounds; moves = zeros (x .moves); entries = zeros (x .entries); answers = padded (x .answers) marks }
 
 unfoldable pub judgeAnswer : JudgeInput → ℕ → JudgeDone
 judgeAnswer x n = elim (eqb n 0) [
-  | true ↦ elim (saturated (judgeLent x)) [
-    | none ↦ judgeLeft x 9 []
-    | some T ↦ judgeLeft x 0 (map (mark (x .case) T (x .start)) (startsOf (x .start)))
+  | true ↦ elim (saturated (judgeLent x) (x .rounds)) [
+    | none ↦ judgeLeft x 9 0 []
+    | some T ↦ judgeLeft x 0 (roundsAdded T) (map (mark (x .case) T (x .start)) (startsOf (x .start)))
   ]
-  | false ↦ judgeLeft x n []
+  | false ↦ judgeLeft x n 0 []
 ]
 
--- judge(case, start, moves, entries, answers)
+-- judge(case, start, rounds, moves, entries, answers)
 unfoldable pub judgeService : JudgeInput → JudgeDone
 judgeService x = judgeAnswer x (judgeRefusal x)

@@ -14,7 +14,8 @@ use Rattle.replies.specs.declared.Counts.{Counts}
 use Rattle.replies.specs.declared.Halt.{Halt}
 use Rattle.replies.specs.declared.Halt.the-variants.{Arrived, TraceFull, CellsShort}
 use Rattle.replies.specs.declared.Reply.{Reply}
-use Rattle.replies.specs.declared.Reply.the-variants.{Refused, NoRun, Walked}
+use Rattle.replies.specs.declared.Reply.the-variants.{Refused, NoRun, Open, Walked}
+use Rattle.automata.specs.Saturation.{allRounds}
 use Rattle.files.specs.Start.{Files, startsOf}
 use Rattle.services.specs.Memory.{entryWidth, counted, largest}
 use Rattle.services.specs.Saturate.{Lent, saturated, saturateService}
@@ -42,8 +43,8 @@ decimal n = digitsBefore (suc n) n []
 unfoldable pub listingLent : Files → Lent
 listingLent f = record { case = f .case; moves = 1024 * 5; entries = 64 * entryWidth }
 
-unfoldable pub listingJudge : Files → JudgeInput
-listingJudge f = record { case = f .case; start = f .start; moves = 1024 * 5; entries = 64 * entryWidth; answers = 64 }
+unfoldable pub listingJudge : Files → ℕ → JudgeInput
+listingJudge f rounds = record { case = f .case; start = f .start; rounds = rounds; moves = 1024 * 5; entries = 64 * entryWidth; answers = 64 }
 
 unfoldable pub listingGuide : Files → ℕ → GuideInput
 listingGuide f n =
@@ -51,6 +52,7 @@ listingGuide f n =
       case = f .case;
       start = f .start;
       number = n;
+      rounds = allRounds;
       moves = 1024 * 5;
       entries = 64 * entryWidth;
       cells = 512 * cellWords;
@@ -63,7 +65,7 @@ sizeLine r = ascii "moves " ++ decimal (r .moves) ++ ascii " entries " ++ decima
 
 -- the largest number of moves that an entry of the saturated table has
 unfoldable pub largestCount : Lent → ℕ
-largestCount x = elim (saturated x) [ none ↦ 0 | some T ↦ largest (counted (T .table)) ]
+largestCount x = elim (saturated x allRounds) [ none ↦ 0 | some T ↦ largest (counted (T .table)) ]
 
 -- "The listing gains a line after its first: `most` and the largest such count": `most 1`
 unfoldable pub mostLine : ℕ → List ℕ
@@ -82,18 +84,20 @@ haltText r (CellsShort c) = ascii " cells" ++ countsText r c
 unfoldable pub replyText : ℕ → Reply → List ℕ
 replyText r (Refused n) = ascii " refused " ++ decimal n
 replyText r NoRun = ascii " no"
+replyText r Open = ascii " open"
 replyText r (Walked h) = ascii " yes" ++ haltText r h
 
 -- `start 0 yes 2 2 9`: the line of start n, won in round r, where guide answers so
 unfoldable pub replyLine : ℕ → ℕ → Reply → List ℕ
 replyLine n r reply = ascii "start " ++ decimal n ++ replyText r reply ++ ascii "\n"
 
--- the round in which start n was won: what judge answers for it, less 1
-unfoldable pub roundWon : Files → ℕ → ℕ
-roundWon f n = getD (judgeService (listingJudge f) .answers) n 0 - 1
+-- the round in which start n was won, where judge with so many rounds marks it yes: its word less 1
+unfoldable pub roundWon : Files → ℕ → ℕ → ℕ
+roundWon f rounds n = getD (judgeService (listingJudge f rounds) .answers) n 0 - 1
 
+-- "The listing runs all rounds."
 unfoldable pub startLine : Files → ℕ → List ℕ
-startLine f n = replyLine n (roundWon f n) (guideService (listingGuide f n) .reply)
+startLine f n = replyLine n (roundWon f allRounds n) (guideService (listingGuide f n) .reply)
 
 -- the lines of k starts from number n on
 unfoldable pub startLines : Files → ℕ → ℕ → List ℕ
@@ -112,5 +116,5 @@ judgedText f =
 
 unfoldable pub listingText : Files → List ℕ
 listingText f =
-    let n : ℕ = judgeService (listingJudge f) .code in
+    let n : ℕ = judgeService (listingJudge f allRounds) .code in
     elim (eqb n 0) [ true ↦ judgedText f | false ↦ refusedText n ]

@@ -7,7 +7,7 @@ use mathlib.Core.Option.{Option, none, some}
 use mathlib.Core.List.{List, [], _∷_, _++_}
 use lib.ListN.{length}
 use lib.Dec.{eqb}
-use Rattle.automata.specs.Saturation.{Saturated, saturate}
+use Rattle.automata.specs.Saturation.{Saturated, saturate, allRounds}
 use Rattle.replies.specs.declared.Saturation.{Saturation}
 use Rattle.files.specs.Bytes.{Test, firstHit, testsOn}
 use Rattle.files.specs.Case.{caseTests, ownOf, rulesOf}
@@ -20,20 +20,20 @@ pub record Lent : Type 0 where
   pub moves : ℕ
   pub entries : ℕ
 
--- the case's saturated table, where it keeps the limits
-unfoldable pub saturated : Lent → Option Saturated
-saturated x = saturate (rulesOf (x .case)) (lent (x .moves) (x .entries)) (ownOf (x .case))
+-- the case's table after at most n rounds, where it keeps the limits
+unfoldable pub saturated : Lent → ℕ → Option Saturated
+saturated x n = saturate (rulesOf (x .case)) (lent (x .moves) (x .entries)) n (ownOf (x .case))
 
-unfoldable pub tooLarge : Lent → Bool
-tooLarge x = elim (saturated x) [ none ↦ true | some T ↦ false ]
+unfoldable pub tooLarge : Lent → ℕ → Bool
+tooLarge x n = elim (saturated x n) [ none ↦ true | some T ↦ false ]
 
--- refusal 9
-unfoldable pub sizeTests : List (Test Lent)
-sizeTests = record { fails = tooLarge; refusal = 9 } ∷ []
+-- refusal 9: "9 concerns the rounds run."
+unfoldable pub sizeTests : {X : Type 0} → (X → Lent) → (X → ℕ) → List (Test X)
+sizeTests lent rounds = record { fails = λ x. tooLarge (lent x) (rounds x); refusal = 9 } ∷ []
 
 -- refusals 1 to 4, 9 and 12
 unfoldable pub saturateRefusal : Lent → ℕ
-saturateRefusal = firstHit (testsOn (λ x. x .case) caseTests ++ sizeTests)
+saturateRefusal = firstHit (testsOn (λ x. x .case) caseTests ++ sizeTests (λ x. x) (λ x. allRounds))
 
 -- the reply, and both lent slices afterwards
 pub record SaturateDone : Type 0 where
@@ -57,10 +57,10 @@ saturateFilled x T =
 
 unfoldable pub saturateAnswer : Lent → ℕ → SaturateDone
 saturateAnswer x n = elim (eqb n 0) [
-  | true ↦ elim (saturated x) [ none ↦ saturateRefused x 9 | some T ↦ saturateFilled x T ]
+  | true ↦ elim (saturated x allRounds) [ none ↦ saturateRefused x 9 | some T ↦ saturateFilled x T ]
   | false ↦ saturateRefused x n
 ]
 
--- saturate(case, moves, entries)
+-- saturate(case, moves, entries): all rounds
 unfoldable pub saturateService : Lent → SaturateDone
 saturateService x = saturateAnswer x (saturateRefusal x)

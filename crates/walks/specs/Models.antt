@@ -7,7 +7,7 @@ use mathlib.Core.List.{List, [], _∷_}
 use Rattle.stacks.specs.Stack.{copy, pop2}
 use Rattle.stacks.specs.System.{Rule}
 use Rattle.automata.specs.Automaton.{Automaton}
-use Rattle.automata.specs.Saturation.{Saturated, saturate}
+use Rattle.automata.specs.Saturation.{Saturated, saturate, allRounds}
 use Rattle.replies.specs.declared.Halt.the-variants.{Arrived}
 use Rattle.walks.specs.Cell.{Cell, empty1, symbol, empty2, above}
 use Rattle.walks.specs.Guide.{Report, walkedBy, noRun, startWalk, guided}
@@ -43,7 +43,7 @@ walkCircle c t (some T) = guided rulesCircle T c t [] (startWalk (T .table) cell
 
 -- The least choice at the start is the copy, by entry [0,empty]. The copy's new cells keep the choice of its derivation, so the next step
 -- is the pop; the least choice afresh would be the copy again.
-pub arrives : walkCircle 40 6 (saturate rulesCircle (record { moves = 9; entries = 9 }) ownCircle)
+pub arrives : walkCircle 40 6 (saturate rulesCircle (record { moves = 9; entries = 9 }) allRounds ownCircle)
     ≡ walkedBy (Arrived (record { steps = 2; cells = 8 })) (0 ∷ 1 ∷ [])
 unfolding computed rulesCircle ownCircle cellsCircle walkCircle
 arrives = refl

@@ -4,7 +4,7 @@ use Prim.Native.Nat.{_≤_}
 use native.Mathlib.Omega.{arith}
 use Rattle.replies.specs.declared.Halt.the-variants.{Arrived, TraceFull, CellsShort}
 use Rattle.replies.specs.declared.Reply.{Reply}
-use Rattle.replies.specs.declared.Reply.the-variants.{Refused, NoRun, Walked}
+use Rattle.replies.specs.declared.Reply.the-variants.{Refused, NoRun, Open, Walked}
 use Rattle.replies.specs.declared.Replayed.{Replayed}
 use Rattle.replies.specs.declared.Replayed.the-variants as Replayed
 use Rattle.replies.specs.Numbers.{numberOf, replayNumber}
@@ -12,6 +12,7 @@ use Rattle.replies.specs.Numbers.{numberOf, replayNumber}
 unfoldable pub IsRefusal : Reply → Type 0
 IsRefusal (Refused n) = Unit {0}
 IsRefusal NoRun = ⊥
+IsRefusal Open = ⊥
 IsRefusal (Walked h) = ⊥
 
 -- no answer but a refusal has a number from 1 to 255
@@ -19,6 +20,7 @@ pub refusal-number : (r : Reply) → 1 ≤ numberOf r → numberOf r ≤ 255 →
 unfolding IsRefusal
 refusal-number (Refused n) l m = tt
 refusal-number NoRun l m = omega arith
+refusal-number Open l m = omega arith
 refusal-number (Walked (Arrived c)) l m = omega arith
 refusal-number (Walked (TraceFull c)) l m = omega arith
 refusal-number (Walked (CellsShort c)) l m = omega arith

@@ -1,10 +1,9 @@
--- The table after rounds is the least closed set where it is closed. Any two least closed sets keep the same limits, and where no
--- saturated table keeps them, the closed table passes one.
+-- The table after rounds is the least closed set where it is closed. Any two least closed sets keep the same limits, and where the table of a
+-- round passes one, the closed table passes it.
 -- Assumes nothing.
 use Prim.Native.Nat.{ℕ}
 use mathlib.Core.Bool.{false, false≢true}
 use mathlib.Core.Path.{_≡_, ap, sym, _∙_, subst}
-use mathlib.Core.Option.{none}
 use mathlib.Core.List.{List, List·Memᴰ}
 use native.Mathlib.Nat.{le-of-lt as lt-le}
 use lib.Dec.{leb}
@@ -12,11 +11,11 @@ use borrow.Author.Tests.{leb-true, leb-false}
 use Rattle.words.specs.Laws.Tests.{by-test, equal-tests}
 use Rattle.stacks.specs.System.{Rule}
 use Rattle.automata.specs.Automaton.{Automaton}
-use Rattle.automata.specs.Saturation.{tableAfter, Size, within, Saturated, saturate}
+use Rattle.automata.specs.Saturation.{tableAfter, Size, within, Saturated}
 use Rattle.automata.specs.Facts.{RuleFacts, TableFacts, OwnFacts, Closed}
 use Rattle.rounds.specs.Rounds.{own-extends, after-extends, after-closed}
 use Rattle.rounds.specs.Kept.{after-facts}
-use Rattle.rounds.specs.Limits.{IsSaturated, within-part, saturate-none}
+use Rattle.rounds.specs.Limits.{IsSaturated, within-part}
 use Rattle.rounds.specs.Contains.{Contains}
 use Rattle.rounds.specs.Contains.Laws.{contains-kept, contains-self}
 use Rattle.rounds.specs.Least.{closed-contains}
@@ -50,16 +49,15 @@ module _ {P : ℕ} (rules : List Rule) (rule-facts : (ρ : Rule) → List·Mem�
         least = λ C d o h. closed-contains rules rule-facts F d o h n;
       }
 
-  -- so the saturated table is the least closed set
-  pub saturated-least : OwnFacts P own → {lent : Size} {T : Saturated} → IsSaturated rules lent own T → LeastClosed rules own (T .table)
-  saturated-least O s =
-      subst (LeastClosed rules own) (sym (s .after .table-is)) (closed-least O (s .after .rounds) (subst (Closed rules) (s .after .table-is) (s .closed)))
+  -- so a closed table of at most n rounds is the least closed set
+  pub saturated-least : OwnFacts P own → {lent : Size} {n : ℕ} {T : Saturated} → IsSaturated rules lent own n T → Closed rules (T .table) → LeastClosed rules own (T .table)
+  saturated-least O s c =
+      subst (LeastClosed rules own) (sym (s .after .table-is)) (closed-least O (s .after .rounds) (subst (Closed rules) (s .after .table-is) c))
 
--- where no saturated table keeps the limits, the closed table passes one
-pub closed-exceeds : (rules : List Rule) (lent : Size) (own : Automaton) (n : ℕ) → Closed rules (tableAfter rules own n) → saturate rules lent own ≡ none
-    → within lent (tableAfter rules own n) ≡ false
-closed-exceeds rules lent own n c e =
-    let (m, h) = saturate-none rules lent own e in
+-- where the table after some number of rounds passes a limit, the closed table passes it
+pub closed-exceeds : (rules : List Rule) (lent : Size) (own : Automaton) (n : ℕ) → Closed rules (tableAfter rules own n) → (m : ℕ)
+    → within lent (tableAfter rules own m) ≡ false → within lent (tableAfter rules own n) ≡ false
+closed-exceeds rules lent own n c m h =
     by-test (within lent (tableAfter rules own n))
     (λ t. absurd (false≢true (sym h ∙ by-test (leb m n)
     (λ l. within-part lent (after-extends rules own m n (leb-true m n l)) t)

@@ -11,7 +11,7 @@ use borrow.Author.Tests.{eqb-true, eqb-false, ne-eqb, lt-ltb, le-ltb, ltb-true, 
 use Rattle.words.specs.Lists.{every}
 use Rattle.words.specs.Laws.Tests.{by-test}
 use Rattle.words.specs.Laws.Options.{by-option}
-use Rattle.automata.specs.Saturation.{Saturated}
+use Rattle.automata.specs.Saturation.{Saturated, roundsAdded}
 use Rattle.files.specs.Bytes.{Test, firstHit, testsOn}
 use Rattle.files.specs.Bytes.Laws.{numbered, firstHit-past, firstHit-stays, firstHit-testsOn, numbered-testsOn, firstHit-fails, firstHit-passes}
 use Rattle.files.specs.Case.{caseRefusal}
@@ -41,21 +41,21 @@ start-passed part more y h =
 
 -- what judge answers to x
 pub data JudgeCase (x : JudgeInput) : JudgeDone → Type 0 where
-  case-refused : (caseRefusal (x .case) ≡ 0 → ⊥) → JudgeCase x (judgeLeft x (caseRefusal (x .case)) [])
-  start-refused : caseRefusal (x .case) ≡ 0 → (startRefusal (judgeFiles x) ≡ 0 → ⊥) → JudgeCase x (judgeLeft x (startRefusal (judgeFiles x)) [])
-  answers-short : caseRefusal (x .case) ≡ 0 → startRefusal (judgeFiles x) ≡ 0 → x .answers < length (startsOf (x .start)) → JudgeCase x (judgeLeft x 8 [])
-  size-exceeded : caseRefusal (x .case) ≡ 0 → startRefusal (judgeFiles x) ≡ 0 → length (startsOf (x .start)) ≤ x .answers → saturated (judgeLent x) ≡ none
-      → JudgeCase x (judgeLeft x 9 [])
+  case-refused : (caseRefusal (x .case) ≡ 0 → ⊥) → JudgeCase x (judgeLeft x (caseRefusal (x .case)) 0 [])
+  start-refused : caseRefusal (x .case) ≡ 0 → (startRefusal (judgeFiles x) ≡ 0 → ⊥) → JudgeCase x (judgeLeft x (startRefusal (judgeFiles x)) 0 [])
+  answers-short : caseRefusal (x .case) ≡ 0 → startRefusal (judgeFiles x) ≡ 0 → x .answers < length (startsOf (x .start)) → JudgeCase x (judgeLeft x 8 0 [])
+  size-exceeded : caseRefusal (x .case) ≡ 0 → startRefusal (judgeFiles x) ≡ 0 → length (startsOf (x .start)) ≤ x .answers → saturated (judgeLent x) (x .rounds) ≡ none
+      → JudgeCase x (judgeLeft x 9 0 [])
   judged : (T : Saturated) → caseRefusal (x .case) ≡ 0 → startRefusal (judgeFiles x) ≡ 0 → length (startsOf (x .start)) ≤ x .answers
-      → saturated (judgeLent x) ≡ some T → JudgeCase x (judgeLeft x 0 (map (mark (x .case) T (x .start)) (startsOf (x .start))))
+      → saturated (judgeLent x) (x .rounds) ≡ some T → JudgeCase x (judgeLeft x 0 (roundsAdded T) (map (mark (x .case) T (x .start)) (startsOf (x .start))))
 
 module _ (x : JudgeInput) where
-  answer-refused : (n : ℕ) → (n ≡ 0 → ⊥) → judgeAnswer x n ≡ judgeLeft x n []
+  answer-refused : (n : ℕ) → (n ≡ 0 → ⊥) → judgeAnswer x n ≡ judgeLeft x n 0 []
   unfolding judgeAnswer
   answer-refused n h = rw (judgeAnswer, ne-eqb n 0 h)
 
-  answer-judged : {T : Saturated} → saturated (judgeLent x) ≡ some T
-      → judgeAnswer x 0 ≡ judgeLeft x 0 (map (mark (x .case) T (x .start)) (startsOf (x .start)))
+  answer-judged : {T : Saturated} → saturated (judgeLent x) (x .rounds) ≡ some T
+      → judgeAnswer x 0 ≡ judgeLeft x 0 (roundsAdded T) (map (mark (x .case) T (x .start)) (startsOf (x .start)))
   unfolding judgeAnswer
   answer-judged e = rw (judgeAnswer, e)
 
@@ -66,32 +66,31 @@ module _ (x : JudgeInput) where
 
   -- the tests after those of the files
   after-files : List (Test JudgeInput)
-  after-files = answerTests ++ testsOn judgeLent sizeTests
+  after-files = answerTests ++ sizeTests judgeLent (λ y. y .rounds)
 
   case-tests : (caseRefusal (x .case) ≡ 0 → ⊥) → judgeRefusal x ≡ caseRefusal (x .case)
   unfolding judgeRefusal
-  case-tests = case-first (λ (y : JudgeInput). y .case) (testsOn judgeFiles startTests ++ (answerTests ++ testsOn judgeLent sizeTests)) x
+  case-tests = case-first (λ (y : JudgeInput). y .case) (testsOn judgeFiles startTests ++ (answerTests ++ sizeTests judgeLent (λ y. y .rounds))) x
 
   file-tests : caseRefusal (x .case) ≡ 0 → judgeRefusal x ≡ firstHit (testsOn judgeFiles startTests ++ after-files) x
   unfolding judgeRefusal after-files
-  file-tests = case-passed (λ (y : JudgeInput). y .case) (testsOn judgeFiles startTests ++ (answerTests ++ testsOn judgeLent sizeTests)) x
+  file-tests = case-passed (λ (y : JudgeInput). y .case) (testsOn judgeFiles startTests ++ (answerTests ++ sizeTests judgeLent (λ y. y .rounds))) x
 
   short-tests : x .answers < length (startsOf (x .start)) → firstHit after-files x ≡ 8
   unfolding after-files answerTests
   short-tests h = firstHit-fails (record { fails = λ (y : JudgeInput). ltb (y .answers) (length (startsOf (y .start))); refusal = 8 }) _ x (lt-ltb _ _ h)
 
-  size-tests : length (startsOf (x .start)) ≤ x .answers → firstHit after-files x ≡ firstHit sizeTests (judgeLent x)
+  size-tests : length (startsOf (x .start)) ≤ x .answers → firstHit after-files x ≡ firstHit (sizeTests judgeLent (λ y. y .rounds)) x
   unfolding after-files answerTests
   size-tests h =
       firstHit-passes (record { fails = λ (y : JudgeInput). ltb (y .answers) (length (startsOf (y .start))); refusal = 8 }) _ x (le-ltb _ _ h)
-      ∙ firstHit-testsOn judgeLent sizeTests x
 
   sized : caseRefusal (x .case) ≡ 0 → startRefusal (judgeFiles x) ≡ 0 → length (startsOf (x .start)) ≤ x .answers → JudgeCase x (judgeService x)
   sized sound s h =
-      let e : judgeRefusal x ≡ firstHit sizeTests (judgeLent x) = file-tests sound ∙ start-passed judgeFiles after-files x s ∙ size-tests h in
-      by-option (saturated (judgeLent x))
-      (λ o. answered (e ∙ size-refused (judgeLent x) o) (answer-refused 9 (eqb-false 9 0 refl)) (size-exceeded sound s h o))
-      (λ T o. answered (e ∙ size-passed (judgeLent x) o) (answer-judged o) (judged T sound s h o))
+      let e : judgeRefusal x ≡ firstHit (sizeTests judgeLent (λ y. y .rounds)) x = file-tests sound ∙ start-passed judgeFiles after-files x s ∙ size-tests h in
+      by-option (saturated (judgeLent x) (x .rounds))
+      (λ o. answered (e ∙ size-refused judgeLent (λ y. y .rounds) x o) (answer-refused 9 (eqb-false 9 0 refl)) (size-exceeded sound s h o))
+      (λ T o. answered (e ∙ size-passed judgeLent (λ y. y .rounds) x o) (answer-judged o) (judged T sound s h o))
 
   started : caseRefusal (x .case) ≡ 0 → startRefusal (judgeFiles x) ≡ 0 → JudgeCase x (judgeService x)
   started sound s =

@@ -12,9 +12,9 @@ use Rattle.words.specs.Lists.{zeros}
 use Rattle.words.specs.Laws.Tests.{by-test}
 use Rattle.stacks.specs.System.{Rule}
 use Rattle.automata.specs.Automaton.{Automaton}
-use Rattle.automata.specs.Saturation.{Saturated, saturate, roundsAdded}
+use Rattle.automata.specs.Saturation.{Saturated, addsMove, saturate, allRounds, roundsAdded}
 use Rattle.automata.specs.Won.{won2}
-use Rattle.replies.specs.Numbers.{answerWord}
+use Rattle.replies.specs.Numbers.{markWord}
 use Rattle.replies.specs.declared.Halt.the-variants.{CellsShort}
 use Rattle.replies.specs.declared.Replayed.the-variants.{Refused}
 use Rattle.walks.specs.Guide.{walkedBy, noRun, startWalk, guided}
@@ -26,9 +26,9 @@ use Rattle.services.specs.Memory.{lent, entryWidth, counted, largest}
 use Rattle.services.specs.Saturate.{Lent, saturated, tooLarge, sizeTests, saturateRefusal}
 use Rattle.services.specs.Saturate.{SaturateDone, saturateRefused, saturateFilled, saturateAnswer, saturateService}
 use Rattle.services.specs.Saturate.Laws.{case-first, case-passed}
-use Rattle.services.specs.Judge.{JudgeInput, judgeLent, judgeFiles, answerTests, judgeRefusal, won, mark}
+use Rattle.services.specs.Judge.{JudgeInput, judgeLent, judgeFiles, answerTests, judgeRefusal, won, moreToAdd, mark}
 use Rattle.services.specs.Judge.{JudgeDone, judgeLeft, judgeAnswer, judgeService}
-use Rattle.services.specs.Guide.{GuideInput, guideLent, guideFiles, numberTests, guideRefusal, cellWords, cellsLent, startNamed, guideWalk, accepted, guideRun}
+use Rattle.services.specs.Guide.{GuideInput, guideLent, guideFiles, numberTests, guideRefusal, cellWords, cellsLent, startNamed, guideWalk, accepted, openStart, guideRun}
 use Rattle.services.specs.Guide.{GuideDone, guideLeft, refused, guideAnswer, guideService}
 use Rattle.services.specs.Replay.{ReplayInput, replayFiles, replayCells, traceTests, cellTests, replayRefusal, replayRun, replayReply, replayService}
 use Rattle.services.specs.Listing.{listingLent, listingJudge, listingGuide, sizeLine, largestCount, mostLine, replyLine, roundWon, startLine, startLines, refusedText, judgedText, listingText}
@@ -68,28 +68,28 @@ module _ {one other : List ℕ} (s : SameCase one other) where
     abbrev lend : List ℕ → Lent
     lend case = record { case = case; moves = moves; entries = entries }
 
-    saturated-alike : saturated (lend one) ≡ saturated (lend other)
+    saturated-alike : (n : ℕ) → saturated (lend one) n ≡ saturated (lend other) n
     unfolding saturated
-    saturated-alike = ap₂ (λ (rules : List Rule) (own : Automaton). saturate rules (lent moves entries) own) (s .same-rules) (s .same-own)
+    saturated-alike n = ap₂ (λ (rules : List Rule) (own : Automaton). saturate rules (lent moves entries) n own) (s .same-rules) (s .same-own)
 
-    large-alike : tooLarge (lend one) ≡ tooLarge (lend other)
+    large-alike : (n : ℕ) → tooLarge (lend one) n ≡ tooLarge (lend other) n
     unfolding tooLarge
-    large-alike = λ i. elim (saturated-alike i) [ none ↦ true | some T ↦ false ]
+    large-alike n = λ i. elim (saturated-alike n i) [ none ↦ true | some T ↦ false ]
 
     count-alike : largestCount (lend one) ≡ largestCount (lend other)
     unfolding largestCount
-    count-alike = λ i. elim (saturated-alike i) [ none ↦ 0 | some T ↦ largest (counted (T .table)) ]
+    count-alike = λ i. elim (saturated-alike allRounds i) [ none ↦ 0 | some T ↦ largest (counted (T .table)) ]
 
     -- ---- saturate
 
     saturate-refused-alike : saturateRefusal (lend one) ≡ saturateRefusal (lend other)
     unfolding saturateRefusal sizeTests Alike
-    saturate-refused-alike = refused-alike (λ x. x .case) sizeTests (lend one) (lend other) (s .same-refusal) (large-alike, tt)
+    saturate-refused-alike = refused-alike (λ x. x .case) (sizeTests (λ x. x) (λ x. allRounds)) (lend one) (lend other) (s .same-refusal) (large-alike allRounds, tt)
 
     pub saturate-alike : saturateService (lend one) ≡ saturateService (lend other)
     unfolding saturateService saturateAnswer saturateRefused saturateFilled
     saturate-alike = λ i. elim (eqb (saturate-refused-alike i) 0) [
-      | true ↦ elim (saturated-alike i) [ none ↦ saturateRefused (lend one) 9 | some T ↦ saturateFilled (lend one) T ]
+      | true ↦ elim (saturated-alike allRounds i) [ none ↦ saturateRefused (lend one) 9 | some T ↦ saturateFilled (lend one) T ]
       | false ↦ saturateRefused (lend one) (saturate-refused-alike i)
     ]
 
@@ -99,41 +99,45 @@ module _ {one other : List ℕ} (s : SameCase one other) where
 
   -- ---- judge
 
+  more-alike : (T : Saturated) → moreToAdd one T ≡ moreToAdd other T
+  unfolding moreToAdd
+  more-alike T = ap (λ (rules : List Rule). addsMove rules (T .table)) (s .same-rules)
+
   mark-alike : (T : Saturated) (start : List ℕ) → mark one T start ≡ mark other T start
   unfolding mark won
-  mark-alike T start = λ i x. answerWord (won2 (s .same-rules i) (s .same-own i) (roundsAdded T) (configurationOf start x .stack) (x .control))
+  mark-alike T start = λ i x. markWord (more-alike T i) (won2 (s .same-rules i) (s .same-own i) (roundsAdded T) (configurationOf start x .stack) (x .control))
 
-  module _ (start : List ℕ) (moves entries answers : ℕ) where
+  module _ (start : List ℕ) (rounds moves entries answers : ℕ) where
     abbrev judging : List ℕ → JudgeInput
-    judging case = record { case = case; start = start; moves = moves; entries = entries; answers = answers }
+    judging case = record { case = case; start = start; rounds = rounds; moves = moves; entries = entries; answers = answers }
 
     judge-refused-alike : judgeRefusal (judging one) ≡ judgeRefusal (judging other)
     unfolding judgeRefusal judgeFiles judgeLent startTests answerTests sizeTests testsOn Alike
     judge-refused-alike =
         refused-alike (λ x. x .case) _ (judging one) (judging other) (s .same-refusal)
-        (refl, (ap not (start-alike start), (refl, (large-alike moves entries, tt))))
+        (refl, (ap not (start-alike start), (refl, (large-alike moves entries rounds, tt))))
 
     pub judge-alike : judgeService (judging one) ≡ judgeService (judging other)
     unfolding judgeService judgeAnswer judgeLent judgeLeft
     judge-alike = λ i. elim (eqb (judge-refused-alike i) 0) [
-      | true ↦ elim (saturated-alike moves entries i) [
-        | none ↦ judgeLeft (judging one) 9 []
-        | some T ↦ judgeLeft (judging one) 0 (map (mark-alike T start i) (startsOf start))
+      | true ↦ elim (saturated-alike moves entries rounds i) [
+        | none ↦ judgeLeft (judging one) 9 0 []
+        | some T ↦ judgeLeft (judging one) 0 (roundsAdded T) (map (mark-alike T start i) (startsOf start))
       ]
-      | false ↦ judgeLeft (judging one) (judge-refused-alike i) []
+      | false ↦ judgeLeft (judging one) (judge-refused-alike i) 0 []
     ]
 
   -- ---- guide
 
-  module _ (start : List ℕ) (number moves entries cells trace : ℕ) where
+  module _ (start : List ℕ) (number rounds moves entries cells trace : ℕ) where
     abbrev guiding : List ℕ → GuideInput
-    guiding case = record { case = case; start = start; number = number; moves = moves; entries = entries; cells = cells; trace = trace }
+    guiding case = record { case = case; start = start; number = number; rounds = rounds; moves = moves; entries = entries; cells = cells; trace = trace }
 
     guide-refused-alike : guideRefusal (guiding one) ≡ guideRefusal (guiding other)
     unfolding guideRefusal guideFiles guideLent startTests numberTests sizeTests testsOn Alike
     guide-refused-alike =
         refused-alike (λ x. x .case) _ (guiding one) (guiding other) (s .same-refusal)
-        (refl, (ap not (start-alike start), (refl, (large-alike moves entries, tt))))
+        (refl, (ap not (start-alike start), (refl, (large-alike moves entries rounds, tt))))
 
     run-alike : (T : Saturated) → guideRun (guiding one) T ≡ guideRun (guiding other) T
     unfolding guideRun guideWalk startNamed cellsLent
@@ -143,13 +147,13 @@ module _ {one other : List ℕ} (s : SameCase one other) where
             (startWalk (T .table) (cellsOf start) (startAt start number .control) (startAt start number .root))
         | false ↦ walkedBy (CellsShort (record { steps = 0; cells = 0 })) []
       ]
-      | false ↦ noRun
+      | false ↦ elim (more-alike T i) [ true ↦ openStart | false ↦ noRun ]
     ]
 
     pub guide-alike : guideService (guiding one) ≡ guideService (guiding other)
     unfolding guideService guideAnswer guideLent guideLeft
     guide-alike = λ i. elim (eqb (guide-refused-alike i) 0) [
-      | true ↦ elim (saturated-alike moves entries i) [
+      | true ↦ elim (saturated-alike moves entries rounds i) [
         | none ↦ guideLeft (guiding one) (refused 9)
         | some T ↦ guideLeft (guiding one) (run-alike T i)
       ]
@@ -201,14 +205,15 @@ module _ {one other : List ℕ} (s : SameCase one other) where
     abbrev files : List ℕ → Files
     files case = record { case = case; start = start }
 
-    round-alike : (n : ℕ) → roundWon (files one) n ≡ roundWon (files other) n
+    round-alike : (rounds n : ℕ) → roundWon (files one) rounds n ≡ roundWon (files other) rounds n
     unfolding roundWon listingJudge
-    round-alike n = ap (λ (d : JudgeDone). getD (d .answers) n 0 - 1) (judge-alike start (1024 * 5) (64 * entryWidth) 64)
+    round-alike rounds n = ap (λ (d : JudgeDone). getD (d .answers) n 0 - 1) (judge-alike start rounds (1024 * 5) (64 * entryWidth) 64)
 
     line-alike : (n : ℕ) → startLine (files one) n ≡ startLine (files other) n
     unfolding startLine listingGuide
     line-alike n =
-        ap₂ (λ (r : ℕ) (d : GuideDone). replyLine n r (d .reply)) (round-alike n) (guide-alike start n (1024 * 5) (64 * entryWidth) (512 * cellWords) 1024)
+        ap₂ (λ (r : ℕ) (d : GuideDone). replyLine n r (d .reply)) (round-alike allRounds n)
+        (guide-alike start n allRounds (1024 * 5) (64 * entryWidth) (512 * cellWords) 1024)
 
     lines-alike : (n k : ℕ) → startLines (files one) n k ≡ startLines (files other) n k
     unfolding startLines
@@ -226,13 +231,13 @@ module _ {one other : List ℕ} (s : SameCase one other) where
     unfolding listingText listingJudge
     listing-alike =
         ap₂ (λ (d : JudgeDone) (text : List ℕ). elim (eqb (d .code) 0) [ true ↦ text | false ↦ refusedText (d .code) ])
-        (judge-alike start (1024 * 5) (64 * entryWidth) 64) judged-alike
+        (judge-alike start allRounds (1024 * 5) (64 * entryWidth) 64) judged-alike
 
-    pub run-text-alike : (n : ℕ) → runText (files one) n ≡ runText (files other) n
+    pub run-text-alike : (n rounds : ℕ) → runText (files one) n rounds ≡ runText (files other) n rounds
     unfolding runText runGuide
-    run-text-alike n =
-        ap₂ (λ (r : ℕ) (d : GuideDone). answerText n r (d .reply) (d .trace)) (round-alike n)
-        (guide-alike start n (1024 * 5) (64 * entryWidth) (4096 * cellWords) 65536)
+    run-text-alike n rounds =
+        ap₂ (λ (r : ℕ) (d : GuideDone). answerText n r (d .reply) (d .trace)) (round-alike rounds n)
+        (guide-alike start n rounds (1024 * 5) (64 * entryWidth) (4096 * cellWords) 65536)
 
     pub show-alike : (n : ℕ) → showText (files one) n ≡ showText (files other) n
     unfolding showText showInput

@@ -10,28 +10,29 @@ use borrow.Author.Tests.{eqb-true, eqb-false, ne-eqb}
 use Rattle.words.specs.Lists.{every}
 use Rattle.words.specs.Laws.Tests.{by-test}
 use Rattle.words.specs.Laws.Options.{by-option}
-use Rattle.automata.specs.Saturation.{Saturated}
+use Rattle.automata.specs.Saturation.{Saturated, allRounds}
 use Rattle.files.specs.Bytes.{Test, firstHit, testsOn}
 use Rattle.files.specs.Bytes.Laws.{numbered, firstHit-past, firstHit-stays, firstHit-testsOn, numbered-testsOn, firstHit-fails, firstHit-passes}
 use Rattle.files.specs.Case.{caseTests, caseRefusal}
 use Rattle.services.specs.Saturate.{Lent, saturated, tooLarge, sizeTests, saturateRefusal, SaturateDone, saturateRefused, saturateFilled, saturateAnswer, saturateService}
 
--- the size test fails exactly where there is no saturated table
-pub too-large-none : (x : Lent) → saturated x ≡ none → tooLarge x ≡ true
+-- the size test fails exactly where there is no table of these rounds
+pub too-large-none : (x : Lent) (n : ℕ) → saturated x n ≡ none → tooLarge x n ≡ true
 unfolding tooLarge
-too-large-none x e = rw (tooLarge, e)
+too-large-none x n e = rw (tooLarge, e)
 
-pub too-large-some : (x : Lent) {T : Saturated} → saturated x ≡ some T → tooLarge x ≡ false
+pub too-large-some : (x : Lent) (n : ℕ) {T : Saturated} → saturated x n ≡ some T → tooLarge x n ≡ false
 unfolding tooLarge
-too-large-some x e = rw (tooLarge, e)
+too-large-some x n e = rw (tooLarge, e)
 
-pub size-refused : (x : Lent) → saturated x ≡ none → firstHit sizeTests x ≡ 9
-unfolding sizeTests
-size-refused x e = firstHit-fails (record { fails = tooLarge; refusal = 9 }) [] x (too-large-none x e)
+module _ {X : Type 0} (part : X → Lent) (rounds : X → ℕ) (x : X) where
+  pub size-refused : saturated (part x) (rounds x) ≡ none → firstHit (sizeTests part rounds) x ≡ 9
+  unfolding sizeTests
+  size-refused e = firstHit-fails (record { fails = λ y. tooLarge (part y) (rounds y); refusal = 9 }) [] x (too-large-none (part x) (rounds x) e)
 
-pub size-passed : (x : Lent) {T : Saturated} → saturated x ≡ some T → firstHit sizeTests x ≡ 0
-unfolding sizeTests firstHit
-size-passed x e = firstHit-passes (record { fails = tooLarge; refusal = 9 }) [] x (too-large-some x e)
+  pub size-passed : {T : Saturated} → saturated (part x) (rounds x) ≡ some T → firstHit (sizeTests part rounds) x ≡ 0
+  unfolding sizeTests firstHit
+  size-passed e = firstHit-passes (record { fails = λ y. tooLarge (part y) (rounds y); refusal = 9 }) [] x (too-large-some (part x) (rounds x) e)
 
 pub case-numbered : numbered caseTests ≡ true
 unfolding numbered caseTests every
@@ -56,14 +57,14 @@ case-passed part more y h =
 -- what saturate answers to x
 pub data SaturateCase (x : Lent) : SaturateDone → Type 0 where
   case-refused : (caseRefusal (x .case) ≡ 0 → ⊥) → SaturateCase x (saturateRefused x (caseRefusal (x .case)))
-  size-exceeded : caseRefusal (x .case) ≡ 0 → saturated x ≡ none → SaturateCase x (saturateRefused x 9)
-  filled : (T : Saturated) → caseRefusal (x .case) ≡ 0 → saturated x ≡ some T → SaturateCase x (saturateFilled x T)
+  size-exceeded : caseRefusal (x .case) ≡ 0 → saturated x allRounds ≡ none → SaturateCase x (saturateRefused x 9)
+  filled : (T : Saturated) → caseRefusal (x .case) ≡ 0 → saturated x allRounds ≡ some T → SaturateCase x (saturateFilled x T)
 
 answer-refused : (x : Lent) (n : ℕ) → (n ≡ 0 → ⊥) → saturateAnswer x n ≡ saturateRefused x n
 unfolding saturateAnswer
 answer-refused x n h = rw (saturateAnswer, ne-eqb n 0 h)
 
-answer-filled : (x : Lent) {T : Saturated} → saturated x ≡ some T → saturateAnswer x 0 ≡ saturateFilled x T
+answer-filled : (x : Lent) {T : Saturated} → saturated x allRounds ≡ some T → saturateAnswer x 0 ≡ saturateFilled x T
 unfolding saturateAnswer
 answer-filled x e = rw (saturateAnswer, e)
 
@@ -73,10 +74,11 @@ saturate-cases x =
     by-test (eqb (caseRefusal (x .case)) 0)
     (λ e.
     let sound = eqb-true _ 0 e in
-    let passed : saturateRefusal x ≡ firstHit sizeTests x = case-passed (λ (y : Lent). y .case) sizeTests x sound in
-    by-option (saturated x)
-    (λ h. subst (SaturateCase x) (sym (ap (saturateAnswer x) (passed ∙ size-refused x h) ∙ answer-refused x 9 (eqb-false 9 0 refl))) (size-exceeded sound h))
-    (λ T h. subst (SaturateCase x) (sym (ap (saturateAnswer x) (passed ∙ size-passed x h) ∙ answer-filled x h)) (filled T sound h)))
+    let tests : List (Test Lent) = sizeTests (λ (y : Lent). y) (λ (y : Lent). allRounds) in
+    let passed : saturateRefusal x ≡ firstHit tests x = case-passed (λ (y : Lent). y .case) tests x sound in
+    by-option (saturated x allRounds)
+    (λ h. subst (SaturateCase x) (sym (ap (saturateAnswer x) (passed ∙ size-refused (λ y. y) (λ y. allRounds) x h) ∙ answer-refused x 9 (eqb-false 9 0 refl))) (size-exceeded sound h))
+    (λ T h. subst (SaturateCase x) (sym (ap (saturateAnswer x) (passed ∙ size-passed (λ y. y) (λ y. allRounds) x h) ∙ answer-filled x h)) (filled T sound h)))
     (λ e.
     let bad = eqb-false _ 0 e in
-    subst (SaturateCase x) (sym (ap (saturateAnswer x) (case-first (λ (y : Lent). y .case) sizeTests x bad) ∙ answer-refused x _ bad)) (case-refused bad))
+    subst (SaturateCase x) (sym (ap (saturateAnswer x) (case-first (λ (y : Lent). y .case) (sizeTests (λ (y : Lent). y) (λ (y : Lent). allRounds)) x bad) ∙ answer-refused x _ bad)) (case-refused bad))
