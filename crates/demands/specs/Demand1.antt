@@ -3,13 +3,14 @@
 -- say. The proof is `demand1` in Demand1/Proof.antt.
 -- Assumes nothing.
 pub mod Proof
-use Prim.Native.Nat.{ℕ, _<_}
+use Prim.Native.Nat.{ℕ, _<_, min}
+use mathlib.Core.Bool.{true, false}
 use mathlib.Core.Path.{_≡_}
 use mathlib.Core.List.{List}
 use lib.ListN.{length, getD}
 use Rattle.automata.specs.Automaton.{Automaton}
 use Rattle.replies.specs.declared.Reply.{Reply}
-use Rattle.replies.specs.declared.Reply.the-variants.{Refused, NoRun, Walked}
+use Rattle.replies.specs.declared.Reply.the-variants.{Refused, NoRun, Open, Walked}
 use Rattle.replies.specs.declared.Replayed.{Replayed}
 use Rattle.replies.specs.declared.Replayed.the-variants as Replayed
 use Rattle.replies.specs.declared.Brackets.{Brackets}
@@ -23,7 +24,7 @@ use Rattle.services.specs.Judge.{JudgeInput, JudgeDone, judgeService}
 use Rattle.services.specs.Guide.{GuideInput, GuideDone, guideService}
 use Rattle.services.specs.Replay.{ReplayInput, ReplayDone, replayService}
 use Rattle.services.specs.Brackets.{BracketsInput, rootText, BracketsDone, bracketsService}
-use Rattle.demands.specs.Reach.{Runs, Marks}
+use Rattle.demands.specs.Reach.{Runs, acceptedIn, AddsMove, AddsNothing, RoundsThatAdd, Marks}
 use Rattle.demands.specs.Size.{SaturatedTable}
 use Rattle.demands.specs.Refusals.{Returned, saturateRefusals, judgeRefusals, guideRefusals, replayRefusals, bracketsRefusals}
 use Rattle.demands.specs.Traces.{RealFault, StepFails}
@@ -58,34 +59,53 @@ pub record SaturateStates (x : Lent) (d : SaturateDone) : Type 0 where
 
 -- ---- judge
 
--- "Judge then writes 16 bits per start: 0 for no, otherwise that round plus 1", "the rest zero".
+-- "Judge then writes 16 bits per start", "yes, no or open (65535)", "the rest zero".
 pub record Marked (x : JudgeInput) (answers : List ℕ) : Type 0 where
   pub marks : List ℕ
   pub one-a-start : length marks ≡ length (startsOf (x .start))
-  pub each-mark : (n : ℕ) → n < length (startsOf (x .start)) → Marks (x .case) (x .start) n (getD marks n 0)
+  pub each-mark : (n : ℕ) → n < length (startsOf (x .start)) → Marks (x .case) (x .start) (x .rounds) n (getD marks n 0)
   pub answers-are : answers ≡ padded (x .answers) marks
 
--- what the papers state of judge's answer d to x
+-- "The count returned is the rounds that added something": the fewer of the rounds asked for and of all that add a move.
+pub record CountsRounds (x : JudgeInput) (count : ℕ) : Type 0 where
+  pub rounds : ℕ
+  pub all-that-add : RoundsThatAdd (x .case) rounds
+  pub count-is : count ≡ min (x .rounds) rounds
+
+-- what the papers state of judge's answer d to x; the count is "0 in a refusal"
 pub record JudgeStates (x : JudgeInput) (d : JudgeDone) : Type 0 where
   pub number : Returned judgeRefusals x (d .code)
   pub moves-zero : d .moves ≡ zeros (x .moves)
   pub entries-zero : d .entries ≡ zeros (x .entries)
   pub answers-length : length (d .answers) ≡ x .answers
   pub done : d .code ≡ 0 → Marked x (d .answers)
-  pub refused : (d .code ≡ 0 → ⊥) → d .answers ≡ zeros (x .answers)
+  pub counted : d .code ≡ 0 → CountsRounds x (d .rounds)
+  pub refused : (d .code ≡ 0 → ⊥) → (d .answers ≡ zeros (x .answers)) × (d .rounds ≡ 0)
 
 -- ---- guide
 
--- the number and the trace of each answer: a refusal's number is the first that applies and its trace zero; no run, where no number applies and
--- there is none, leaves the trace zero; a walk, where no number applies and there is a run, writes as many steps of the full run as it
--- reports, the rest being zero
+-- the number and the trace of each answer: a refusal's number is the first that applies and its trace zero; where none applies, no run, of a start
+-- that is not accepted while nothing is left to add, and from which there is none, leaves the trace zero, and so does open, of one that is not
+-- accepted while a round more would add a move; a walk, of a start that is accepted and has a run, writes as many steps of the full run as
+-- it reports, the rest being zero
 abbrev pub Answered : GuideInput → Reply → List ℕ → Type 0
 Answered x (Refused n) trace = Returned guideRefusals x n × (n ≡ 0 → ⊥) × (trace ≡ zeros (x .trace))
-Answered x NoRun trace = Returned guideRefusals x 0 × (Runs (x .case) (x .start) (x .number) → ⊥) × (trace ≡ zeros (x .trace))
+Answered x NoRun trace =
+    Returned guideRefusals x 0
+    × (acceptedIn (x .case) (x .start) (x .number) (x .rounds) ≡ false)
+    × AddsNothing (x .case) (x .rounds)
+    × (Runs (x .case) (x .start) (x .number) → ⊥)
+    × (trace ≡ zeros (x .trace))
+Answered x Open trace =
+    Returned guideRefusals x 0
+    × (acceptedIn (x .case) (x .start) (x .number) (x .rounds) ≡ false)
+    × AddsMove (x .case) (x .rounds)
+    × (trace ≡ zeros (x .trace))
 Answered x (Walked h) trace =
     Returned guideRefusals x 0
+    × (acceptedIn (x .case) (x .start) (x .number) (x .rounds) ≡ true)
     × Runs (x .case) (x .start) (x .number)
-    × (trace ≡ padded (x .trace) (fullTrace (x .case) (x .start) (x .number) (countsOf h .steps)))
+    × (trace ≡ padded (x .trace) (fullTrace (x .case) (x .start) (x .rounds) (x .number) (countsOf h .steps)))
 
 -- what document 01 states of guide's answer d to x; how a walk halts is demand 3's
 pub record GuideStates (x : GuideInput) (d : GuideDone) : Type 0 where

@@ -1,6 +1,7 @@
 -- The demands leave nothing open: demand 1 leaves saturate, judge, replay and brackets one answer to each input, and demands 1 and 3 leave guide one.
 -- Assumes nothing.
-use Prim.Native.Nat.{ℕ, zero, suc, _≤_, _<_}
+use Prim.Native.Nat.{ℕ, zero, suc, _≤_, _<_, min}
+use mathlib.Core.Bool.{true, false, false≢true}
 use mathlib.Core.Path.{_≡_, refl, ap, ap₂, sym, _∙_, subst}
 use mathlib.Core.List.{List}
 use native.Mathlib.Omega.{arith}
@@ -12,7 +13,8 @@ use Rattle.words.specs.Laws.Tests.{by-test}
 use Rattle.stacks.specs.System.{Rule}
 use Rattle.automata.specs.Automaton.{Automaton}
 use Rattle.replies.specs.declared.Reply.{Reply}
-use Rattle.replies.specs.declared.Reply.the-variants.{Refused, NoRun, Walked}
+use Rattle.replies.specs.declared.Reply.the-variants.{Refused, NoRun, Open, Walked}
+use Rattle.replies.specs.Numbers.{openWord}
 use Rattle.replies.specs.declared.Replayed.{Replayed}
 use Rattle.replies.specs.declared.Replayed.the-variants as Replayed
 use Rattle.replies.specs.declared.Brackets.{Brackets}
@@ -26,7 +28,8 @@ use Rattle.services.specs.Guide.{GuideInput, GuideDone, cellsLent, guideService
 use Rattle.services.specs.Replay.{ReplayInput, ReplayDone, replayService}
 use Rattle.services.specs.Brackets.{BracketsInput, BracketsDone, bracketsService}
 use Rattle.guidance.specs.Halt.{Reason, haltBy}
-use Rattle.demands.specs.Reach.{Runs, WonIn, Marks}
+use Rattle.demands.specs.Reach.{WonIn, Marks, acceptedIn, RoundsThatAdd, Yes}
+use Rattle.demands.specs.Reach.Laws.{adds-not}
 use Rattle.demands.specs.Size.Laws.{one-saturated}
 use Rattle.demands.specs.Refusals.{Returned, saturateRefusals, judgeRefusals, guideRefusals, replayRefusals, bracketsRefusals}
 use Rattle.demands.specs.Refusals.Laws.{returned-one}
@@ -37,7 +40,7 @@ use Rattle.demands.specs.Demand1.{SaturateStates, JudgeStates, Answered,
 use Rattle.demands.specs.Demand1.Proof.{demand1-saturate, demand1-judge, demand1-guide, demand1-replay, demand1-brackets}
 use Rattle.demands.specs.Demand2.{judgeFor}
 use Rattle.demands.specs.Demand3.{MarkedYes, AnswersRun, Guides}
-use Rattle.demands.specs.Demand3.Proof.{guides, runs-marked}
+use Rattle.demands.specs.Demand3.Proof.{guides, accepts-marked}
 
 -- ---- saturate
 
@@ -76,28 +79,53 @@ saturate-only x d s = saturate-one x s (demand1-saturate x)
 -- ---- judge
 
 -- a start has one word
-mark-one : (case start : List ℕ) (n a b : ℕ) → Marks case start n a → Marks case start n b → a ≡ b
-mark-one case start n zero b m k = sym (k .no-run .1 (m .no-run .0 refl))
-mark-one case start n (suc r) b m k = let w : WonIn case start n r = m .round r .0 refl in sym (k .round r .1 w)
+mark-one : (case start : List ℕ) (rounds n a b : ℕ) → Marks case start rounds n a → Marks case start rounds n b → a ≡ b
+mark-one case start rounds n zero b m k = sym (k .no-left .1 (m .no-left .0 refl))
+mark-one case start rounds n (suc r) b m k =
+    by-test (eqb (suc r) openWord)
+    (λ t. let e : suc r ≡ openWord = eqb-true _ _ t in e ∙ sym (k .is-open .1 (m .is-open .0 e)))
+    (λ t.
+    let y : Yes (suc r) = (λ e. absurd (omega arith), eqb-false _ _ t) in
+    let w : WonIn case start n r = m .round y r .0 refl in
+    sym (k .round (k .yes .1 (m .yes .0 y)) r .1 w))
 
-judge-done : {d e : JudgeDone} → d .code ≡ e .code → d .moves ≡ e .moves → d .entries ≡ e .entries → d .answers ≡ e .answers → d ≡ e
-judge-done c ms es bs = λ i. record { code = c i; moves = ms i; entries = es i; answers = bs i }
+-- there is one number of rounds that add a move
+adding-one : (case : List ℕ) (m k : ℕ) → RoundsThatAdd case m → RoundsThatAdd case k → m ≡ k
+adding-one case m k a b =
+    let l : m ≤ k = no-more m k a b in
+    let h : k ≤ m = no-more k m b a in
+    omega arith
+  where
+    no-more : (m k : ℕ) → RoundsThatAdd case m → RoundsThatAdd case k → m ≤ k
+    no-more m k a b = by-test (leb m k) (λ t. leb-true _ _ t) (λ t. absurd (adds-not case k (a .each-adds k (leb-false _ _ t)) (b .then-nothing)))
+
+judge-done : {d e : JudgeDone} → d .code ≡ e .code → d .rounds ≡ e .rounds → d .moves ≡ e .moves → d .entries ≡ e .entries → d .answers ≡ e .answers → d ≡ e
+judge-done c r ms es bs = λ i. record { code = c i; rounds = r i; moves = ms i; entries = es i; answers = bs i }
 
 judge-one : (x : JudgeInput) {d e : JudgeDone} → JudgeStates x d → JudgeStates x e → d ≡ e
 judge-one x {d} {e} s t =
     let c : d .code ≡ e .code = returned-one judgeRefusals x (s .number) (t .number) in
-    judge-done c (s .moves-zero ∙ sym (t .moves-zero)) (s .entries-zero ∙ sym (t .entries-zero))
+    judge-done c
+    (by-test (eqb (d .code) 0)
+    (λ z.
+    let f = s .counted (eqb-true _ 0 z) in
+    let g = t .counted (sym c ∙ eqb-true _ 0 z) in
+    f .count-is ∙ ap (min (x .rounds)) (adding-one (x .case) (f .rounds) (g .rounds) (f .all-that-add) (g .all-that-add)) ∙ sym (g .count-is))
+    (λ z.
+    let bad = eqb-false _ 0 z in
+    s .refused bad .1 ∙ sym (t .refused (λ q. bad (c ∙ q)) .1)))
+    (s .moves-zero ∙ sym (t .moves-zero)) (s .entries-zero ∙ sym (t .entries-zero))
     (by-test (eqb (d .code) 0)
     (λ z.
     let f = s .done (eqb-true _ 0 z) in
     let g = t .done (sym c ∙ eqb-true _ 0 z) in
     let m : f .marks ≡ g .marks = ext-getD 0 (f .marks) (g .marks) (f .one-a-start ∙ sym (g .one-a-start)) (λ n l.
     let k : n < length (startsOf (x .start)) = rw (f .one-a-start) at l in
-    mark-one (x .case) (x .start) n _ _ (f .each-mark n k) (g .each-mark n k)) in
+    mark-one (x .case) (x .start) (x .rounds) n _ _ (f .each-mark n k) (g .each-mark n k)) in
     f .answers-are ∙ ap (padded (x .answers)) m ∙ sym (g .answers-are))
     (λ z.
     let bad = eqb-false _ 0 z in
-    s .refused bad ∙ sym (t .refused (λ q. bad (c ∙ q)))))
+    s .refused bad .0 ∙ sym (t .refused (λ q. bad (c ∙ q)) .0)))
 
 -- Demand 1 leaves judge one answer.
 pub judge-only : (x : JudgeInput) (d : JudgeDone) → JudgeStates x d → d ≡ judgeService x
@@ -160,20 +188,31 @@ pub guide-only : (x : GuideInput) (d : GuideDone) → GuideStates x d → Guides
 guide-only x d s g =
     let t = demand1-guide x in
     let (r, k) = same (d .reply) (d .trace) (guideService x .reply) (guideService x .trace) (s .answered) (t .answered) (λ n runs.
-    run-only x d (length (startsOf (x .start))) (runs-marked x n runs) g) in
+    run-only x d (length (startsOf (x .start))) (accepts-marked x n runs) g) in
     guide-done r (s .moves-zero ∙ sym (t .moves-zero)) (s .entries-zero ∙ sym (t .entries-zero)) (s .cells-zero ∙ sym (t .cells-zero)) k
   where
+    -- a start that is not accepted is not
+    not-both : acceptedIn (x .case) (x .start) (x .number) (x .rounds) ≡ false → acceptedIn (x .case) (x .start) (x .number) (x .rounds) ≡ true → ⊥
+    not-both z t = false≢true (sym z ∙ t)
+
     same : (u : Reply) (v : List ℕ) (w : Reply) (z : List ℕ) → Answered x u v → Answered x w z
-        → (Returned guideRefusals x 0 → Runs (x .case) (x .start) (x .number) → (u ≡ w) × (v ≡ z)) → (u ≡ w) × (v ≡ z)
+        → (Returned guideRefusals x 0 → acceptedIn (x .case) (x .start) (x .number) (x .rounds) ≡ true → (u ≡ w) × (v ≡ z)) → (u ≡ w) × (v ≡ z)
     same (Refused n) v (Refused m) z (a, _, b) (c, _, f) k = (ap Refused (returned-one guideRefusals x a c), b ∙ sym f)
-    same (Refused n) v NoRun z (a, bad, b) (c, _, f) k = absurd (bad (returned-one guideRefusals x a c))
-    same (Refused n) v (Walked j) z (a, bad, b) (c, _, f) k = absurd (bad (returned-one guideRefusals x a c))
-    same NoRun v (Refused m) z (a, _, b) (c, bad, f) k = absurd (bad (returned-one guideRefusals x c a))
-    same NoRun v NoRun z (a, _, b) (c, _, f) k = (refl, b ∙ sym f)
-    same NoRun v (Walked j) z (a, none, b) (c, runs, f) k = absurd (none runs)
-    same (Walked i) v (Refused m) z (a, _, b) (c, bad, f) k = absurd (bad (returned-one guideRefusals x c a))
-    same (Walked i) v NoRun z (a, runs, b) (c, none, f) k = absurd (none runs)
-    same (Walked i) v (Walked j) z (a, runs, b) (c, _, f) k = k a runs
+    same (Refused n) v NoRun z (a, bad, _) (c, _, _, _, _) k = absurd (bad (returned-one guideRefusals x a c))
+    same (Refused n) v Open z (a, bad, _) (c, _, _, _) k = absurd (bad (returned-one guideRefusals x a c))
+    same (Refused n) v (Walked j) z (a, bad, _) (c, _, _, _) k = absurd (bad (returned-one guideRefusals x a c))
+    same NoRun v (Refused m) z (a, _, _, _, _) (c, bad, _) k = absurd (bad (returned-one guideRefusals x c a))
+    same NoRun v NoRun z (_, _, _, _, b) (_, _, _, _, f) k = (refl, b ∙ sym f)
+    same NoRun v Open z (_, _, still, _, _) (_, _, adds, _) k = absurd (adds-not (x .case) (x .rounds) adds still)
+    same NoRun v (Walked j) z (_, n, _, _, _) (_, t, _, _) k = absurd (not-both n t)
+    same Open v (Refused m) z (a, _, _, _) (c, bad, _) k = absurd (bad (returned-one guideRefusals x c a))
+    same Open v NoRun z (_, _, adds, _) (_, _, still, _, _) k = absurd (adds-not (x .case) (x .rounds) adds still)
+    same Open v Open z (_, _, _, b) (_, _, _, f) k = (refl, b ∙ sym f)
+    same Open v (Walked j) z (_, n, _, _) (_, t, _, _) k = absurd (not-both n t)
+    same (Walked i) v (Refused m) z (a, _, _, _) (c, bad, _) k = absurd (bad (returned-one guideRefusals x c a))
+    same (Walked i) v NoRun z (_, t, _, _) (_, n, _, _, _) k = absurd (not-both n t)
+    same (Walked i) v Open z (_, t, _, _) (_, n, _, _) k = absurd (not-both n t)
+    same (Walked i) v (Walked j) z (a, t, _, _) (c, _, _, _) k = k a t
 
 -- ---- replay
 

@@ -16,11 +16,12 @@ use Rattle.stacks.specs.System.{Configuration, Rule, Run}
 use Rattle.automata.specs.Acceptance.{accepts2, inTarget}
 use Rattle.replies.specs.declared.Halt.the-variants.{Arrived}
 use Rattle.replies.specs.declared.Reply.the-variants.{Walked}
+use Rattle.replies.specs.Numbers.{openWord}
 use Rattle.files.specs.Case.{head, EdgeBytes, edgeRecords, caseRefusal, ownOf}
 use Rattle.files.specs.Start.{startsOf, cellsOf, configurationAt}
 use Rattle.services.specs.Judge.{JudgeInput, JudgeDone}
 use Rattle.services.specs.Guide.{GuideInput, GuideDone, cellsLent}
-use Rattle.demands.specs.Reach.{roundTable}
+use Rattle.demands.specs.Reach.{roundTable, AddsMove, AddsNothing}
 use Rattle.demands.specs.Refusals.{Returned, judgeRefusals}
 use Rattle.demands.specs.Demand2.{judgeFor, JudgeMarks}
 use Rattle.demands.specs.Demand3.{MarkedYes, Guides}
@@ -69,11 +70,16 @@ NoStepLeaves = (rules : List Rule) (c d : Configuration) (ns : List ℕ) → fin
 
 -- ---- the answers
 
--- Judge's word for a finished start is 1, its round being 0, or 0, as the start lies in the target or not.
+-- Judge's word for a finished start is 1, its round being 0, where the start lies in the target; where it does not, it is 0, or open while a round
+-- more would add a move.
+pub record FinishedWord (x : JudgeInput) (n word : ℕ) : Type 0 where
+  pub inside : inTarget (ownOf (x .case)) (configurationAt (x .start) n) ≡ true → word ≡ 1
+  pub outside : inTarget (ownOf (x .case)) (configurationAt (x .start) n) ≡ false → AddsNothing (x .case) (x .rounds) → word ≡ 0
+  pub still-open : inTarget (ownOf (x .case)) (configurationAt (x .start) n) ≡ false → AddsMove (x .case) (x .rounds) → word ≡ openWord
+
 abbrev pub FinishedMarks : Type 0
 FinishedMarks = (x : JudgeInput) (d : JudgeDone) → JudgeMarks x d → Returned judgeRefusals x 0 → (n : ℕ) → n < length (startsOf (x .start))
-    → finished (configurationAt (x .start) n .stack) ≡ true
-    → getD (d .answers) n 0 ≡ elim (inTarget (ownOf (x .case)) (configurationAt (x .start) n)) [ true ↦ 1 | false ↦ 0 ]
+    → finished (configurationAt (x .start) n .stack) ≡ true → FinishedWord x n (getD (d .answers) n 0)
 
 -- "Tested where arrival is tested, before trace and cells": for a finished start marked yes guide has arrived without a step, with the start
 -- file's cells, where so many are lent, whatever trace is lent.

@@ -1,5 +1,5 @@
--- The full run of a start, a function of the case file, the start file and the start's number alone; and the halt of a guide with c cells
--- and t trace words, in document 01's words.
+-- The full run of a start, a function of the case file, the start file, the start's number and a number of rounds alone; and the halt of a guide
+-- with c cells and t trace words, in document 01's words.
 -- Assumes nothing.
 pub mod Laws
 use Prim.Native.Nat.{ℕ, suc, _+_, _<_}
@@ -17,32 +17,33 @@ use Rattle.guidance.specs.Halt.{Reason, arrival, trace-full, cells-short, cells
 
 -- ---- the full run
 
--- The case's saturated table with its sizes after each round, or none where it passes a limit whatever tables are lent. It is the same for
--- all lent tables that hold it: `saturated-is` in FullRun/Laws.antt.
-unfoldable pub saturatedTable : List ℕ → Option Saturated
-saturatedTable case = saturate (rulesOf case) (record { moves = 1024; entries = 64 }) (ownOf case)
+-- The case's table after so many rounds with its sizes after each round, or none where it passes a limit whatever tables are lent. It is the same
+-- for all lent tables that hold it: `saturated-is` in FullRun/Laws.antt.
+unfoldable pub saturatedTable : List ℕ → ℕ → Option Saturated
+saturatedTable case rounds = saturate (rulesOf case) (record { moves = 1024; entries = 64 }) rounds (ownOf case)
 
 -- "All start cells are taken first": the walk of start n before its first step.
 unfoldable pub walkFrom : List ℕ → ℕ → Automaton → Walk
 walkFrom start n A = startWalk A (cellsOf start) (startAt start n .control) (startAt start n .root)
 
--- "The full run .. is this walk with cells and trace without end": the walk of start n after m steps, where it has that many,
-unfoldable pub fullWalk : List ℕ → List ℕ → ℕ → ℕ → Option Walk
-fullWalk case start n m = elim (saturatedTable case) [ none ↦ none | some T ↦ walkAfter (rulesOf case) T m (walkFrom start n (T .table)) ]
+-- "The full run .. is this walk with cells and trace without end", on "the table of those rounds alone": the walk of start n after m steps,
+-- where it has that many,
+unfoldable pub fullWalk : List ℕ → List ℕ → ℕ → ℕ → ℕ → Option Walk
+fullWalk case start rounds n m = elim (saturatedTable case rounds) [ none ↦ none | some T ↦ walkAfter (rulesOf case) T m (walkFrom start n (T .table)) ]
 
 -- the rule numbers of these steps, or of all where it has fewer,
-unfoldable pub fullTrace : List ℕ → List ℕ → ℕ → ℕ → List ℕ
-fullTrace case start n m = elim (saturatedTable case) [ none ↦ [] | some T ↦ traceAfter (rulesOf case) T m (walkFrom start n (T .table)) ]
+unfoldable pub fullTrace : List ℕ → List ℕ → ℕ → ℕ → ℕ → List ℕ
+fullTrace case start rounds n m = elim (saturatedTable case rounds) [ none ↦ [] | some T ↦ traceAfter (rulesOf case) T m (walkFrom start n (T .table)) ]
 
 -- and what follows on a walk of it: that it has arrived, or a step.
-unfoldable pub fullNext : List ℕ → Walk → Next
-fullNext case w = elim (saturatedTable case) [ none ↦ stuck | some T ↦ next (rulesOf case) T w ]
+unfoldable pub fullNext : List ℕ → ℕ → Walk → Next
+fullNext case rounds w = elim (saturatedTable case rounds) [ none ↦ stuck | some T ↦ next (rulesOf case) T w ]
 
 -- "It ends on arrival": ns are the rule numbers of the full run of start n, and `last` is where it arrives.
-pub record FullRun (case start : List ℕ) (n : ℕ) (ns : List ℕ) (last : Walk) : Type 0 where
-  pub walk-is : fullWalk case start n (length ns) ≡ some last
-  pub trace-is : fullTrace case start n (length ns) ≡ ns
-  pub arrives : fullNext case last ≡ arrived
+pub record FullRun (case start : List ℕ) (rounds n : ℕ) (ns : List ℕ) (last : Walk) : Type 0 where
+  pub walk-is : fullWalk case start rounds n (length ns) ≡ some last
+  pub trace-is : fullTrace case start rounds n (length ns) ≡ ns
+  pub arrives : fullNext case rounds last ≡ arrived
 
 -- ---- the halt
 

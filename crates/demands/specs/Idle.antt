@@ -1,9 +1,10 @@
 -- Document 01's idle programs, those that report another round, those that replay in another way, and those that take finished scripts or
--- tools' codes in another way; in Idle/Brackets.antt those that print in another way, in Idle/MoveCounts.antt those that count moves in another way. The
--- answer that each gives at a worked model contradicts the demand's statement, read alone.
+-- tools' codes in another way; in Idle/Brackets.antt those that print in another way, in Idle/MoveCounts.antt those that count moves in another way, and in
+-- Idle/Rounds.antt those that stop after a number of rounds in another way. The answer that each gives at a worked model contradicts the demand's statement, read alone.
 -- Assumes nothing.
 pub mod Brackets
 pub mod MoveCounts
+pub mod Rounds
 use Prim.Native.Nat.{ℕ, _+_, _*_}
 use mathlib.Core.Bool.{false≢true}
 use mathlib.Core.Path.{_≡_, refl, ap, sym, _∙_, subst}
@@ -12,13 +13,13 @@ use mathlib.Core.List.{List, [], _∷_, _++_, map}
 use lib.ListN.{getD}
 use lib.Dec.{lit<, lit≤}
 use borrow.Author.Tests.{eqb-false}
-use Rattle.automata.specs.Saturation.{Saturated, sizeOf, tableAfter}
+use Rattle.automata.specs.Saturation.{Saturated, sizeOf, tableAfter, allRounds}
 use Rattle.replies.specs.declared.Counts.{Counts}
 use Rattle.replies.specs.declared.Halt.the-variants.{Arrived, CellsShort}
 use Rattle.replies.specs.declared.Reply.{Reply}
 use Rattle.replies.specs.declared.Reply.the-variants.{Refused, NoRun, Walked}
 use Rattle.replies.specs.declared.Replayed.the-variants as Replayed
-use Rattle.replies.specs.Numbers.{replyCounts, replayNumber, replayStep}
+use Rattle.replies.specs.Numbers.{replyCounts, replayNumber, replayStep, openWord}
 use Rattle.walks.specs.Guide.{Walk}
 use Rattle.words.specs.Lists.{zeros}
 use Rattle.files.specs.Case.{ownOf, rulesOf}
@@ -33,6 +34,7 @@ use Rattle.models.specs.Computing.{computed}
 use Rattle.models.specs.Files.{two, caseA, startA, startC, startCC, caseCircle, casePast, caseCollapse, startCollapse}
 use Rattle.models.specs.Files.{caseBFinal, caseBTwice, caseBNamed, caseBOther, startEmpty, caseFinished, startFinished}
 use Rattle.models.specs.Files.{caseTurned, caseToolOurs, caseToolBroken, caseToolZero, caseToolTwice, caseToolEarly}
+use Rattle.demands.specs.Reach.{Yes}
 use Rattle.demands.specs.Refusals.{Returned, judgeRefusals, guideRefusals}
 use Rattle.demands.specs.Refusals.Laws.{returned-one}
 use Rattle.demands.specs.FullRun.{saturatedTable, walkFrom, fullWalk, fullTrace, fullNext, FullRun}
@@ -57,11 +59,11 @@ unfoldable pub lentTwo : Lent
 lentTwo = record { case = caseA; moves = 14; entries = 11 }
 
 unfoldable pub guideA : ℕ → GuideInput
-guideA n = record { case = caseA; start = startA; number = n; moves = 17; entries = 11; cells = 10 * 68; trace = 3 }
+guideA n = record { case = caseA; start = startA; number = n; rounds = allRounds; moves = 17; entries = 11; cells = 10 * 68; trace = 3 }
 
 -- the circle model, with as many
 unfoldable pub guideCircle : GuideInput
-guideCircle = record { case = caseCircle; start = startC; number = 0; moves = 17; entries = 11; cells = 10 * 68; trace = 3 }
+guideCircle = record { case = caseCircle; start = startC; number = 0; rounds = allRounds; moves = 17; entries = 11; cells = 10 * 68; trace = 3 }
 
 -- model B with its entry written twice, and with a final order-1 set that names it
 unfoldable pub lentTwice : Lent
@@ -92,14 +94,14 @@ lentEarly = record { case = caseToolEarly; moves = 17; entries = 11 }
 
 -- judge of empty stacks, with three answers: with a final entry [1,{2}] beside [1,empty], and with model B's entry final
 unfoldable pub inputOther : JudgeInput
-inputOther = record { case = caseBOther; start = startEmpty; moves = 17; entries = 11; answers = 3 }
+inputOther = record { case = caseBOther; start = startEmpty; rounds = allRounds; moves = 17; entries = 11; answers = 3 }
 
 unfoldable pub inputFound : JudgeInput
-inputFound = record { case = caseBFinal; start = startEmpty; moves = 17; entries = 11; answers = 3 }
+inputFound = record { case = caseBFinal; start = startEmpty; rounds = allRounds; moves = 17; entries = 11; answers = 3 }
 
 -- a finished script, the empty stack with a final control, with as much lent as for model A
 unfoldable pub guideFinished : GuideInput
-guideFinished = record { case = caseFinished; start = startFinished; number = 3; moves = 17; entries = 11; cells = 10 * 68; trace = 3 }
+guideFinished = record { case = caseFinished; start = startFinished; number = 3; rounds = allRounds; moves = 17; entries = 11; cells = 10 * 68; trace = 3 }
 
 -- replay of a trace that collapses, with nine cells, and of one that goes past the target, with seven
 unfoldable pub replayCollapse : ℕ → List ℕ → ReplayInput
@@ -121,14 +123,14 @@ pub refuses-guide : (d : GuideDone) (n : ℕ) → d .reply ≡ Refused n → Gui
 unfolding computed guideA
 refuses-guide d n e s =
     let (a, bad, _) = subst (λ (r : Reply). Answered (guideA 0) r (d .trace)) e (s .answered) in
-    let (b, _, _) = demand1-guide (guideA 0) .answered in
+    let (b, _, _, _) = demand1-guide (guideA 0) .answered in
     bad (returned-one guideRefusals (guideA 0) a b)
 
 -- ---- "or marking every start no"
 
 pub marks-no : (d : JudgeDone) → getD (d .answers) 0 0 ≡ 0 → JudgeMarks inputA d → ⊥
 unfolding computed inputA
-marks-no d z m = m unrefused-A .each-mark 0 (lit< tt) .no-run .0 z run-A
+marks-no d z m = m unrefused-A .each-mark 0 (lit< tt) .no-run z run-A
 
 -- ---- "Returning with tables untouched": a word of the memory column is another
 
@@ -170,28 +172,30 @@ afterOne =
     }
 
 pub one-round-judge : (d : JudgeDone) → d .answers ≡ padded 5 (map (mark caseA afterOne startA) (startsOf startA)) → JudgeMarks inputA d → ⊥
-unfolding computed afterOne
-one-round-judge d e m = marks-no d (ap (λ (l : List ℕ). getD l 0 0) e) m
+unfolding computed inputA afterOne
+one-round-judge d e m =
+    let (z, _) = m unrefused-A .each-mark 0 (lit< tt) .is-open .0 (ap (λ (l : List ℕ). getD l 0 0) e) in
+    false≢true (sym z ∙ judge-marks inputA unrefused-A .each-mark 0 (lit< tt) .yes .0 (eqb-false 3 0 refl, eqb-false 3 openWord refl))
 
 -- ---- a word that says yes alone, the round without the 1, and the round of the last table: start 0 is won in round 2, start 1 in round 0
 
 pub yes-alone : (d : JudgeDone) → getD (d .answers) 0 0 ≡ 1 → JudgeMarks inputA d → ⊥
 unfolding computed inputA configurationAt startAt
-yes-alone d e m = false≢true (m unrefused-A .each-mark 0 (lit< tt) .round 0 .0 e .accepts)
+yes-alone d e m = false≢true (m unrefused-A .each-mark 0 (lit< tt) .round (subst Yes (sym e) (eqb-false 1 0 refl, eqb-false 1 openWord refl)) 0 .0 e .accepts)
 
 pub round-alone : (d : JudgeDone) → getD (d .answers) 0 0 ≡ 2 → JudgeMarks inputA d → ⊥
 unfolding computed inputA configurationAt startAt
-round-alone d e m = false≢true (m unrefused-A .each-mark 0 (lit< tt) .round 1 .0 e .accepts)
+round-alone d e m = false≢true (m unrefused-A .each-mark 0 (lit< tt) .round (subst Yes (sym e) (eqb-false 2 0 refl, eqb-false 2 openWord refl)) 1 .0 e .accepts)
 
 pub last-round : (d : JudgeDone) → getD (d .answers) 1 0 ≡ 3 → JudgeMarks inputA d → ⊥
 unfolding computed inputA configurationAt startAt
-last-round d e m = false≢true (sym (m unrefused-A .each-mark 1 (lit< tt) .round 2 .0 e .least 0 (lit< tt)))
+last-round d e m = false≢true (sym (m unrefused-A .each-mark 1 (lit< tt) .round (subst Yes (sym e) (eqb-false 3 0 refl, eqb-false 3 openWord refl)) 2 .0 e .least 0 (lit< tt)))
 
 -- ---- "Invented steps or cells"
 
 marked-A0 : MarkedYes (judgeFor (guideA 0) 3) 0
 unfolding computed guideA judgeFor
-marked-A0 = record { judged = refl; start-there = lit< tt; yes = eqb-false 3 0 refl }
+marked-A0 = record { judged = refl; start-there = lit< tt; yes = (eqb-false 3 0 refl, eqb-false 3 openWord refl) }
 
 pub invents-steps : (d : GuideDone) → (d .trace ≡ 0 ∷ 1 ∷ 0 ∷ [] → ⊥) → Guides (guideA 0) d → ⊥
 unfolding computed guideA
@@ -211,32 +215,32 @@ short-before d e g = false≢true (ap isArrival (sym e ∙ run-only (guideA 0) d
 
 marked-circle : MarkedYes (judgeFor guideCircle 1) 0
 unfolding computed guideCircle judgeFor
-marked-circle = record { judged = refl; start-there = lit< tt; yes = eqb-false 3 0 refl }
+marked-circle = record { judged = refl; start-there = lit< tt; yes = (eqb-false 3 0 refl, eqb-false 3 openWord refl) }
 
 pub circles : (d : GuideDone) (z : Counts) → d .reply ≡ Walked (CellsShort z) → Guides guideCircle d → ⊥
 unfolding computed guideCircle isArrival
 circles d z e g = false≢true (ap isArrival (sym e ∙ run-only guideCircle d 1 marked-circle g .0))
 
 -- A run that copies more often before it pops leads into the target too, but is not the full run, however many cells it takes.
-pub circle-run : (ns : List ℕ) (w : Walk) → FullRun caseCircle startC 0 ns w → ns ≡ 0 ∷ 1 ∷ []
+pub circle-run : (ns : List ℕ) (w : Walk) → FullRun caseCircle startC allRounds 0 ns w → ns ≡ 0 ∷ 1 ∷ []
 unfolding computed startAt saturatedTable walkFrom fullWalk fullTrace fullNext
 circle-run ns w r = one-full-run r run .0
   where
     last : Walk
-    last = elim (fullWalk caseCircle startC 0 2) [ none ↦ record { control = 0; root = 0; cells = [] } | some v ↦ v ]
+    last = elim (fullWalk caseCircle startC allRounds 0 2) [ none ↦ record { control = 0; root = 0; cells = [] } | some v ↦ v ]
 
-    run : FullRun caseCircle startC 0 (0 ∷ 1 ∷ []) last
+    run : FullRun caseCircle startC allRounds 0 (0 ∷ 1 ∷ []) last
     run = record { walk-is = refl; trace-is = refl; arrives = refl }
 
 -- ---- no run for every start, and a trace left as it was where there is none
 
 pub no-run-always : (d : GuideDone) → d .reply ≡ NoRun → GuideStates (guideA 0) d → ⊥
 unfolding guideA
-no-run-always d e s = let (_, h, _) = subst (λ (r : Reply). Answered (guideA 0) r (d .trace)) e (s .answered) in h run-A
+no-run-always d e s = let (_, _, _, h, _) = subst (λ (r : Reply). Answered (guideA 0) r (d .trace)) e (s .answered) in h run-A
 
 pub untouched-trace : (d : GuideDone) → d .reply ≡ NoRun → (d .trace ≡ zeros 3 → ⊥) → GuideStates (guideA 2) d → ⊥
 unfolding guideA
-untouched-trace d e h s = let (_, _, z) = subst (λ (r : Reply). Answered (guideA 2) r (d .trace)) e (s .answered) in h z
+untouched-trace d e h s = let (_, _, _, _, z) = subst (λ (r : Reply). Answered (guideA 2) r (d .trace)) e (s .answered) in h z
 
 -- ---- replay: refusing every trace, accepting none, and cells left as they were
 
@@ -324,7 +328,7 @@ unrefused-other = demand1-judge inputOther .number
 pub spreads-the-mark : (d : JudgeDone) → (getD (d .answers) 1 0 ≡ 0 → ⊥) → JudgeMarks inputOther d → ⊥
 unfolding computed inputOther
 spreads-the-mark d bad m =
-    bad (m unrefused-other .each-mark 1 (lit< tt) .no-run .1 (judge-marks inputOther unrefused-other .each-mark 1 (lit< tt) .no-run .0 refl))
+    bad (m unrefused-other .each-mark 1 (lit< tt) .no-left .1 (judge-marks inputOther unrefused-other .each-mark 1 (lit< tt) .no-left .0 refl))
 
 -- ---- "Entries found by saturation are never final": here [0,empty]
 
@@ -335,13 +339,13 @@ unrefused-found = demand1-judge inputFound .number
 pub found-is-final : (d : JudgeDone) → (getD (d .answers) 0 0 ≡ 0 → ⊥) → JudgeMarks inputFound d → ⊥
 unfolding computed inputFound
 found-is-final d bad m =
-    bad (m unrefused-found .each-mark 0 (lit< tt) .no-run .1 (judge-marks inputFound unrefused-found .each-mark 0 (lit< tt) .no-run .0 refl))
+    bad (m unrefused-found .each-mark 0 (lit< tt) .no-left .1 (judge-marks inputFound unrefused-found .each-mark 0 (lit< tt) .no-left .0 refl))
 
 -- ---- a walk that goes on from an empty stack, or does not arrive there
 
 marked-finished : MarkedYes (judgeFor guideFinished 5) 3
 unfolding computed guideFinished judgeFor
-marked-finished = record { judged = refl; start-there = lit< tt; yes = eqb-false 1 0 refl }
+marked-finished = record { judged = refl; start-there = lit< tt; yes = (eqb-false 1 0 refl, eqb-false 1 openWord refl) }
 
 pub steps-from-empty : (d : GuideDone) → (d .reply ≡ Walked (Arrived (record { steps = 0; cells = 5 })) → ⊥) → Guides guideFinished d → ⊥
 unfolding computed guideFinished finished configurationAt startAt

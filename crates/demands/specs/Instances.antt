@@ -5,7 +5,9 @@ use mathlib.Core.Path.{_≡_, refl, ap, subst}
 use mathlib.Core.List.{List, _++_}
 use lib.Dec.{lit<}
 use borrow.Author.Tests.{eqb-false}
+use Rattle.automata.specs.Saturation.{allRounds}
 use Rattle.replies.specs.declared.Brackets.the-variants.{Refused, Printed}
+use Rattle.replies.specs.Numbers.{openWord}
 use Rattle.words.specs.Lists.{zeros}
 use Rattle.files.specs.Rewriting.{Readable}
 use Rattle.services.specs.Judge.{JudgeInput}
@@ -29,25 +31,25 @@ use Rattle.demands.specs.Brackets.Proof.{brackets-exactly}
 use Rattle.demands.specs.Rewritten.{AnswersAs}
 use Rattle.demands.specs.Rewritten.Proof.{rewritten}
 
--- judge with tables of 17 and 7 words and five answers
+-- judge in all rounds, with tables of 17 and 11 words and five answers
 unfoldable pub inputA : JudgeInput
-inputA = record { case = caseA; start = startA; moves = 17; entries = 11; answers = 5 }
+inputA = record { case = caseA; start = startA; rounds = allRounds; moves = 17; entries = 11; answers = 5 }
 
 unfoldable pub inputB : JudgeInput
-inputB = record { case = caseB; start = startB; moves = 17; entries = 11; answers = 5 }
+inputB = record { case = caseB; start = startB; rounds = allRounds; moves = 17; entries = 11; answers = 5 }
 
 unfoldable pub inputBFinal : JudgeInput
-inputBFinal = record { case = caseBFinal; start = startB; moves = 17; entries = 11; answers = 5 }
+inputBFinal = record { case = caseBFinal; start = startB; rounds = allRounds; moves = 17; entries = 11; answers = 5 }
 
 unfoldable pub inputC : JudgeInput
-inputC = record { case = caseC; start = startC; moves = 17; entries = 11; answers = 5 }
+inputC = record { case = caseC; start = startC; rounds = allRounds; moves = 17; entries = 11; answers = 5 }
 
 -- start 0 of model A is marked yes, so its guided run arrives, whatever tables, cells and trace are lent
 pub marked-A : MarkedYes inputA 0
 unfolding computed inputA
-marked-A = record { judged = refl; start-there = lit< tt; yes = eqb-false 3 0 refl }
+marked-A = record { judged = refl; start-there = lit< tt; yes = (eqb-false 3 0 refl, eqb-false 3 openWord refl) }
 
-pub guided-A : GuidedRun caseA startA 0
+pub guided-A : GuidedRun caseA startA allRounds 0
 unfolding inputA
 guided-A = demand3 inputA 0 marked-A
 
@@ -59,46 +61,46 @@ unrefused-A = demand1-judge inputA .number
 -- start 0 is marked yes, so there is a run of the published system
 pub run-A : Runs caseA startA 0
 unfolding computed inputA
-run-A = judge-marks inputA unrefused-A .each-mark 0 (lit< tt) .yes .0 (eqb-false 3 0 refl)
+run-A = judge-marks inputA unrefused-A .each-mark 0 (lit< tt) .run (eqb-false 3 0 refl, eqb-false 3 openWord refl)
 
 -- and 3 is its word, so round 2 is the least whose table accepts it
 pub won-A : WonIn caseA startA 0 2
 unfolding computed inputA
-won-A = judge-marks inputA unrefused-A .each-mark 0 (lit< tt) .round 2 .0 refl
+won-A = judge-marks inputA unrefused-A .each-mark 0 (lit< tt) .round (eqb-false 3 0 refl, eqb-false 3 openWord refl) 2 .0 refl
 
 -- start 2 of model A is marked no, so there is no run
 pub no-run-A : Runs caseA startA 2 → ⊥
 unfolding computed inputA
-no-run-A = judge-marks inputA unrefused-A .each-mark 2 (lit< tt) .no-run .0 refl
+no-run-A = judge-marks inputA unrefused-A .each-mark 2 (lit< tt) .no-run refl
 
 -- start 1 of model B, its lone symbol, is marked no, so there is no run
 pub no-run-B : Runs caseB startB 1 → ⊥
 unfolding computed inputB
-no-run-B = judge-marks inputB (demand1-judge inputB .number) .each-mark 1 (lit< tt) .no-run .0 refl
+no-run-B = judge-marks inputB (demand1-judge inputB .number) .each-mark 1 (lit< tt) .no-run refl
 
 -- "Model B's lone symbol turns to yes if its entry is written with 254": there is a run of the published system, and its guided run arrives
 pub marked-B-final : MarkedYes inputBFinal 1
 unfolding computed inputBFinal
-marked-B-final = record { judged = refl; start-there = lit< tt; yes = eqb-false 2 0 refl }
+marked-B-final = record { judged = refl; start-there = lit< tt; yes = (eqb-false 2 0 refl, eqb-false 2 openWord refl) }
 
 pub run-B-final : Runs caseBFinal startB 1
 unfolding computed inputBFinal
-run-B-final = judge-marks inputBFinal (demand1-judge inputBFinal .number) .each-mark 1 (lit< tt) .yes .0 (eqb-false 2 0 refl)
+run-B-final = judge-marks inputBFinal (demand1-judge inputBFinal .number) .each-mark 1 (lit< tt) .run (eqb-false 2 0 refl, eqb-false 2 openWord refl)
 
-pub guided-B-final : GuidedRun caseBFinal startB 1
+pub guided-B-final : GuidedRun caseBFinal startB allRounds 1
 unfolding inputBFinal
 guided-B-final = demand3 inputBFinal 1 marked-B-final
 
 -- start 0 of model C is marked yes, so there is a run of the published system, and its guided run arrives
 pub marked-C : MarkedYes inputC 0
 unfolding computed inputC
-marked-C = record { judged = refl; start-there = lit< tt; yes = eqb-false 3 0 refl }
+marked-C = record { judged = refl; start-there = lit< tt; yes = (eqb-false 3 0 refl, eqb-false 3 openWord refl) }
 
 pub run-C : Runs caseC startC 0
 unfolding computed inputC
-run-C = judge-marks inputC (demand1-judge inputC .number) .each-mark 0 (lit< tt) .yes .0 (eqb-false 3 0 refl)
+run-C = judge-marks inputC (demand1-judge inputC .number) .each-mark 0 (lit< tt) .run (eqb-false 3 0 refl, eqb-false 3 openWord refl)
 
-pub guided-C : GuidedRun caseC startC 0
+pub guided-C : GuidedRun caseC startC allRounds 0
 unfolding inputC
 guided-C = demand3 inputC 0 marked-C
 

@@ -18,7 +18,7 @@ use Rattle.services.specs.Judge.{JudgeInput, judgeLent, judgeFiles}
 use Rattle.services.specs.Guide.{GuideInput, guideLent, guideFiles}
 use Rattle.services.specs.Replay.{ReplayInput, replayFiles}
 use Rattle.services.specs.Brackets.{BracketsInput, bracketsFiles, rootText}
-use Rattle.demands.specs.Size.{Exceeds}
+use Rattle.demands.specs.Size.{Exceeds, ExceedsIn}
 use Rattle.demands.specs.Traces.{CellsMissing}
 
 -- a line of the table: a number, and when it applies to an input
@@ -112,7 +112,7 @@ StartMissing start number = length (startsOf start) ≤ number
 abbrev pub AnswersShort : JudgeInput → Type 0
 AnswersShort x = x .answers < length (startsOf (x .start))
 
--- 9 is `Exceeds` in Size.antt.
+-- 9 is `Exceeds` in Size.antt for saturate, and `ExceedsIn` for judge and guide.
 
 -- 10: "The trace has an odd number of bytes."
 abbrev pub TraceOdd : ReplayInput → Type 0
@@ -144,12 +144,12 @@ saturateRefusals = caseRefusals (λ x. x .case) ++ (refusal 9 Exceeds ∷ [])
 abbrev pub judgeRefusals : List (Refusal JudgeInput)
 judgeRefusals =
     caseRefusals (λ x. x .case)
-    ++ (startRefusals judgeFiles ++ (refusal 8 AnswersShort ∷ refusal 9 (λ x. Exceeds (judgeLent x)) ∷ []))
+    ++ (startRefusals judgeFiles ++ (refusal 8 AnswersShort ∷ refusal 9 (λ x. ExceedsIn (judgeLent x) (x .rounds)) ∷ []))
 
 abbrev pub guideRefusals : List (Refusal GuideInput)
 guideRefusals =
     caseRefusals (λ x. x .case)
-    ++ (startRefusals guideFiles ++ (refusal 7 (λ x. StartMissing (x .start) (x .number)) ∷ refusal 9 (λ x. Exceeds (guideLent x)) ∷ []))
+    ++ (startRefusals guideFiles ++ (refusal 7 (λ x. StartMissing (x .start) (x .number)) ∷ refusal 9 (λ x. ExceedsIn (guideLent x) (x .rounds)) ∷ []))
 
 -- of replay, 11 left out
 abbrev pub earlyRefusals : List (Refusal ReplayInput)

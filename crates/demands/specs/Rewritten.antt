@@ -39,17 +39,17 @@ RewritingIs = (case : List ℕ) → casePlaced case ≡ true → IsRewriting cas
 
 -- ---- its answers
 
--- Every service answers the one case as the other, with the same reply and the same words in all that is lent, for every start file, number,
--- trace and length of what is lent; and the three programs print the same.
+-- Every service answers the one case as the other, with the same reply and the same words in all that is lent, for every start file, number of a
+-- start and of rounds, trace and length of what is lent; and the three programs print the same.
 pub record AnswersAs (case other : List ℕ) : Type 0 where
   pub saturates : (moves entries : ℕ)
       → saturateService (record { case = case; moves = moves; entries = entries }) ≡ saturateService (record { case = other; moves = moves; entries = entries })
-  pub judges : (start : List ℕ) (moves entries answers : ℕ)
-      → judgeService (record { case = case; start = start; moves = moves; entries = entries; answers = answers })
-      ≡ judgeService (record { case = other; start = start; moves = moves; entries = entries; answers = answers })
-  pub guides : (start : List ℕ) (number moves entries cells trace : ℕ)
-      → guideService (record { case = case; start = start; number = number; moves = moves; entries = entries; cells = cells; trace = trace })
-      ≡ guideService (record { case = other; start = start; number = number; moves = moves; entries = entries; cells = cells; trace = trace })
+  pub judges : (start : List ℕ) (rounds moves entries answers : ℕ)
+      → judgeService (record { case = case; start = start; rounds = rounds; moves = moves; entries = entries; answers = answers })
+      ≡ judgeService (record { case = other; start = start; rounds = rounds; moves = moves; entries = entries; answers = answers })
+  pub guides : (start : List ℕ) (number rounds moves entries cells trace : ℕ)
+      → guideService (record { case = case; start = start; number = number; rounds = rounds; moves = moves; entries = entries; cells = cells; trace = trace })
+      ≡ guideService (record { case = other; start = start; number = number; rounds = rounds; moves = moves; entries = entries; cells = cells; trace = trace })
   pub replays : (start : List ℕ) (number : ℕ) (trace : List ℕ) (cells : ℕ)
       → replayService (record { case = case; start = start; number = number; trace = trace; cells = cells })
       ≡ replayService (record { case = other; start = start; number = number; trace = trace; cells = cells })
@@ -57,7 +57,8 @@ pub record AnswersAs (case other : List ℕ) : Type 0 where
       → bracketsService (record { case = case; start = start; number = number; text = text })
       ≡ bracketsService (record { case = other; start = start; number = number; text = text })
   pub lists : (start : List ℕ) → listingText (record { case = case; start = start }) ≡ listingText (record { case = other; start = start })
-  pub runs : (start : List ℕ) (number : ℕ) → runText (record { case = case; start = start }) number ≡ runText (record { case = other; start = start }) number
+  pub runs : (start : List ℕ) (number rounds : ℕ)
+      → runText (record { case = case; start = start }) number rounds ≡ runText (record { case = other; start = start }) number rounds
   pub shows : (start : List ℕ) (number : ℕ) → showText (record { case = case; start = start }) number ≡ showText (record { case = other; start = start }) number
 
 -- A case that is refused with none of 1, 2 and 12 is answered as its rewriting.
@@ -73,15 +74,15 @@ pub record SharesAnswers (case other : List ℕ) : Type 0 where
       → SaturateStates (record { case = case; moves = moves; entries = entries }) d
       → SaturateStates (record { case = other; moves = moves; entries = entries }) e
       → d ≡ e
-  pub judges : (start : List ℕ) (moves entries answers : ℕ) (d e : JudgeDone)
-      → JudgeStates (record { case = case; start = start; moves = moves; entries = entries; answers = answers }) d
-      → JudgeStates (record { case = other; start = start; moves = moves; entries = entries; answers = answers }) e
+  pub judges : (start : List ℕ) (rounds moves entries answers : ℕ) (d e : JudgeDone)
+      → JudgeStates (record { case = case; start = start; rounds = rounds; moves = moves; entries = entries; answers = answers }) d
+      → JudgeStates (record { case = other; start = start; rounds = rounds; moves = moves; entries = entries; answers = answers }) e
       → d ≡ e
-  pub guides : (start : List ℕ) (number moves entries cells trace : ℕ) (d e : GuideDone)
-      → GuideStates (record { case = case; start = start; number = number; moves = moves; entries = entries; cells = cells; trace = trace }) d
-      → Guides (record { case = case; start = start; number = number; moves = moves; entries = entries; cells = cells; trace = trace }) d
-      → GuideStates (record { case = other; start = start; number = number; moves = moves; entries = entries; cells = cells; trace = trace }) e
-      → Guides (record { case = other; start = start; number = number; moves = moves; entries = entries; cells = cells; trace = trace }) e
+  pub guides : (start : List ℕ) (number rounds moves entries cells trace : ℕ) (d e : GuideDone)
+      → GuideStates (record { case = case; start = start; number = number; rounds = rounds; moves = moves; entries = entries; cells = cells; trace = trace }) d
+      → Guides (record { case = case; start = start; number = number; rounds = rounds; moves = moves; entries = entries; cells = cells; trace = trace }) d
+      → GuideStates (record { case = other; start = start; number = number; rounds = rounds; moves = moves; entries = entries; cells = cells; trace = trace }) e
+      → Guides (record { case = other; start = start; number = number; rounds = rounds; moves = moves; entries = entries; cells = cells; trace = trace }) e
       → d ≡ e
   pub replays : (start : List ℕ) (number : ℕ) (trace : List ℕ) (cells : ℕ) (d e : ReplayDone)
       → ReplayStates (record { case = case; start = start; number = number; trace = trace; cells = cells }) d

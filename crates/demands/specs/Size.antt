@@ -1,4 +1,4 @@
--- The saturated table of a case file, and when it passes a limit.
+-- The saturated table of a case file, and when it or the table after a number of rounds passes a limit.
 -- Assumes nothing.
 pub mod Laws
 use Prim.Native.Nat.{ℕ}
@@ -11,6 +11,7 @@ use Rattle.rounds.specs.LeastClosed.{LeastClosed}
 use Rattle.files.specs.Case.{ownOf, rulesOf}
 use Rattle.services.specs.Memory.{lent}
 use Rattle.services.specs.Saturate.{Lent}
+use Rattle.demands.specs.Reach.{roundTable}
 
 -- "The least closed set is the *saturated table*", its entries and moves numbered as rounds add them.
 pub record SaturatedTable (case : List ℕ) (A : Automaton) : Type 0 where
@@ -23,3 +24,7 @@ pub record Exceeds (x : Lent) : Type 0 where
   pub table : Automaton
   pub saturated : SaturatedTable (x .case) table
   pub passes : within (lent (x .moves) (x .entries)) table ≡ false
+
+-- "9 concerns the rounds run": the same of the table after n rounds.
+abbrev pub ExceedsIn : Lent → ℕ → Type 0
+ExceedsIn x n = within (lent (x .moves) (x .entries)) (roundTable (x .case) n) ≡ false

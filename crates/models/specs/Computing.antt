@@ -46,15 +46,15 @@ unfolding Brackets.between Brackets.symbolsText Brackets.stackText Brackets.brac
 open-brackets = 0
 
 unfoldable pub open-guide : ℕ
-unfolding Guide.guideLent Guide.guideFiles Guide.numberTests Guide.guideRefusal Guide.cellWords Guide.cellsLent Guide.startNamed Guide.guideWalk Guide.accepted Guide.guideRun Guide.guideLeft Guide.refused Guide.guideAnswer Guide.guideService
+unfolding Guide.guideLent Guide.guideFiles Guide.numberTests Guide.guideRefusal Guide.cellWords Guide.cellsLent Guide.startNamed Guide.guideWalk Guide.accepted Guide.openStart Guide.guideRun Guide.guideLeft Guide.refused Guide.guideAnswer Guide.guideService
 open-guide = 0
 
 unfoldable pub open-replies : ℕ
-unfolding Numbers.answerWord Numbers.countsOf
+unfolding Numbers.answerWord Numbers.markWord Numbers.wordRound Numbers.countsOf
 open-replies = 0
 
 unfoldable pub open-judge : ℕ
-unfolding Judge.judgeLent Judge.judgeFiles Judge.answerTests Judge.judgeRefusal Judge.won Judge.mark Judge.judgeLeft Judge.judgeAnswer Judge.judgeService
+unfolding Judge.judgeLent Judge.judgeFiles Judge.answerTests Judge.judgeRefusal Judge.won Judge.moreToAdd Judge.mark Judge.judgeLeft Judge.judgeAnswer Judge.judgeService
 open-judge = 0
 
 unfoldable pub open-listing : ℕ
@@ -70,7 +70,7 @@ unfolding Replay.replayFiles Replay.ruleNumbers Replay.replayCells Replay.traceT
 open-replay = 0
 
 unfoldable pub open-run : ℕ
-unfolding Run.runGuide Run.spacedNumbers Run.numbersText Run.traceLine Run.answerText Run.runText Run.noStart Run.withDigit Run.numberNamed
+unfolding Run.runGuide Run.spacedNumbers Run.numbersText Run.traceLine Run.answerText Run.runText Run.withDigit Run.numberNamed
 open-run = 0
 
 unfoldable pub open-saturate : ℕ
@@ -78,7 +78,7 @@ unfolding Saturate.saturated Saturate.tooLarge Saturate.sizeTests Saturate.satur
 open-saturate = 0
 
 unfoldable pub open-files : ℕ
-unfolding Files.two Files.line Files.headWith Files.head Files.rule Files.entry Files.finalEntry Files.plain Files.start Files.empty1 Files.symbol Files.empty2 Files.above Files.caseA Files.startA Files.caseBWith Files.caseB Files.startB Files.caseBFinal Files.startLone Files.startEmpty Files.caseBTwice Files.caseBNamed Files.caseBOther Files.caseFinished Files.startFinished Files.caseC Files.startC Files.startCC Files.caseCircle Files.casePast Files.caseCollapse Files.startCollapse Files.caseInner Files.caseMore Files.caseNone Files.startNone Files.caseBrackets Files.startBrackets Files.caseCoded Files.toolCodes Files.toolRules Files.caseTool Files.zeroCodes Files.twiceCodes Files.caseToolZero Files.caseToolTwice Files.caseToolBroken Files.caseToolSymbols Files.caseToolOurs Files.caseToolEarly Files.caseToolFour Files.caseAFive Files.caseTurned Files.times Files.startsA Files.rulesA Files.itselfA
+unfolding Files.two Files.line Files.headWith Files.head Files.rule Files.entry Files.finalEntry Files.plain Files.start Files.empty1 Files.symbol Files.empty2 Files.above Files.caseA Files.startA Files.caseBWith Files.caseB Files.startB Files.caseBFinal Files.startLone Files.startEmpty Files.caseBTwice Files.caseBNamed Files.caseBOther Files.caseFinished Files.startFinished Files.caseC Files.startC Files.startCC Files.caseCircle Files.casePast Files.caseCollapse Files.startCollapse Files.caseInner Files.caseMore Files.caseNone Files.startNone Files.caseBrackets Files.startBrackets Files.caseCoded Files.toolCodes Files.toolRules Files.caseTool Files.zeroCodes Files.twiceCodes Files.caseToolZero Files.caseToolTwice Files.caseToolBroken Files.caseToolSymbols Files.caseToolOurs Files.caseToolEarly Files.caseToolFour Files.caseAFive Files.caseTurned Files.caseWays Files.times Files.startsA Files.rulesA Files.itselfA
 open-files = 0
 
 unfoldable pub computed : ℕ

@@ -6,11 +6,12 @@ use mathlib.Core.Path.{_≡_, refl}
 use mathlib.Core.List.{List, [], _∷_, _++_}
 use Rattle.automata.specs.Automaton.{Automaton}
 use lib.ListN.{replicate}
-use Rattle.automata.specs.Saturation.{tableAfter}
+use Rattle.automata.specs.Saturation.{tableAfter, allRounds}
 use Rattle.automata.specs.Models
 use Rattle.replies.specs.declared.Halt.the-variants.{Arrived}
 use Rattle.replies.specs.declared.Reply.{Reply}
-use Rattle.replies.specs.declared.Reply.the-variants.{NoRun, Walked}
+use Rattle.replies.specs.declared.Reply.the-variants as Reply
+use Rattle.replies.specs.declared.Reply.the-variants.{NoRun, Open, Walked}
 use Rattle.replies.specs.declared.Replayed.{Replayed}
 use Rattle.replies.specs.declared.Replayed.the-variants.{Refused, Accepted, FailsAt}
 use Rattle.replies.specs.declared.Brackets.{Brackets}
@@ -27,7 +28,7 @@ use Rattle.services.specs.Run.{runText, numberNamed}
 use Rattle.services.specs.Brackets.{bracketsService, showText}
 use Rattle.models.specs.Computing.{computed}
 use Rattle.models.specs.Files.{two, caseA, startA, caseB, startB, caseBFinal, startLone, startEmpty, caseBTwice, caseBNamed, caseBOther, caseFinished, startFinished, caseC, startC, startCC, casePast, caseCollapse, startCollapse, startsA, rulesA, itselfA}
-use Rattle.models.specs.Files.{caseInner, caseMore, caseNone, startNone, caseBrackets, startBrackets, caseTool, caseToolZero, caseToolTwice, caseToolBroken, caseToolSymbols, caseToolOurs, caseToolEarly, caseToolFour, caseAFive, caseTurned}
+use Rattle.models.specs.Files.{caseInner, caseMore, caseNone, caseWays, startNone, caseBrackets, startBrackets, caseTool, caseToolZero, caseToolTwice, caseToolBroken, caseToolSymbols, caseToolOurs, caseToolEarly, caseToolFour, caseAFive, caseTurned}
 
 -- ---- what an example says
 
@@ -37,16 +38,21 @@ pub data Example : Type 0 where
   -- saturate, with so many words lent for moves, 17 (three records and two words) or 14, and so many for entries, 11 (three records and two
   -- words) or 8: its code and its two numbers, then what both slices hold
   saturates : List ℕ → ℕ → ℕ → ℕ → ℕ → ℕ → List ℕ → List ℕ → Example
-  -- judge, with 17 and 11 words and so many answers lent, words of 16 bits: its code, and what the answers hold
-  judges : List ℕ → List ℕ → ℕ → ℕ → List ℕ → Example
-  -- guide to the start of this number, with 17 and 11 words, 10 cells and 3 trace words lent: its reply, and what the trace holds
+  -- judge in all rounds, with 17 and 11 words and so many answers lent, words of 16 bits: its code and its count, and what the answers hold
+  judges : List ℕ → List ℕ → ℕ → ℕ → ℕ → List ℕ → Example
+  -- judge in so many rounds, with so many words lent for moves and for entries, and three answers: the same
+  judgesIn : List ℕ → List ℕ → ℕ → ℕ → ℕ → ℕ → ℕ → List ℕ → Example
+  -- guide in all rounds to the start of this number, with 17 and 11 words, 10 cells and 3 trace words lent: its reply, and what the trace holds
   guides : List ℕ → List ℕ → ℕ → Reply → List ℕ → Example
+  -- guide to the start of this number in so many rounds, with so many words lent for moves and for entries, and as many cells and trace words:
+  -- the same
+  guidesIn : List ℕ → List ℕ → ℕ → ℕ → ℕ → ℕ → Reply → List ℕ → Example
   -- replay of the trace of these bytes from the start of this number, with so many bytes lent for cells: its reply
   replays : List ℕ → List ℕ → ℕ → List ℕ → ℕ → Replayed → Example
   -- the text that the printing program prints
   lists : List ℕ → List ℕ → List ℕ → Example
-  -- the text that the program `run` prints for the number that these bytes name
-  runs : List ℕ → List ℕ → List ℕ → List ℕ → Example
+  -- the text that the program `run` prints for the number of a start and the number of rounds that these bytes name
+  runs : List ℕ → List ℕ → List ℕ → List ℕ → List ℕ → Example
   -- brackets of the start of this number, with so many bytes lent for the text: its reply, and what these bytes hold
   prints : List ℕ → List ℕ → ℕ → ℕ → Brackets → List ℕ → Example
   -- the text that the program `show` prints for the start of this number
@@ -58,17 +64,24 @@ Holds (table case n A) = tableAfter (rulesOf case) (ownOf case) n ≡ A
 Holds (saturates case movesLent entriesLent code moves entries moveWords entryWords) =
     saturateService (record { case = case; moves = movesLent; entries = entriesLent })
     ≡ record { reply = record { code = code; moves = moves; entries = entries }; moves = moveWords; entries = entryWords }
-Holds (judges case start answers code words) =
-    judgeService (record { case = case; start = start; moves = 17; entries = 11; answers = answers })
-    ≡ record { code = code; moves = zeros 17; entries = zeros 11; answers = words }
+Holds (judges case start answers code count words) =
+    judgeService (record { case = case; start = start; rounds = allRounds; moves = 17; entries = 11; answers = answers })
+    ≡ record { code = code; rounds = count; moves = zeros 17; entries = zeros 11; answers = words }
+Holds (judgesIn case start rounds moves entries code count words) =
+    judgeService (record { case = case; start = start; rounds = rounds; moves = moves; entries = entries; answers = 3 })
+    ≡ record { code = code; rounds = count; moves = zeros moves; entries = zeros entries; answers = words }
 Holds (guides case start number reply trace) =
-    guideService (record { case = case; start = start; number = number; moves = 17; entries = 11; cells = 10 * 68; trace = 3 })
+    guideService (record { case = case; start = start; number = number; rounds = allRounds; moves = 17; entries = 11; cells = 10 * 68; trace = 3 })
     ≡ record { reply = reply; moves = zeros 17; entries = zeros 11; cells = zeros (10 * 68); trace = trace }
+Holds (guidesIn case start number rounds moves entries reply trace) =
+    guideService (record { case = case; start = start; number = number; rounds = rounds; moves = moves; entries = entries; cells = 10 * 68; trace = 3 })
+    ≡ record { reply = reply; moves = zeros moves; entries = zeros entries; cells = zeros (10 * 68); trace = trace }
 Holds (replays case start number trace cells reply) =
     replayService (record { case = case; start = start; number = number; trace = trace; cells = cells })
     ≡ record { reply = reply; cells = zeros cells }
 Holds (lists case start text) = listingText (record { case = case; start = start }) ≡ text
-Holds (runs case start argument text) = runText (record { case = case; start = start }) (numberNamed argument) ≡ text
+Holds (runs case start number rounds text) =
+    runText (record { case = case; start = start }) (numberNamed 64 number) (numberNamed allRounds rounds) ≡ text
 Holds (prints case start number lent reply text) =
     bracketsService (record { case = case; start = start; number = number; text = lent }) ≡ record { reply = reply; text = text }
 Holds (shows case start number text) = showText (record { case = case; start = start }) number ≡ text
@@ -107,10 +120,10 @@ examples =
     (0 ∷ 1 ∷ 0 ∷ 0 ∷ 0 ∷ 1 ∷ 1 ∷ 2 ∷ 2 ∷ 0 ∷ 2 ∷ 0 ∷ 0 ∷ 0 ∷ 0 ∷ 0 ∷ 0 ∷ [])
     (1 ∷ 0 ∷ 1 ∷ 0 ∷ 0 ∷ 1 ∷ 0 ∷ 2 ∷ 1 ∷ 0 ∷ 0 ∷ [])
     -- "Starts (0,5), (1,3), (0,3). Yes, by rules 0, 1. Yes, no step. No." Won in round 2 and in round 0: "0 for no, otherwise that round plus 1."
-    ∷ judges caseA startA 5 0 (3 ∷ 1 ∷ 0 ∷ 0 ∷ 0 ∷ [])
+    ∷ judges caseA startA 5 0 2 (3 ∷ 1 ∷ 0 ∷ 0 ∷ 0 ∷ [])
     -- "Refusal 8 counts these words": three are enough for three starts, two are not.
-    ∷ judges caseA startA 3 0 (3 ∷ 1 ∷ 0 ∷ [])
-    ∷ judges caseA startA 2 8 (zeros 2)
+    ∷ judges caseA startA 3 0 2 (3 ∷ 1 ∷ 0 ∷ [])
+    ∷ judges caseA startA 2 8 0 (zeros 2)
     ∷ guides caseA startA 0 (arrived 2 9) (0 ∷ 1 ∷ 0 ∷ [])
     ∷ guides caseA startA 1 (arrived 0 6) (0 ∷ 0 ∷ 0 ∷ [])
     ∷ guides caseA startA 2 NoRun (0 ∷ 0 ∷ 0 ∷ [])
@@ -119,17 +132,17 @@ examples =
     -- "Model A's first start prints `start 0 yes 2 2 9`."
     ∷ lists caseA startA (ascii "moves 3 entries 3\nmost 1\nstart 0 yes 2 2 9\nstart 1 yes 0 0 6\nstart 2 no\n")
     -- and `run` for each of its starts, and for one that is not in the file
-    ∷ runs caseA startA (ascii "0") (ascii "start 0 yes 2 2 9\n0 1\n")
-    ∷ runs caseA startA (ascii "1") (ascii "start 1 yes 0 0 6\n\n")
-    ∷ runs caseA startA (ascii "2") (ascii "start 2 no\n")
-    ∷ runs caseA startA (ascii "18446744073709551616") (ascii "refused 7\n")
+    ∷ runs caseA startA (ascii "0") [] (ascii "start 0 yes 2 2 9\n0 1\n")
+    ∷ runs caseA startA (ascii "1") [] (ascii "start 1 yes 0 0 6\n\n")
+    ∷ runs caseA startA (ascii "2") [] (ascii "start 2 no\n")
+    ∷ runs caseA startA (ascii "18446744073709551616") [] (ascii "refused 7\n")
     -- "Symbol 0 above 1: yes. Symbol 0 alone: no, its top is empty after the pop."
-    ∷ judges caseB startB 2 0 (2 ∷ 0 ∷ [])
+    ∷ judges caseB startB 2 0 1 (2 ∷ 0 ∷ [])
     ∷ guides caseB startB 0 (arrived 1 8) (0 ∷ 0 ∷ 0 ∷ [])
     ∷ guides caseB startB 1 NoRun (0 ∷ 0 ∷ 0 ∷ [])
     -- Document 02, 3: "Model B's lone symbol turns to yes if its entry is written with 254", by one step, with 8 cells in B's file and 5 in a
     -- file of its own; its trace is accepted.
-    ∷ judges caseBFinal startB 2 0 (2 ∷ 2 ∷ [])
+    ∷ judges caseBFinal startB 2 0 1 (2 ∷ 2 ∷ [])
     ∷ guides caseBFinal startB 1 (arrived 1 8) (0 ∷ 0 ∷ 0 ∷ [])
     ∷ guides caseBFinal startLone 0 (arrived 1 5) (0 ∷ 0 ∷ 0 ∷ [])
     ∷ guides caseB startLone 0 NoRun (0 ∷ 0 ∷ 0 ∷ [])
@@ -137,19 +150,19 @@ examples =
     ∷ replays caseB startB 1 (two 0) (8 * 6) (FailsAt 1)
     -- "It accepts the empty top order-1 stack", and its control does not accept the empty order-2 stack. "Entries found by saturation are
     -- never final", such as [0,empty]; and an entry is final by its own byte alone.
-    ∷ judges caseBFinal startEmpty 3 0 (0 ∷ 1 ∷ 0 ∷ [])
-    ∷ judges caseBOther startEmpty 3 0 (0 ∷ 0 ∷ 0 ∷ [])
+    ∷ judges caseBFinal startEmpty 3 0 1 (0 ∷ 1 ∷ 0 ∷ [])
+    ∷ judges caseBOther startEmpty 3 0 0 (0 ∷ 0 ∷ 0 ∷ [])
     -- "The final order-2 set may name controls." "The walk has also arrived where no move is needed."
-    ∷ judges caseFinished startFinished 5 0 (2 ∷ 2 ∷ 0 ∷ 1 ∷ 0 ∷ [])
+    ∷ judges caseFinished startFinished 5 0 1 (2 ∷ 2 ∷ 0 ∷ 1 ∷ 0 ∷ [])
     ∷ guides caseFinished startFinished 1 (arrived 1 5) (1 ∷ 0 ∷ 0 ∷ [])
     ∷ guides caseFinished startFinished 3 (arrived 0 5) (0 ∷ 0 ∷ 0 ∷ [])
     -- "A second entry for the same state and S is refusal 4"; the final order-1 set names inner states only.
     ∷ saturates caseBTwice 17 11 4 0 0 (zeros 17) (zeros 11)
     ∷ saturates caseBNamed 17 11 2 0 0 (zeros 17) (zeros 11)
     -- "[[0]], a file of four cells: yes, rules 0, 1, 8 cells. [[0],[0]]: yes, rule 1 alone."
-    ∷ judges caseC startC 1 0 (3 ∷ [])
+    ∷ judges caseC startC 1 0 2 (3 ∷ [])
     ∷ guides caseC startC 0 (arrived 2 8) (0 ∷ 1 ∷ 0 ∷ [])
-    ∷ judges caseC startCC 1 0 (2 ∷ [])
+    ∷ judges caseC startCC 1 0 2 (2 ∷ [])
     ∷ guides caseC startCC 0 (arrived 1 5) (1 ∷ 0 ∷ 0 ∷ [])
     -- Document 02, 2: what guide wrote for A's start 0 is accepted with 9 cells, that is with 54 bytes, also if some more are lent. "Only the
     -- arrival is missing" after rule 0 alone, and after none, where the saturated table accepts but A's own does not.
@@ -179,15 +192,15 @@ examples =
     ∷ saturates caseTool 17 11 0 3 3
     (0 ∷ 1 ∷ 0 ∷ 0 ∷ 0 ∷ 1 ∷ 1 ∷ 2 ∷ 2 ∷ 0 ∷ 2 ∷ 0 ∷ 0 ∷ 0 ∷ 0 ∷ 0 ∷ 0 ∷ [])
     (1 ∷ 0 ∷ 1 ∷ 0 ∷ 0 ∷ 1 ∷ 0 ∷ 2 ∷ 1 ∷ 0 ∷ 0 ∷ [])
-    ∷ judges caseTool startA 5 0 (3 ∷ 1 ∷ 0 ∷ 0 ∷ 0 ∷ [])
+    ∷ judges caseTool startA 5 0 2 (3 ∷ 1 ∷ 0 ∷ 0 ∷ 0 ∷ [])
     ∷ guides caseTool startA 0 (arrived 2 9) (0 ∷ 1 ∷ 0 ∷ [])
     ∷ replays caseTool startA 0 (two 0 ++ two 1) (9 * 6) Accepted
     ∷ lists caseTool startA (ascii "moves 3 entries 3\nmost 1\nstart 0 yes 2 2 9\nstart 1 yes 0 0 6\nstart 2 no\n")
     -- "The record's nth byte, from 1, is the tool's code for our operation n": with the record 5, 1, 2, 3, 4, 6, 7, 8 the rule (0,0,5,1,1) rewrites
     -- [[0]] to [[1]], so its b names a symbol; and (0,0,1,1,1) pushes, so that the target is missed.
-    ∷ judges (caseTurned 5) startLone 1 0 (2 ∷ [])
+    ∷ judges (caseTurned 5) startLone 1 0 1 (2 ∷ [])
     ∷ guides (caseTurned 5) startLone 0 (arrived 1 6) (0 ∷ 0 ∷ 0 ∷ [])
-    ∷ judges (caseTurned 1) startLone 1 0 (0 ∷ [])
+    ∷ judges (caseTurned 1) startLone 1 0 0 (0 ∷ [])
     -- 12: "the eight bytes are not all different, or one is zero, after 2", and before 3, of a rule that breaks a bound
     ∷ saturates caseToolZero 17 11 12 0 0 (zeros 17) (zeros 11)
     ∷ saturates caseToolTwice 17 11 12 0 0 (zeros 17) (zeros 11)
@@ -236,17 +249,45 @@ examples =
     ∷ lists caseMore startNone (ascii "moves 3 entries 1\nmost 3\nstart 0 no\n")
     ∷ lists caseInner startNone (ascii "moves 1 entries 1\nmost 0\nstart 0 no\n")
     ∷ lists caseNone startNone (ascii "moves 0 entries 0\nmost 0\nstart 0 no\n")
+    -- Document 02, 8: "Judge takes a number of rounds n and marks each start yes, no or open (65535)." "Yes means accepted after at most n rounds.
+    -- No means not accepted and nothing left to add. Open means not accepted while round n + 1 would add a move." "The count returned is the rounds
+    -- that added something", and not the last one, which adds nothing.
+    ∷ judgesIn caseA startA 0 17 11 0 0 (65535 ∷ 1 ∷ 65535 ∷ [])
+    ∷ judgesIn caseA startA 1 17 11 0 1 (65535 ∷ 1 ∷ 65535 ∷ [])
+    ∷ judgesIn caseA startA 2 17 11 0 2 (3 ∷ 1 ∷ 0 ∷ [])
+    ∷ judgesIn caseA startA 3 17 11 0 2 (3 ∷ 1 ∷ 0 ∷ [])
+    ∷ judgesIn caseA startA 1024 17 11 0 2 (3 ∷ 1 ∷ 0 ∷ [])
+    -- "9 concerns the rounds run": two moves and two entries are enough for round 1, one move is not; "0 in a refusal".
+    ∷ judgesIn caseA startA 1 14 8 0 1 (65535 ∷ 1 ∷ 65535 ∷ [])
+    ∷ judgesIn caseA startA 2 14 8 9 0 (zeros 3)
+    ∷ judgesIn caseA startA 1 9 8 9 0 (zeros 3)
+    -- "An open start it answers with open, tested where no run is, with no step and no cell", and "with the same 9".
+    ∷ guidesIn caseA startA 0 1 14 8 Open (zeros 3)
+    ∷ guidesIn caseA startA 1 1 14 8 (arrived 0 6) (zeros 3)
+    ∷ guidesIn caseA startA 2 1 14 8 Open (zeros 3)
+    ∷ guidesIn caseA startA 2 2 17 11 NoRun (zeros 3)
+    ∷ guidesIn caseA startA 0 2 14 8 (Reply.Refused 9) (zeros 3)
+    -- "Guide .. works on the table of those rounds alone": after round 1 only [0,{1}] accepts the start, and its run pops; after round 2 [0,empty],
+    -- of a lesser number, does too, and its run rewrites twice. The word is that of round 1 for both.
+    ∷ judgesIn caseWays startA 1 22 11 0 1 (2 ∷ 1 ∷ 65535 ∷ [])
+    ∷ judgesIn caseWays startA 2 22 11 0 2 (2 ∷ 1 ∷ 0 ∷ [])
+    ∷ guidesIn caseWays startA 0 1 22 11 (arrived 1 6) (0 ∷ 0 ∷ 0 ∷ [])
+    ∷ guidesIn caseWays startA 0 2 22 11 (arrived 2 10) (1 ∷ 2 ∷ 0 ∷ [])
+    -- `open` in the place of yes and no
+    ∷ runs caseA startA (ascii "0") (ascii "1") (ascii "start 0 open\n")
+    ∷ runs caseA startA (ascii "0") (ascii "2") (ascii "start 0 yes 2 2 9\n0 1\n")
+    ∷ runs caseA startA (ascii "2") (ascii "18446744073709551616") (ascii "start 2 no\n")
     -- "At the edges: 64 starts pass, 65 give 5; 256 rules pass, 257 give 1; a cell naming itself gives 6."
-    ∷ judges caseA (startsA 64) 64 0 (replicate 64 1)
-    ∷ judges caseA (startsA 65) 65 5 (zeros 65)
+    ∷ judges caseA (startsA 64) 64 0 2 (replicate 64 1)
+    ∷ judges caseA (startsA 65) 65 5 0 (zeros 65)
     ∷ saturates (rulesA 256) 17 11 0 2 2
     (0 ∷ 1 ∷ 0 ∷ 0 ∷ 0 ∷ 1 ∷ 1 ∷ 2 ∷ 2 ∷ 0 ∷ 0 ∷ 0 ∷ 0 ∷ 0 ∷ 0 ∷ 0 ∷ 0 ∷ [])
     (1 ∷ 0 ∷ 1 ∷ 0 ∷ 0 ∷ 1 ∷ 0 ∷ 0 ∷ 0 ∷ 0 ∷ 0 ∷ [])
     ∷ saturates (rulesA 257) 17 11 1 0 0 (zeros 17) (zeros 11)
-    ∷ judges caseA itselfA 5 6 (zeros 5)
+    ∷ judges caseA itselfA 5 6 0 (zeros 5)
     ∷ []
 
 pub all-hold : AllHold examples
 unfolding computed Models.ownA Models.firstA Models.tableA
 all-hold =
-    (refl, (refl, (refl, (refl, (refl, (refl, (refl, (refl, (refl, (refl, (refl, (refl, (refl, (refl, (refl, (refl, (refl, (refl, (refl, (refl, (refl, (refl, (refl, (refl, (refl, (refl, (refl, (refl, (refl, (refl, (refl, (refl, (refl, (refl, (refl, (refl, (refl, (refl, (refl, (refl, (refl, (refl, (refl, (refl, (refl, (refl, (refl, (refl, (refl, (refl, (refl, (refl, (refl, (refl, (refl, (refl, (refl, (refl, (refl, (refl, (refl, (refl, (refl, (refl, (refl, (refl, (refl, (refl, (refl, (refl, (refl, (refl, (refl, (refl, (refl, (refl, (refl, (refl, (refl, (refl, (refl, (refl, (refl, (refl, (refl, (refl, (refl, (refl, (refl, (refl, (refl, (refl, (refl, (refl, (refl, (refl, (refl, (refl, (refl, tt)))))))))))))))))))))))))))))))))))))))))))))))))))))))))))))))))))))))))))))))))))))))))))))))))))
+    (refl, (refl, (refl, (refl, (refl, (refl, (refl, (refl, (refl, (refl, (refl, (refl, (refl, (refl, (refl, (refl, (refl, (refl, (refl, (refl, (refl, (refl, (refl, (refl, (refl, (refl, (refl, (refl, (refl, (refl, (refl, (refl, (refl, (refl, (refl, (refl, (refl, (refl, (refl, (refl, (refl, (refl, (refl, (refl, (refl, (refl, (refl, (refl, (refl, (refl, (refl, (refl, (refl, (refl, (refl, (refl, (refl, (refl, (refl, (refl, (refl, (refl, (refl, (refl, (refl, (refl, (refl, (refl, (refl, (refl, (refl, (refl, (refl, (refl, (refl, (refl, (refl, (refl, (refl, (refl, (refl, (refl, (refl, (refl, (refl, (refl, (refl, (refl, (refl, (refl, (refl, (refl, (refl, (refl, (refl, (refl, (refl, (refl, (refl, (refl, (refl, (refl, (refl, (refl, (refl, (refl, (refl, (refl, (refl, (refl, (refl, (refl, (refl, (refl, (refl, (refl, (refl, (refl, (refl, tt)))))))))))))))))))))))))))))))))))))))))))))))))))))))))))))))))))))))))))))))))))))))))))))))))))))))))))))))))))))))

@@ -354,6 +354,20 @@ caseTurned code =
     ++ (1 ∷ 1 ∷ 0 ∷ 0 ∷ 0 ∷ 0 ∷ 0 ∷ 0 ∷ 0 ∷ 0 ∷ 0 ∷ 1 ∷ 0 ∷ 0 ∷ 0 ∷ 0 ∷ 0 ∷ 0 ∷ 0 ∷ [])
     ++ (5 ∷ 1 ∷ 2 ∷ 3 ∷ 4 ∷ 6 ∷ 7 ∷ 8 ∷ [])
 
+-- ---- "the table of those rounds alone"
+
+-- P 2, I 0, J 0, A 3; rules 0: (0,0,6,0,1), 1: (0,0,1,2,0), 2: (0,2,1,1,1); edges (0,255,empty), (1,255,empty); move (1,1,0,empty,empty). Round 1
+-- adds [0,empty] with (2, empty, empty) and the entry [0,{1}] with (0, empty, empty), round 2 [0,empty] with (0, empty, empty). Start file: A's.
+unfoldable pub caseWays : List ℕ
+caseWays =
+    (4 ∷ []) ++ line 1 1 33 ++ line 2 3 47 ++ line 3 2 62 ++ line 4 1 70
+    ++ head 2 0 0 3
+    ++ rule 0 0 6 0 1
+    ++ rule 0 0 1 2 0
+    ++ rule 0 2 1 1 1
+    ++ entry 0 0 ++ entry 1 0
+    ++ plain 1 1
+
 -- ---- at the edges
 
 -- n times the same bytes

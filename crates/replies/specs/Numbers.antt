@@ -1,8 +1,9 @@
 -- The papers' number and values for each case of an answer.
 -- Assumes nothing.
 pub mod Laws
-use Prim.Native.Nat.{ℕ, suc}
+use Prim.Native.Nat.{ℕ, suc, _-_}
 use mathlib.Core.Bool.{Bool, true, false}
+use lib.Dec.{eqb}
 use Rattle.replies.specs.declared.Acceptance.{Acceptance}
 use Rattle.replies.specs.declared.Acceptance.the-variants.{Never, Since}
 use Rattle.replies.specs.declared.Counts.{Counts}
@@ -27,6 +28,10 @@ openWord = 65535
 unfoldable pub markWord : Bool → Acceptance → ℕ
 markWord more Never = elim more [ true ↦ openWord | false ↦ 0 ]
 markWord more (Since r) = suc r
+
+-- the round of a word that says yes, and 0 of any other
+unfoldable pub wordRound : ℕ → ℕ
+wordRound w = elim (eqb w openWord) [ true ↦ 0 | false ↦ w - 1 ]
 
 -- the counts of a halt
 unfoldable pub countsOf : Halt → Counts

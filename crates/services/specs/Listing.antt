@@ -1,7 +1,7 @@
 -- The text that the printing program prints for a case file and a start file.
 -- Assumes nothing.
 pub mod Decimal
-use Prim.Native.Nat.{ℕ, zero, suc, _+_, _-_, _*_, _/_, _%_}
+use Prim.Native.Nat.{ℕ, zero, suc, _+_, _*_, _/_, _%_}
 use Prim.Native.Char.{code}
 use Prim.Native.String.{String}
 use mathlib.Core.Bool.{true, false}
@@ -9,6 +9,7 @@ use mathlib.Core.Option.{none, some}
 use mathlib.Core.List.{List, [], _∷_, _++_}
 use lib.ListN.{length, getD}
 use lib.Dec.{eqb}
+use Rattle.replies.specs.Numbers.{wordRound}
 use Rattle.replies.specs.declared.Saturation.{Saturation}
 use Rattle.replies.specs.declared.Counts.{Counts}
 use Rattle.replies.specs.declared.Halt.{Halt}
@@ -91,9 +92,9 @@ replyText r (Walked h) = ascii " yes" ++ haltText r h
 unfoldable pub replyLine : ℕ → ℕ → Reply → List ℕ
 replyLine n r reply = ascii "start " ++ decimal n ++ replyText r reply ++ ascii "\n"
 
--- the round in which start n was won, where judge with so many rounds marks it yes: its word less 1
+-- the round in which start n was won, where judge with so many rounds marks it yes
 unfoldable pub roundWon : Files → ℕ → ℕ → ℕ
-roundWon f rounds n = getD (judgeService (listingJudge f rounds) .answers) n 0 - 1
+roundWon f rounds n = wordRound (getD (judgeService (listingJudge f rounds) .answers) n 0)
 
 -- "The listing runs all rounds."
 unfoldable pub startLine : Files → ℕ → List ℕ

@@ -1,4 +1,4 @@
--- What guide answers for a start that the saturated table accepts: the walk on its cells is a run of the rules that arrives in the target, and
+-- What guide answers for a start that the table of the rounds run accepts: the walk on its cells is a run of the rules that arrives in the target, and
 -- the answer is that run's first steps.
 -- Assumes nothing.
 use Prim.Native.Nat.{ℕ, _≤_, _<_}
@@ -73,7 +73,7 @@ module _ (x : GuideInput) (T : Saturated) (s : Started x T) (a : accepted (T .ta
       let n : Start = startAt (x .start) (x .number) in
       let sound : firstHit startTests f ≡ 0 = s .sound-start in
       let k = start-facts f sound {x = n} (getD-in (startsOf (x .start)) (x .number) (record { control = 0; root = 0 }) (s .start-there)) in
-      start-arrival (case-saturated (x .case) (lent (x .moves) (x .entries)) (s .sound-case) (s .table-is))
+      start-arrival (case-saturated (x .case) (lent (x .moves) (x .entries)) (x .rounds) (s .sound-case) (s .table-is))
       (cellsOf (x .start)) (n .control) (n .root) (start-cells f sound) (k .root-exists) (k .root-order) (k .control-exists) a
 
   -- the rule numbers of the full run
@@ -94,24 +94,24 @@ module _ (x : GuideInput) (T : Saturated) (s : Started x T) (a : accepted (T .ta
   unfolding walk walkFrom configurationAt configurationOf
   start-is = start-configuration (T .table) (cellsOf (x .start)) (startAt (x .start) (x .number) .control) (startAt (x .start) (x .number) .root)
 
-  table-is : saturatedTable (x .case) ≡ some T
+  table-is : saturatedTable (x .case) (x .rounds) ≡ some T
   unfolding guideLent
-  table-is = saturated-is (guideLent x) (s .table-is)
+  table-is = saturated-is (guideLent x) (x .rounds) (s .table-is)
 
   -- it arrives, and is a run of the rules into the target
-  pub run-arrives : RunArrives (x .case) (x .start) (x .number)
+  pub run-arrives : RunArrives (x .case) (x .start) (x .rounds) (x .number)
   unfolding fullRun walk
   run-arrives =
       record {
         trace = fullRun;
         last = arrival .last;
         full = record {
-          walk-is = full-walk (x .case) table-is (x .start) (x .number) (length fullRun)
+          walk-is = full-walk (x .case) (x .rounds) table-is (x .start) (x .number) (length fullRun)
               ∙ ap (λ (m : ℕ). walkAfter (rulesOf (x .case)) T m walk) length-full
               ∙ arrival .arrives .run-is;
-          trace-is = full-trace (x .case) table-is (x .start) (x .number) (length fullRun)
+          trace-is = full-trace (x .case) (x .rounds) table-is (x .start) (x .number) (length fullRun)
               ∙ ap (λ (m : ℕ). traceAfter (rulesOf (x .case)) T m walk) length-full;
-          arrives = full-next (x .case) table-is (arrival .last) ∙ arrival .arrives .arrives;
+          arrives = full-next (x .case) (x .rounds) table-is (arrival .last) ∙ arrival .arrives .arrives;
         };
         run = subst (λ (z : Configuration). Run (rulesOf (x .case)) z fullRun (walkConfiguration (arrival .last))) start-is (arrival .run);
         in-target = arrival .in-target;
@@ -220,7 +220,7 @@ module _ (x : GuideInput) (T : Saturated) (s : Started x T) (a : accepted (T .ta
       absurd (stops-here .least (x .trace) trace-full l (is-full (omega arith) refl)))
 
   -- it reports a halt, and has written as many steps of the full run as it reports
-  pub walk-report : (h : Halt) × (guideWalk x T ≡ walkedBy h (fullTrace (x .case) (x .start) (x .number) (countsOf h .steps))) × (countsOf h .steps ≤ x .trace)
+  pub walk-report : (h : Halt) × (guideWalk x T ≡ walkedBy h (fullTrace (x .case) (x .start) (x .rounds) (x .number) (countsOf h .steps))) × (countsOf h .steps ≤ x .trace)
   unfolding fullRun walk walkFrom startNamed startAt traceAfter stops-here countsOf
   walk-report =
       by-test (leb (length (cellsOf (x .start))) (cellsLent x))
@@ -228,9 +228,9 @@ module _ (x : GuideInput) (T : Saturated) (s : Started x T) (a : accepted (T .ta
       let r = halt .0 in
       let z : Counts = record { steps = r .steps; cells = length (r .end .cells) } in
       let c : countsOf (haltBy (r .reason) z) ≡ z = countsOf-haltBy (r .reason) z in
-      let k : fullTrace (x .case) (x .start) (x .number) (countsOf (haltBy (r .reason) z) .steps) ≡ take (r .steps) fullRun =
-      ap (λ (y : Counts). fullTrace (x .case) (x .start) (x .number) (y .steps)) c
-      ∙ full-trace (x .case) table-is (x .start) (x .number) (r .steps)
+      let k : fullTrace (x .case) (x .start) (x .rounds) (x .number) (countsOf (haltBy (r .reason) z) .steps) ≡ take (r .steps) fullRun =
+      ap (λ (y : Counts). fullTrace (x .case) (x .start) (x .rounds) (x .number) (y .steps)) c
+      ∙ full-trace (x .case) (x .rounds) table-is (x .start) (x .number) (r .steps)
       ∙ trace-take (rulesOf (x .case)) T (r .steps) (arrival .steps) walk (halt .1) in (
         haltBy (r .reason) z,
         walk-goes x T (leb-true _ _ t) ∙ halt .2 ∙ ap (walkedBy (haltBy (r .reason) z)) (sym k),
@@ -239,6 +239,6 @@ module _ (x : GuideInput) (T : Saturated) (s : Started x T) (a : accepted (T .ta
       (λ t. (
         CellsShort (record { steps = 0; cells = 0 }),
         walk-short x T (leb-false _ _ t)
-            ∙ ap (walkedBy (CellsShort (record { steps = 0; cells = 0 }))) (sym (full-trace (x .case) table-is (x .start) (x .number) 0)),
+            ∙ ap (walkedBy (CellsShort (record { steps = 0; cells = 0 }))) (sym (full-trace (x .case) (x .rounds) table-is (x .start) (x .number) 0)),
         omega arith,
       ))

@@ -1,7 +1,7 @@
 -- Finished scripts: the proofs.
 -- Assumes nothing.
 use Prim.Native.Nat.{ℕ, _+_, _<_}
-use mathlib.Core.Bool.{Bool, true, false≢true}
+use mathlib.Core.Bool.{Bool, true, false≢true, false}
 use mathlib.Core.Path.{_≡_, refl, ap, ap₂, sym, _∙_, subst}
 use mathlib.Core.Option.{some, Option·none-ne-some}
 use mathlib.Core.List.{List, [], map}
@@ -23,6 +23,7 @@ use Rattle.automata.specs.Acceptance.Laws.{Accepts1, accepts2-in, accepts2-out}
 use Rattle.automata.specs.Facts.Laws.{control-edge}
 use Rattle.automata.specs.Saturation.{tableAfter}
 use Rattle.rounds.specs.Rounds.{own-extends}
+use Rattle.rounds.specs.Won.Few.{after-accepts}
 use Rattle.replies.specs.declared.Halt.the-variants.{Arrived}
 use Rattle.replies.specs.declared.Reply.the-variants.{Walked}
 use Rattle.walks.specs.Cell.Values.{getD-map-below}
@@ -37,6 +38,7 @@ use Rattle.demands.specs.Reach.Laws.{reaches-published}
 use Rattle.demands.specs.FullRun.{used, HaltsAfter, has-arrived, is-full, is-short}
 use Rattle.demands.specs.Demand3.{Walks, AnswersRun}
 use Rattle.demands.specs.Finished.{finished, EmptyTarget, WrittenFinal, EmptyTopTarget, NeverFinal, NoStepLeaves, FinishedMarks, ArrivedAtOnce, FinishedGuides}
+use Rattle.demands.specs.Reach.{acceptedIn, Marks}
 
 -- ---- the target
 
@@ -129,12 +131,23 @@ pub finished-marks : FinishedMarks
 unfolding inTarget tableAfter
 finished-marks x d marks free n l h =
     let m = marks free .each-mark n l in
-    by-test (inTarget (ownOf (x .case)) (configurationAt (x .start) n))
-    (λ t. rw t (m .round 0 .1 (record { accepts = t; least = λ k b. absurd (omega arith) })))
-    (λ t. rw t (m .no-run .1 (λ runs.
-    let r = reaches-published .1 runs in
-    let (_, e) = run-stays (rulesOf (x .case)) h (r .run) in
-    false≢true (sym t ∙ ap (inTarget (ownOf (x .case))) (sym e) ∙ r .in-target))))
+    record {
+      inside = λ t.
+          let accepted = after-accepts (rulesOf (x .case)) (ownOf (x .case)) 0 (x .rounds) (omega arith) (configurationAt (x .start) n .stack) (configurationAt (x .start) n .control) t in
+          m .round (m .yes .1 accepted) 0 .1 (record { accepts = t; least = λ k b. absurd (omega arith) });
+      outside = λ t still. m .no-left .1 (never t m, still);
+      still-open = λ t adds. m .is-open .1 (never t m, adds);
+    }
+  where
+    -- a run from it has no step, so that outside the target no table accepts it
+    never : inTarget (ownOf (x .case)) (configurationAt (x .start) n) ≡ false → Marks (x .case) (x .start) (x .rounds) n (getD (d .answers) n 0)
+        → acceptedIn (x .case) (x .start) n (x .rounds) ≡ false
+    never t m = by-test (acceptedIn (x .case) (x .start) n (x .rounds))
+        (λ a.
+        let r = reaches-published .1 (m .run (m .yes .1 a)) in
+        let (_, e) = run-stays (rulesOf (x .case)) h (r .run) in
+        absurd (false≢true (sym t ∙ ap (inTarget (ownOf (x .case))) (sym e) ∙ r .in-target)))
+        (λ a. a)
 
 -- a full run without steps has arrived
 halts-at-once : {rules : List Rule} {first c t m : ℕ} {r : Reason} → HaltsAfter rules first [] c t m r → (m ≡ 0) × (r ≡ arrival)

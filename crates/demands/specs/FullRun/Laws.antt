@@ -15,7 +15,7 @@ use Rattle.words.specs.Laws.Options.{by-option}
 use Rattle.stacks.specs.System.{Rule}
 use Rattle.automata.specs.Automaton.{Automaton}
 use Rattle.automata.specs.Facts.{states}
-use Rattle.automata.specs.Saturation.{Size, Saturated, within}
+use Rattle.automata.specs.Saturation.{Size, Saturated, within, allRounds}
 use Rattle.rounds.specs.Limits.{KeepsLimits, within-keeps, keeps-within, saturate-some, held-table}
 use Rattle.walks.specs.Guide.{Walk, arrived, to, next, walkAfter, traceAfter}
 use Rattle.files.specs.Case.{caseRefusal, ownOf, rulesOf}
@@ -39,77 +39,77 @@ within-most z A h =
     let s : states A ≤ 64 = k .states-fit in
     keeps-within (record { moves = 1024; entries = 64 }) A (record { moves-fit = omega arith; entries-fit = omega arith; states-fit = s })
 
--- The saturated table is the same for all lent tables that hold it.
-pub saturated-is : (x : Lent) {T : Saturated} → saturated x ≡ some T → saturatedTable (x .case) ≡ some T
+-- The table of the rounds run is the same for all lent tables that hold it.
+pub saturated-is : (x : Lent) (rounds : ℕ) {T : Saturated} → saturated x rounds ≡ some T → saturatedTable (x .case) rounds ≡ some T
 unfolding saturated saturatedTable
-saturated-is x {T} e =
+saturated-is x rounds {T} e =
     let z : Size = lent (x .moves) (x .entries) in
-    let s = saturate-some (rulesOf (x .case)) z (ownOf (x .case)) e in
-    held-table (rulesOf (x .case)) z (record { moves = 1024; entries = 64 }) (ownOf (x .case)) e (within-most z (T .table) (s .limits-kept))
+    let s = saturate-some (rulesOf (x .case)) z (ownOf (x .case)) rounds e in
+    held-table (rulesOf (x .case)) z (record { moves = 1024; entries = 64 }) rounds (ownOf (x .case)) e (within-most z (T .table) (s .limits-kept))
 
--- It is the saturated table of a sound case.
-pub full-saturated : (case : List ℕ) {T : Saturated} → caseRefusal case ≡ 0 → saturatedTable case ≡ some T → SaturatedTable case (T .table)
+-- That of all rounds is the saturated table of a sound case.
+pub full-saturated : (case : List ℕ) {T : Saturated} → caseRefusal case ≡ 0 → saturatedTable case allRounds ≡ some T → SaturatedTable case (T .table)
 unfolding saturated saturatedTable lent
 full-saturated case sound e = saturated-table (record { case = case; moves = 5120; entries = 64 * entryWidth }) sound e
 
--- Tables of 1,024 moves and 64 entries are enough: with them and with longer ones a case is refused for size exactly
--- if its saturated table has more than 1,024 moves or 64 order-1 states.
-pub enough-lent : (x : Lent) → 5120 ≤ x .moves → 64 * entryWidth ≤ x .entries → saturated x ≡ saturatedTable (x .case)
+-- Tables of 1,024 moves and 64 entries are enough: with them and with longer ones a case is refused for size exactly if the table of the rounds
+-- run has more than 1,024 moves or 64 order-1 states.
+pub enough-lent : (x : Lent) (rounds : ℕ) → 5120 ≤ x .moves → 64 * entryWidth ≤ x .entries → saturated x rounds ≡ saturatedTable (x .case) rounds
 unfolding saturated saturatedTable lent
-enough-lent x h k =
-    by-option (saturatedTable (x .case))
-    (λ o. by-option (saturated x) (λ q. q ∙ sym o) (λ T q. absurd (Option·none-ne-some T (sym o ∙ saturated-is x q))))
+enough-lent x rounds h k =
+    by-option (saturatedTable (x .case) rounds)
+    (λ o. by-option (saturated x rounds) (λ q. q ∙ sym o) (λ T q. absurd (Option·none-ne-some T (sym o ∙ saturated-is x rounds q))))
     (λ T o.
     let z : Size = record { moves = 1024; entries = 64 } in
-    let s = saturate-some (rulesOf (x .case)) z (ownOf (x .case)) o in
+    let s = saturate-some (rulesOf (x .case)) z (ownOf (x .case)) rounds o in
     let f : KeepsLimits z (T .table) = within-keeps z (T .table) (s .limits-kept) in
     let m : length (T .table .moves) ≤ min 1024 1024 = f .moves-fit in
     let n : length (T .table .entries) ≤ 64 = f .entries-fit in
     let w = keeps-within (lent (x .moves) (x .entries)) (T .table) (record { moves-fit = omega arith; entries-fit = omega arith; states-fit = f .states-fit }) in
-    held-table (rulesOf (x .case)) z (lent (x .moves) (x .entries)) (ownOf (x .case)) o w ∙ sym o)
+    held-table (rulesOf (x .case)) z (lent (x .moves) (x .entries)) rounds (ownOf (x .case)) o w ∙ sym o)
 
 -- ---- the full run
 
-module _ (case : List ℕ) {T : Saturated} (e : saturatedTable case ≡ some T) where
-  pub full-walk : (start : List ℕ) (n m : ℕ) → fullWalk case start n m ≡ walkAfter (rulesOf case) T m (walkFrom start n (T .table))
+module _ (case : List ℕ) (rounds : ℕ) {T : Saturated} (e : saturatedTable case rounds ≡ some T) where
+  pub full-walk : (start : List ℕ) (n m : ℕ) → fullWalk case start rounds n m ≡ walkAfter (rulesOf case) T m (walkFrom start n (T .table))
   unfolding fullWalk
   full-walk start n m = rw (fullWalk, e)
 
-  pub full-trace : (start : List ℕ) (n m : ℕ) → fullTrace case start n m ≡ traceAfter (rulesOf case) T m (walkFrom start n (T .table))
+  pub full-trace : (start : List ℕ) (n m : ℕ) → fullTrace case start rounds n m ≡ traceAfter (rulesOf case) T m (walkFrom start n (T .table))
   unfolding fullTrace
   full-trace start n m = rw (fullTrace, e)
 
-  pub full-next : (w : Walk) → fullNext case w ≡ next (rulesOf case) T w
+  pub full-next : (w : Walk) → fullNext case rounds w ≡ next (rulesOf case) T w
   unfolding fullNext
   full-next w = rw (fullNext, e)
 
 -- the first m steps are at most m
-pub full-short : (case start : List ℕ) (n m : ℕ) → length (fullTrace case start n m) ≤ m
+pub full-short : (case start : List ℕ) (rounds n m : ℕ) → length (fullTrace case start rounds n m) ≤ m
 unfolding fullTrace
-full-short case start n m =
-    by-option (saturatedTable case)
+full-short case start rounds n m =
+    by-option (saturatedTable case rounds)
     (λ o. rw (fullTrace, o) (omega arith))
-    (λ T o. rw (full-trace case o start n m) (trace-short (rulesOf case) T m (walkFrom start n (T .table))))
+    (λ T o. rw (full-trace case rounds o start n m) (trace-short (rulesOf case) T m (walkFrom start n (T .table))))
 
 -- the table on which a full run goes
-full-table : {case start : List ℕ} {n : ℕ} {ns : List ℕ} {w : Walk} → FullRun case start n ns w → (T : Saturated) × (saturatedTable case ≡ some T)
+full-table : {case start : List ℕ} {rounds n : ℕ} {ns : List ℕ} {w : Walk} → FullRun case start rounds n ns w → (T : Saturated) × (saturatedTable case rounds ≡ some T)
 unfolding fullWalk
-full-table {case} {start} {n} {ns} {w} r =
-    let e : fullWalk case start n (length ns) ≡ some w = r .walk-is in
-    by-option (saturatedTable case) (λ o. absurd (Option·none-ne-some w (rw (fullWalk, o) at e))) (λ T o. (T, o))
+full-table {case} {start} {rounds} {n} {ns} {w} r =
+    let e : fullWalk case start rounds n (length ns) ≡ some w = r .walk-is in
+    by-option (saturatedTable case rounds) (λ o. absurd (Option·none-ne-some w (rw (fullWalk, o) at e))) (λ T o. (T, o))
 
-module _ {case start : List ℕ} {n : ℕ} where
+module _ {case start : List ℕ} {rounds n : ℕ} where
   -- it arrives after as many steps as it has rule numbers
-  full-arrives : {ns : List ℕ} {w : Walk} {T : Saturated} → saturatedTable case ≡ some T → FullRun case start n ns w
+  full-arrives : {ns : List ℕ} {w : Walk} {T : Saturated} → saturatedTable case rounds ≡ some T → FullRun case start rounds n ns w
       → ArrivesAfter (rulesOf case) T (length ns) (walkFrom start n (T .table)) w
   full-arrives {ns} {w} e r =
       record {
-        run-is = sym (full-walk case e start n (length ns)) ∙ r .walk-is;
-        arrives = sym (full-next case e w) ∙ r .arrives;
+        run-is = sym (full-walk case rounds e start n (length ns)) ∙ r .walk-is;
+        arrives = sym (full-next case rounds e w) ∙ r .arrives;
       }
 
-  -- "That one run": the case file, the start file and the number of the start leave only one.
-  pub one-full-run : {ns ms : List ℕ} {w v : Walk} → FullRun case start n ns w → FullRun case start n ms v → (ns ≡ ms) × (w ≡ v)
+  -- "That one run": the case file, the start file, the number of the start and the number of rounds leave only one.
+  pub one-full-run : {ns ms : List ℕ} {w v : Walk} → FullRun case start rounds n ns w → FullRun case start rounds n ms v → (ns ≡ ms) × (w ≡ v)
   one-full-run {ns} {ms} {w} {v} r s =
       let (T, e) = full-table r in
       let a = full-arrives e r in
@@ -117,8 +117,8 @@ module _ {case start : List ℕ} {n : ℕ} where
       let k : length ms ≤ length ns = arrives-last (rulesOf case) T (length ns) (walkFrom start n (T .table)) a (length ms) (b .run-is) in
       let l : length ns ≤ length ms = arrives-last (rulesOf case) T (length ms) (walkFrom start n (T .table)) b (length ns) (a .run-is) in
       let z : length ns ≡ length ms = omega arith in (
-        sym (r .trace-is) ∙ ap (fullTrace case start n) z ∙ s .trace-is,
-        Option·some-injective w v (sym (r .walk-is) ∙ ap (fullWalk case start n) z ∙ s .walk-is),
+        sym (r .trace-is) ∙ ap (fullTrace case start rounds n) z ∙ s .trace-is,
+        Option·some-injective w v (sym (r .walk-is) ∙ ap (fullWalk case start rounds n) z ∙ s .walk-is),
       )
 
 -- ---- the halt

@@ -1,28 +1,29 @@
--- What the saturated table of a sound case accepts: a start exactly if there is a run from it, so that judge's words are right, and small.
+-- What the table of the rounds run accepts: only starts with a run, and each of these where nothing is left to add, so that judge's words are
+-- right, and their rounds small.
 -- Assumes nothing.
-use Prim.Native.Nat.{ℕ, suc, _≤_, _<_}
-use mathlib.Core.Bool.{Bool, true, false, false≢true}
+use Prim.Native.Nat.{ℕ, suc, _≤_, _<_, _-_}
+use mathlib.Core.Bool.{true, false, false≢true}
 use mathlib.Core.Path.{_≡_, refl, ap, sym, _∙_, subst}
-use mathlib.Core.Logic.{_↔_}
 use mathlib.Core.Option.{some}
 use mathlib.Core.List.{List, [], map}
 use native.Mathlib.Omega.{arith}
 use lib.ListN.{length, getD, List·getD-eq-default, length-map}
 use lib.Dec.{ltb}
-use borrow.Author.Tests.{ltb-true, ltb-false}
+use borrow.Author.Tests.{ltb-true, ltb-false, eqb-false}
 use Rattle.words.specs.Laws.Tests.{by-test}
-use Rattle.stacks.specs.System.{Configuration}
 use Rattle.replies.specs.declared.Acceptance.{Acceptance}
 use Rattle.replies.specs.declared.Acceptance.the-variants.{Never, Since}
-use Rattle.replies.specs.Numbers.{answerWord}
+use Rattle.replies.specs.Numbers.{answerWord, openWord, markWord, wordRound}
+use Rattle.replies.specs.Numbers.Laws.{word-round}
 use Rattle.automata.specs.Automaton.{Automaton}
 use Rattle.automata.specs.Acceptance.{accepts2}
-use Rattle.automata.specs.Saturation.{Saturated, roundsAdded}
+use Rattle.automata.specs.Saturation.{Saturated, roundsAdded, addsMove}
+use Rattle.automata.specs.Facts.{Closed}
 use Rattle.automata.specs.Won.{won2}
 use Rattle.automata.specs.Won.Laws.{Right, least-right}
-use Rattle.rounds.specs.Limits.{IsSaturated, saturate-some}
+use Rattle.rounds.specs.Limits.{IsSaturated, saturate-some, saturated-after, rounds-few}
 use Rattle.rounds.specs.Sizes.{rounds-are}
-use Rattle.rounds.specs.Won.Few.{saturated-accepts, word-few}
+use Rattle.rounds.specs.Won.Few.{word-few, after-accepts}
 use Rattle.walks.specs.Cell.Values.{getD-map-below}
 use Rattle.files.specs.Case.Laws.{case-rules, case-table, case-own}
 use Rattle.files.specs.Case.{ownOf, rulesOf, caseRefusal}
@@ -30,88 +31,169 @@ use Rattle.files.specs.Start.{Files, Start, startRefusal, startsOf, configurati
 use Rattle.services.specs.Memory.{lent, padded}
 use Rattle.services.specs.Memory.Laws.{getD-padded}
 use Rattle.services.specs.Saturate.{Lent, saturated}
-use Rattle.services.specs.Judge.{JudgeInput, JudgeDone, judgeFiles, judgeLent, won, mark, judgeLeft, judgeService}
+use Rattle.services.specs.Judge.{JudgeInput, JudgeDone, judgeFiles, judgeLent, won, mark, judgeLeft, judgeService, moreToAdd}
 use Rattle.services.specs.Judge.Laws.{JudgeCase, case-refused, start-refused, answers-short, size-exceeded, judged, judge-cases}
 use Rattle.services.specs.Guide.{GuideInput, accepted, guideLent, startNamed}
 use Rattle.services.specs.Guide.Laws.{Started}
 use Rattle.services.specs.Listing.{listingJudge, roundWon}
-use Rattle.demands.specs.Reach.{Runs, roundTable, WonIn, Marks}
-use Rattle.demands.specs.Reach.Laws.{reaches-published, accepted-reaches, reaches-accepted}
+use Rattle.demands.specs.Reach.{Runs, roundTable, WonIn, Marks, acceptedIn, AddsMove, AddsNothing}
+use Rattle.demands.specs.Reach.Laws.{reaches-published, accepted-reaches, reaches-accepted, nothing-is-closed, adds-not, tested-adds, tested-nothing}
 
--- a saturated table of a sound case accepts a start exactly if there is a run from it
-pub accepted-runs : (x : Lent) (start : List ℕ) {T : Saturated} → caseRefusal (x .case) ≡ 0 → saturated x ≡ some T → (n : ℕ)
-    → (accepted (T .table) start (startAt start n) ≡ true) ↔ Runs (x .case) start n
-unfolding accepted saturated configurationAt configurationOf
-accepted-runs x start {T} sound e n =
-    let c : Configuration = configurationAt start n in
-    let s = saturate-some (rulesOf (x .case)) (lent (x .moves) (x .entries)) (ownOf (x .case)) e in
-    let table = case-table (x .case) sound in
-    let own = case-own (x .case) sound in (
-      λ h. reaches-published .0 (accepted-reaches table own (λ ρ j. case-rules (x .case) sound j) (s .after) c h),
-      λ r. reaches-accepted table own (λ ρ j. case-rules (x .case) sound j) s c (reaches-published .1 r),
-    )
+-- ---- the table of the rounds run
+
+module _ (x : Lent) (rounds : ℕ) {T : Saturated} (e : saturated x rounds ≡ some T) where
+  pub is-saturated : IsSaturated (rulesOf (x .case)) (lent (x .moves) (x .entries)) (ownOf (x .case)) rounds T
+  unfolding saturated
+  is-saturated = saturate-some (rulesOf (x .case)) (lent (x .moves) (x .entries)) (ownOf (x .case)) rounds e
+
+  -- it is the table after these rounds
+  pub table-after : T .table ≡ roundTable (x .case) rounds
+  table-after = saturated-after (rulesOf (x .case)) (lent (x .moves) (x .entries)) (ownOf (x .case)) rounds is-saturated
+
+  -- so it accepts what that accepts,
+  pub table-accepts : (start : List ℕ) (n : ℕ) → accepted (T .table) start (startAt start n) ≡ acceptedIn (x .case) start n rounds
+  unfolding accepted configurationAt configurationOf
+  table-accepts start n = ap (λ (A : Automaton). accepts2 A (configurationAt start n .stack) (configurationAt start n .control)) table-after
+
+  -- and has as much left to add.
+  pub table-adds : moreToAdd (x .case) T ≡ true → AddsMove (x .case) rounds
+  unfolding moreToAdd
+  table-adds t = tested-adds (x .case) rounds (ap (addsMove (rulesOf (x .case))) (sym table-after) ∙ t)
+
+  pub table-nothing : moreToAdd (x .case) T ≡ false → AddsNothing (x .case) rounds
+  unfolding moreToAdd
+  table-nothing t = tested-nothing (x .case) rounds (ap (addsMove (rulesOf (x .case))) (sym table-after) ∙ t)
+
+  module _ (sound : caseRefusal (x .case) ≡ 0) (start : List ℕ) (n : ℕ) where
+    -- a start that it accepts has a run, for any number of rounds
+    pub accepted-runs : acceptedIn (x .case) start n rounds ≡ true → Runs (x .case) start n
+    accepted-runs h =
+        reaches-published .0
+        (accepted-reaches (case-table (x .case) sound) (case-own (x .case) sound) (λ ρ j. case-rules (x .case) sound j) (is-saturated .after) (configurationAt start n)
+        (ap (λ (A : Automaton). accepts2 A (configurationAt start n .stack) (configurationAt start n .control)) table-after ∙ h))
+
+    -- and it accepts each that has one, where nothing is left to add
+    pub runs-accepted : AddsNothing (x .case) rounds → Runs (x .case) start n → acceptedIn (x .case) start n rounds ≡ true
+    runs-accepted still r =
+        let closed : Closed (rulesOf (x .case)) (T .table) = subst (Closed (rulesOf (x .case))) (sym table-after) (nothing-is-closed (x .case) rounds still) in
+        ap (λ (A : Automaton). accepts2 A (configurationAt start n .stack) (configurationAt start n .control)) (sym table-after)
+        ∙ reaches-accepted (case-table (x .case) sound) (case-own (x .case) sound) (λ ρ j. case-rules (x .case) sound j) (is-saturated .after) closed
+        (configurationAt start n) (reaches-published .1 r)
 
 -- ---- words
 
-module _ (case start : List ℕ) (n : ℕ) where
-  -- the table of round m accepts start n
-  abbrev acceptedIn : ℕ → Bool
-  acceptedIn m = accepts2 (roundTable case m) (configurationAt start n .stack) (configurationAt start n .control)
+-- a start is won in one round
+won-once : {case start : List ℕ} {n r k : ℕ} → WonIn case start n r → WonIn case start n k → r ≡ k
+won-once {r = r} {k = k} v w =
+    let a : r ≤ k = by-test (ltb k r) (λ l. absurd (false≢true (sym (v .least k (ltb-true k r l)) ∙ w .accepts))) (λ l. ltb-false k r l) in
+    let b : k ≤ r = by-test (ltb r k) (λ l. absurd (false≢true (sym (w .least r (ltb-true r k l)) ∙ v .accepts))) (λ l. ltb-false r k l) in
+    omega arith
 
-  -- a start is won in one round
-  won-once : (r k : ℕ) → WonIn case start n r → WonIn case start n k → r ≡ k
-  won-once r k v w =
-      let a : r ≤ k = by-test (ltb k r) (λ l. absurd (false≢true (sym (v .least k (ltb-true k r l)) ∙ w .accepts))) (λ l. ltb-false k r l) in
-      let b : k ≤ r = by-test (ltb r k) (λ l. absurd (false≢true (sym (w .least r (ltb-true r k l)) ∙ v .accepts))) (λ l. ltb-false r k l) in
-      omega arith
-
-  -- the word of the least round that accepts, or of none, where the last round looked at accepts whatever any accepts, and exactly if there is a run
-  marks-by : (rounds : ℕ) → ((r : ℕ) → acceptedIn r ≡ true → acceptedIn rounds ≡ true) → (acceptedIn rounds ≡ true) ↔ Runs case start n
-      → (a : Acceptance) → Right acceptedIn 0 (suc rounds) a → Marks case start n (answerWord a)
-  unfolding answerWord
-  marks-by rounds last (f, g) Never h =
-      let z : acceptedIn rounds ≡ false = h rounds (omega arith) (omega arith) in
-      let none : Runs case start n → ⊥ = λ r. false≢true (sym z ∙ g r) in
+module _ (case start : List ℕ) (rounds n : ℕ) (to-run : acceptedIn case start n rounds ≡ true → Runs case start n)
+    (to-accepted : AddsNothing case rounds → Runs case start n → acceptedIn case start n rounds ≡ true) where
+  -- the word of a start that is accepted, in the round in which it is won,
+  yes-marks : (r : ℕ) → r ≤ 1024 → acceptedIn case start n rounds ≡ true → WonIn case start n r → Marks case start rounds n (suc r)
+  yes-marks r l t w =
+      let not-zero : suc r ≡ 0 → ⊥ = λ e. absurd (omega arith) in
+      let not-open : suc r ≡ openWord → ⊥ = λ e. absurd (omega arith) in
       record {
-        yes = (λ w. absurd (w refl), λ r. absurd (none r));
-        no-run = (λ _. none, λ _. refl);
-        round = λ r. (λ e. absurd (omega arith), λ w. absurd (false≢true (sym z ∙ last r (w .accepts))));
-      }
-  marks-by rounds last (f, g) (Since k) (l, h) =
-      let run : Runs case start n = f (last k (h .passes)) in
-      let w : WonIn case start n k = record { accepts = h .passes; least = λ m b. h .least m (omega arith) b } in
-      record {
-        yes = (λ _. run, λ _ e. absurd (omega arith));
-        no-run = (λ e. absurd (omega arith), λ none. absurd (none run));
-        round = λ r. (λ e. let q : k ≡ r = omega arith in subst (WonIn case start n) q w, λ v. ap suc (won-once k r w v));
+        yes = (λ _. t, λ _. (not-zero, not-open));
+        no-left = (λ e. absurd (not-zero e), λ (z, _). absurd (false≢true (sym z ∙ t)));
+        is-open = (λ e. absurd (not-open e), λ (z, _). absurd (false≢true (sym z ∙ t)));
+        round = λ _ k. (λ e. let q : r ≡ k = omega arith in subst (WonIn case start n) q w, λ v. ap suc (won-once w v));
+        run = λ _. to-run t;
+        no-run = λ e. absurd (not-zero e);
+        exactly = λ _. (λ _. to-run t, λ _. (not-zero, not-open));
       }
 
--- the saturated table that judge works on
-judge-saturated : (x : JudgeInput) {T : Saturated} → saturated (judgeLent x) ≡ some T → IsSaturated (rulesOf (x .case)) (lent (x .moves) (x .entries)) (ownOf (x .case)) T
-unfolding saturated judgeLent
-judge-saturated x e = saturate-some (rulesOf (x .case)) (lent (x .moves) (x .entries)) (ownOf (x .case)) e
+  -- of one that is not while a round more would add a move,
+  open-marks : acceptedIn case start n rounds ≡ false → AddsMove case rounds → Marks case start rounds n openWord
+  open-marks z adds =
+      record {
+        yes = (λ (_, h). absurd (h refl), λ t. absurd (false≢true (sym z ∙ t)));
+        no-left = (λ e. absurd (eqb-false openWord 0 refl e), λ (_, still). absurd (adds-not case rounds adds still));
+        is-open = (λ _. (z, adds), λ _. refl);
+        round = λ (_, h). absurd (h refl);
+        run = λ (_, h). absurd (h refl);
+        no-run = λ e. absurd (eqb-false openWord 0 refl e);
+        exactly = λ still. absurd (adds-not case rounds adds still);
+      }
 
--- the word that a saturated table of a sound case gives to a start
-pub table-marks : (x : JudgeInput) (T : Saturated) → caseRefusal (x .case) ≡ 0 → saturated (judgeLent x) ≡ some T → (n : ℕ)
-    → Marks (x .case) (x .start) n (mark (x .case) T (x .start) (startAt (x .start) n))
-unfolding mark won won2 judgeLent accepted configurationAt configurationOf
-table-marks x T sound e n =
-    let c : Configuration = configurationAt (x .start) n in
-    let s = judge-saturated x e in
-    let t : T .table ≡ roundTable (x .case) (roundsAdded T) = s .after .table-is ∙ ap (roundTable (x .case)) (sym (rounds-are (s .after))) in
-    let same : accepts2 (T .table) (c .stack) (c .control) ≡ acceptedIn (x .case) (x .start) n (roundsAdded T) =
-    ap (λ (A : Automaton). accepts2 A (c .stack) (c .control)) t in
-    let (f, g) = accepted-runs (judgeLent x) (x .start) sound e n in
-    marks-by (x .case) (x .start) n (roundsAdded T)
-    (λ r h. sym same ∙ saturated-accepts (rulesOf (x .case)) (ownOf (x .case)) s r (c .stack) (c .control) h)
-    (λ h. f (same ∙ h), λ r. sym same ∙ g r)
-    (won (x .case) T (x .start) (startAt (x .start) n))
-    (least-right (acceptedIn (x .case) (x .start) n) 0 (suc (roundsAdded T)))
+  -- and of one that is not while nothing is left to add
+  no-marks : acceptedIn case start n rounds ≡ false → AddsNothing case rounds → Marks case start rounds n 0
+  no-marks z still =
+      let none : Runs case start n → ⊥ = λ r. false≢true (sym z ∙ to-accepted still r) in
+      record {
+        yes = (λ (h, _). absurd (h refl), λ t. absurd (false≢true (sym z ∙ t)));
+        no-left = (λ _. (z, still), λ _. refl);
+        is-open = (λ e. absurd (eqb-false 0 openWord refl e), λ (_, adds). absurd (adds-not case rounds adds still));
+        round = λ (h, _). absurd (h refl);
+        run = λ (h, _). absurd (h refl);
+        no-run = λ _. none;
+        exactly = λ _. (λ (h, _). absurd (h refl), λ r. absurd (none r));
+      }
 
--- it fits 16 bits
-pub mark-small : (x : JudgeInput) (T : Saturated) → saturated (judgeLent x) ≡ some T → (s : Start) → mark (x .case) T (x .start) s ≤ 1025
-unfolding mark won
-mark-small x T e s = word-few (rulesOf (x .case)) (ownOf (x .case)) (judge-saturated x e) (configurationOf (x .start) s .stack) (s .control)
+-- the word that the table of the rounds run gives to a start of a sound case
+module _ (x : JudgeInput) (T : Saturated) (sound : caseRefusal (x .case) ≡ 0) (e : saturated (judgeLent x) (x .rounds) ≡ some T) where
+  pub table-marks : (n : ℕ) → Marks (x .case) (x .start) (x .rounds) n (mark (x .case) T (x .start) (startAt (x .start) n))
+  unfolding mark won won2 markWord judgeLent configurationAt configurationOf
+  table-marks n =
+      go (won (x .case) T (x .start) (startAt (x .start) n)) (least-right (acceptedIn (x .case) (x .start) n) 0 (suc (roundsAdded T)))
+    where
+      s : IsSaturated (rulesOf (x .case)) (lent (x .moves) (x .entries)) (ownOf (x .case)) (x .rounds) T
+      s = is-saturated (judgeLent x) (x .rounds) e
+
+      few : roundsAdded T ≤ 1024
+      few = let l = rounds-few (rulesOf (x .case)) (lent (x .moves) (x .entries)) (ownOf (x .case)) s in omega arith
+
+      asked : roundsAdded T ≤ x .rounds
+      asked = let r = rounds-are (s .after) in let l = s .at-most in omega arith
+
+      -- the table after the rounds that added is that after the rounds asked for
+      same : acceptedIn (x .case) (x .start) n (roundsAdded T) ≡ acceptedIn (x .case) (x .start) n (x .rounds)
+      same =
+          ap (λ (A : Automaton). accepts2 A (configurationAt (x .start) n .stack) (configurationAt (x .start) n .control))
+          (ap (roundTable (x .case)) (rounds-are (s .after)) ∙ sym (s .after .table-is) ∙ table-after (judgeLent x) (x .rounds) e)
+
+      to-run : acceptedIn (x .case) (x .start) n (x .rounds) ≡ true → Runs (x .case) (x .start) n
+      to-run = accepted-runs (judgeLent x) (x .rounds) e sound (x .start) n
+
+      to-accepted : AddsNothing (x .case) (x .rounds) → Runs (x .case) (x .start) n → acceptedIn (x .case) (x .start) n (x .rounds) ≡ true
+      to-accepted = runs-accepted (judgeLent x) (x .rounds) e sound (x .start) n
+
+      go : (a : Acceptance) → Right (acceptedIn (x .case) (x .start) n) 0 (suc (roundsAdded T)) a → Marks (x .case) (x .start) (x .rounds) n (markWord (moreToAdd (x .case) T) a)
+      go (Since r) (l, h) =
+          let f = few in
+          let a = asked in
+          yes-marks (x .case) (x .start) (x .rounds) n to-run to-accepted r (omega arith)
+          (after-accepts (rulesOf (x .case)) (ownOf (x .case)) r (x .rounds) (omega arith) (configurationAt (x .start) n .stack) (configurationAt (x .start) n .control) (h .passes))
+          (record { accepts = h .passes; least = λ m b. h .least m (omega arith) b })
+      go Never h =
+          let z : acceptedIn (x .case) (x .start) n (x .rounds) ≡ false = sym same ∙ h (roundsAdded T) (omega arith) (omega arith) in
+          by-test (moreToAdd (x .case) T)
+          (λ t. rw t (open-marks (x .case) (x .start) (x .rounds) n to-run to-accepted z (table-adds (judgeLent x) (x .rounds) e t)))
+          (λ t. rw t (no-marks (x .case) (x .start) (x .rounds) n to-run to-accepted z (table-nothing (judgeLent x) (x .rounds) e t)))
+
+-- the round of an accepted start is small
+won-few : (x : JudgeInput) (T : Saturated) → saturated (judgeLent x) (x .rounds) ≡ some T → (s : Start) → answerWord (won (x .case) T (x .start) s) ≤ 1025
+unfolding won judgeLent
+won-few x T e s = word-few (rulesOf (x .case)) (ownOf (x .case)) (is-saturated (judgeLent x) (x .rounds) e) (configurationOf (x .start) s .stack) (s .control)
+
+-- and so is a word that is not open
+pub mark-few : (x : JudgeInput) (T : Saturated) → saturated (judgeLent x) (x .rounds) ≡ some T → (s : Start) → (mark (x .case) T (x .start) s ≡ openWord → ⊥)
+    → mark (x .case) T (x .start) s ≤ 1025
+unfolding mark markWord answerWord
+mark-few x T e s h = go (won (x .case) T (x .start) s) (won-few x T e s) h
+  where
+    go : (a : Acceptance) → answerWord a ≤ 1025 → (markWord (moreToAdd (x .case) T) a ≡ openWord → ⊥) → markWord (moreToAdd (x .case) T) a ≤ 1025
+    go Never l o = by-test (moreToAdd (x .case) T) (λ t. absurd (o (rw t refl))) (λ t. rw t (omega arith))
+    go (Since r) l o = l
+
+-- The word tells the round.
+pub mark-round : (x : JudgeInput) (T : Saturated) → saturated (judgeLent x) (x .rounds) ≡ some T → (s : Start)
+    → wordRound (mark (x .case) T (x .start) s) ≡ answerWord (won (x .case) T (x .start) s) - 1
+unfolding mark
+mark-round x T e s = let l = won-few x T e s in word-round (moreToAdd (x .case) T) (won (x .case) T (x .start) s) (omega arith)
 
 -- the words of all starts
 pub mark-at : (case : List ℕ) (T : Saturated) (file : List ℕ) (n : ℕ) → n < length (startsOf file)
@@ -124,10 +206,10 @@ pub answer-at : (x : JudgeInput) (T : Saturated) (n : ℕ) → n < length (start
     → getD (padded (x .answers) (map (mark (x .case) T (x .start)) (startsOf (x .start)))) n 0 ≡ mark (x .case) T (x .start) (startAt (x .start) n)
 answer-at x T n l = getD-padded (x .answers) (map (mark (x .case) T (x .start)) (startsOf (x .start))) n ∙ mark-at (x .case) T (x .start) n l
 
--- each of them is 0, or what the saturated table gives to a start
+-- each of them is 0, or what the table gives to a start
 pub data WordOf (x : JudgeInput) (n : ℕ) : ℕ → Type 0 where
   no-word : WordOf x n 0
-  word-of : (T : Saturated) → caseRefusal (x .case) ≡ 0 → startRefusal (judgeFiles x) ≡ 0 → saturated (judgeLent x) ≡ some T
+  word-of : (T : Saturated) → caseRefusal (x .case) ≡ 0 → startRefusal (judgeFiles x) ≡ 0 → saturated (judgeLent x) (x .rounds) ≡ some T
       → WordOf x n (mark (x .case) T (x .start) (startAt (x .start) n))
 
 pub answer-word : (x : JudgeInput) (n : ℕ) → WordOf x n (getD (judgeService x .answers) n 0)
@@ -147,28 +229,35 @@ answer-word x n = go (judgeService x) (judge-cases x)
         (λ l. rw (answer-at x T n (ltb-true _ _ l)) (word-of T s f o))
         (λ l. zero-at _ (rw (length-map (startsOf (x .start)) (mark (x .case) T (x .start))) (ltb-false _ _ l)))
 
--- so each fits 16 bits
-pub answer-small : (x : JudgeInput) (n : ℕ) → getD (judgeService x .answers) n 0 ≤ 1025
-answer-small x n = go (getD (judgeService x .answers) n 0) (answer-word x n)
+-- so the listing's rounds are at most 1,024
+pub round-small : (f : Files) (rounds n : ℕ) → roundWon f rounds n ≤ 1024
+unfolding roundWon wordRound
+round-small f rounds n = go (getD (judgeService x .answers) n 0) (answer-word x n)
   where
-    go : (w : ℕ) → WordOf x n w → w ≤ 1025
-    go w no-word = omega arith
-    go w (word-of T s f o) = mark-small x T o (startAt (x .start) n)
+    x : JudgeInput
+    x = listingJudge f rounds
 
--- and the listing's rounds are at most 1,024
-pub round-small : (f : Files) (n : ℕ) → roundWon f n ≤ 1024
-unfolding roundWon
-round-small f n = let l = answer-small (listingJudge f) n in omega arith
+    go : (w : ℕ) → WordOf x n w → wordRound w ≤ 1024
+    go w no-word = omega arith
+    go w (word-of T s f o) = let l = won-few x T o (startAt (x .start) n) in rw (mark-round x T o (startAt (x .start) n)) (omega arith)
 
 -- ---- the start that guide names
 
--- an accepted start has a run, and one that is not has none
-pub started-runs : (x : GuideInput) (T : Saturated) → Started x T → accepted (T .table) (x .start) (startNamed x) ≡ true
-    → Runs (x .case) (x .start) (x .number)
-unfolding startNamed startAt guideLent
-started-runs x T s a = accepted-runs (guideLent x) (x .start) (s .sound-case) (s .table-is) (x .number) .0 a
+module _ (x : GuideInput) (T : Saturated) (s : Started x T) where
+  -- the table accepts it exactly if that after the rounds asked for does
+  pub started-accepts : accepted (T .table) (x .start) (startNamed x) ≡ acceptedIn (x .case) (x .start) (x .number) (x .rounds)
+  unfolding startNamed startAt guideLent
+  started-accepts = table-accepts (guideLent x) (x .rounds) (s .table-is) (x .start) (x .number)
 
-pub started-none : (x : GuideInput) (T : Saturated) → Started x T → accepted (T .table) (x .start) (startNamed x) ≡ false
-    → Runs (x .case) (x .start) (x .number) → ⊥
-unfolding startNamed startAt guideLent
-started-none x T s a r = false≢true (sym a ∙ accepted-runs (guideLent x) (x .start) (s .sound-case) (s .table-is) (x .number) .1 r)
+  -- and has a run then
+  pub started-runs : accepted (T .table) (x .start) (startNamed x) ≡ true → Runs (x .case) (x .start) (x .number)
+  unfolding guideLent
+  started-runs a = accepted-runs (guideLent x) (x .rounds) (s .table-is) (s .sound-case) (x .start) (x .number) (sym started-accepts ∙ a)
+
+  -- one that is not accepted while nothing is left to add has none
+  pub started-none : accepted (T .table) (x .start) (startNamed x) ≡ false → moreToAdd (x .case) T ≡ false → Runs (x .case) (x .start) (x .number) → ⊥
+  unfolding guideLent
+  started-none a m r =
+      false≢true
+      (sym a ∙ started-accepts
+      ∙ runs-accepted (guideLent x) (x .rounds) (s .table-is) (s .sound-case) (x .start) (x .number) (table-nothing (guideLent x) (x .rounds) (s .table-is) m) r)

@@ -33,7 +33,7 @@ module _ {P : ℕ} {own : Automaton} {rules : List Rule} (table : TableFacts P o
         derived = λ i l h. (later s i l h .derivation, later s i l h .is-first);
       }
 
-pub case-saturated : (file : List ℕ) (lent : Size) {T : Saturated} → caseRefusal file ≡ 0 → saturate (rulesOf file) lent (ownOf file) ≡ some T
+pub case-saturated : (file : List ℕ) (lent : Size) (n : ℕ) {T : Saturated} → caseRefusal file ≡ 0 → saturate (rulesOf file) lent n (ownOf file) ≡ some T
     → SaturatedFacts (head file .P) (ownOf file) (rulesOf file) T
-case-saturated file lent {T} sound e =
-    saturated-facts (case-table file sound) (case-own file sound) (λ ρ j. case-rules file sound j) (saturate-some (rulesOf file) lent (ownOf file) e .after)
+case-saturated file lent n {T} sound e =
+    saturated-facts (case-table file sound) (case-own file sound) (λ ρ j. case-rules file sound j) (saturate-some (rulesOf file) lent (ownOf file) n e .after)

@@ -13,7 +13,7 @@ use Rattle.words.specs.Lists.{each, only}
 use Rattle.words.specs.Lists.Laws.{only-yes, only-no}
 use Rattle.words.specs.Laws.Tests.{by-test}
 use Rattle.automata.specs.Automaton.{Automaton, Move, noEntry}
-use Rattle.automata.specs.Saturation.{Saturated}
+use Rattle.automata.specs.Saturation.{Saturated, allRounds}
 use Rattle.files.specs.Case.{caseRefusal, ownOf}
 use Rattle.services.specs.Memory.{padded, moveCount, Counted, withCounts, counted, largest, moveWords, moveTable, entryTable}
 use Rattle.services.specs.Memory.Laws.{getD-padded, length-withCounts}
@@ -65,7 +65,7 @@ module _ (x : Lent) where
       ∙ ap (λ (k : ℕ). moveCount (T .table .moves) (k + i)) (sym e)
       ∙ sym (walked-table (T .table) (x .moves) (ownOf (x .case) .J + i))
 
-  filled-largest : (T : Saturated) → saturated x ≡ some T → LargestCount (saturateFilled x T) (largestCount x)
+  filled-largest : (T : Saturated) → saturated x allRounds ≡ some T → LargestCount (saturateFilled x T) (largestCount x)
   unfolding saturateFilled largestCount counted
   filled-largest T o =
       let A : Automaton = T .table in
@@ -87,7 +87,7 @@ module _ (x : Lent) where
           let h : i < length (T .table .entries) = omega arith in
           inr (i, h, word-counted (T .table) (x .entries) i h ∙ e ∙ sym is)
 
-  by-case : (P : SaturateDone → Type 0) → ((T : Saturated) → caseRefusal (x .case) ≡ 0 → saturated x ≡ some T → P (saturateFilled x T))
+  by-case : (P : SaturateDone → Type 0) → ((T : Saturated) → caseRefusal (x .case) ≡ 0 → saturated x allRounds ≡ some T → P (saturateFilled x T))
       → (d : SaturateDone) → SaturateStates x d → d .reply .code ≡ 0 → P d
   unfolding saturateRefused
   by-case P f d s c = subst P (sym is) (go (saturateService x) (saturate-cases x) (ap (λ (e : SaturateDone). e .reply .code) (sym is) ∙ c))

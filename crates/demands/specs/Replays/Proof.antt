@@ -36,7 +36,7 @@ use Rattle.demands.specs.Traces.Laws.{accepts, fault-fits, fails-fits}
 use Rattle.demands.specs.Demand1.{Answered, ReplayAnswered}
 use Rattle.demands.specs.Demand1.Proof.{demand1-guide, demand1-replay, ended-answered}
 use Rattle.demands.specs.Demand3.{RunArrives, Walks, AnswersRun}
-use Rattle.demands.specs.Demand3.Proof.{guides, runs-marked}
+use Rattle.demands.specs.Demand3.Proof.{guides, accepts-marked}
 use Rattle.demands.specs.Determined.{replay-only}
 use Rattle.demands.specs.Replays.{Sound, AnswersExactly, ReplayExactly, AcceptedRuns, traceBytes, replayOf, GuideAccepted}
 
@@ -139,15 +139,16 @@ module _ (x : GuideInput) (c : Counts) (e : guideService x .reply ≡ Walked (Ar
       go d (GuideCase.start-refused s bad) z = absurd (false≢true (ap isArrival z))
       go d (GuideCase.start-missing s f h) z = absurd (false≢true (ap isArrival z))
       go d (GuideCase.size-exceeded s f h o) z = absurd (false≢true (ap isArrival z))
-      go d (GuideCase.no-run T s a) z = (T, s)
+      go d (GuideCase.no-run T s a m) z = (T, s)
+      go d (GuideCase.is-open T s a m) z = (T, s)
       go d (GuideCase.cells-short T s a l) z = (T, s)
       go d (GuideCase.walked T s a l) z = (T, s)
 
   -- the full run of its start
-  arrived-run : (r : RunArrives (x .case) (x .start) (x .number)) × AnswersRun x (r .trace) (guideService x)
+  arrived-run : (r : RunArrives (x .case) (x .start) (x .rounds) (x .number)) × AnswersRun x (r .trace) (guideService x)
   arrived-run =
-      let (n, runs, _) = subst (λ (r : Reply). Answered x r (guideService x .trace)) e (demand1-guide x .answered) in
-      guides x (length (startsOf (x .start))) (runs-marked x n runs)
+      let (n, t, _, _) = subst (λ (r : Reply). Answered x r (guideService x .trace)) e (demand1-guide x .answered) in
+      guides x (length (startsOf (x .start))) (accepts-marked x n t)
 
   -- All its steps are done,
   walks-all : {ns : List ℕ} → Walks x ns (guideService x)
@@ -196,7 +197,7 @@ module _ (x : GuideInput) (c : Counts) (e : guideService x .reply ≡ Walked (Ar
           start-fits = h;
         }
 
-    replay-accepted : (r : RunArrives (x .case) (x .start) (x .number)) → AnswersRun x (r .trace) (guideService x) → replayService replay .reply ≡ Accepted
+    replay-accepted : (r : RunArrives (x .case) (x .start) (x .rounds) (x .number)) → AnswersRun x (r .trace) (guideService x) → replayService replay .reply ≡ Accepted
     unfolding replayOf used
     replay-accepted r a =
         let (t, k, u) = arrived-all (r .trace) a in

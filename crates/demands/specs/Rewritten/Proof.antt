@@ -59,9 +59,9 @@ shares-answers : {case other : List ℕ} → AnswersAs case other → SharesAnsw
 shares-answers a =
     record {
       saturates = λ moves entries d e s t. saturate-only _ d s ∙ a .saturates moves entries ∙ sym (saturate-only _ e t);
-      judges = λ start moves entries answers d e s t. judge-only _ d s ∙ a .judges start moves entries answers ∙ sym (judge-only _ e t);
-      guides = λ start number moves entries cells trace d e s f t g.
-          guide-only _ d s f ∙ a .guides start number moves entries cells trace ∙ sym (guide-only _ e t g);
+      judges = λ start rounds moves entries answers d e s t. judge-only _ d s ∙ a .judges start rounds moves entries answers ∙ sym (judge-only _ e t);
+      guides = λ start number rounds moves entries cells trace d e s f t g.
+          guide-only _ d s f ∙ a .guides start number rounds moves entries cells trace ∙ sym (guide-only _ e t g);
       replays = λ start number trace cells d e s t. replay-only _ d s ∙ a .replays start number trace cells ∙ sym (replay-only _ e t);
       prints = λ start number text d e s t. brackets-only _ d s ∙ a .prints start number text ∙ sym (brackets-only _ e t);
     }

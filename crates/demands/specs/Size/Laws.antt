@@ -1,4 +1,5 @@
--- A sound case has a saturated table, only one; and no table within the limits is left by saturation exactly if it passes one.
+-- A sound case has a saturated table, only one; and no table within the limits is left by saturation exactly if it, or the table of the rounds
+-- run, passes one.
 -- Assumes nothing.
 use Prim.Native.Nat.{ℕ}
 use mathlib.Core.Bool.{false, false≢true}
@@ -6,22 +7,24 @@ use mathlib.Core.Path.{_≡_, refl, sym, _∙_, subst}
 use mathlib.Core.Option.{none, some}
 use mathlib.Core.List.{List}
 use native.Mathlib.Nat.{le-of-lt as lt-le}
+use native.Mathlib.Omega.{arith}
 use lib.Dec.{leb}
 use borrow.Author.Tests.{leb-true, leb-false}
 use Rattle.words.specs.Laws.Tests.{by-test}
 use Rattle.words.specs.Laws.Options.{by-option}
 use Rattle.automata.specs.Automaton.{Automaton}
 use Rattle.automata.specs.Facts.{Closed}
-use Rattle.automata.specs.Saturation.{Saturated, tableAfter, within}
+use Rattle.automata.specs.Saturation.{Saturated, tableAfter, within, allRounds}
 use Rattle.rounds.specs.Rounds.{after-closed}
-use Rattle.rounds.specs.Limits.{saturate-some}
+use Rattle.rounds.specs.Limits
+use Rattle.rounds.specs.Limits.{saturate-some, saturate-none, all-closed}
 use Rattle.rounds.specs.Ends.{work-ends}
 use Rattle.rounds.specs.LeastClosed.Laws.{closed-least, closed-exceeds, saturated-least, least-within}
 use Rattle.files.specs.Case.{caseRefusal, ownOf, rulesOf}
 use Rattle.files.specs.Case.Laws.{case-rules, case-table, case-own, case-moves-once, case-rules-bounded, case-bounded}
 use Rattle.services.specs.Memory.{lent}
 use Rattle.services.specs.Saturate.{Lent, saturated}
-use Rattle.demands.specs.Size.{SaturatedTable, Exceeds}
+use Rattle.demands.specs.Size.{SaturatedTable, Exceeds, ExceedsIn}
 
 -- ---- the saturated table of a case
 
@@ -52,34 +55,48 @@ module _ (case : List ℕ) (sound : caseRefusal case ≡ 0) where
 
 -- ---- within the limits
 
-module _ (x : Lent) (sound : caseRefusal (x .case) ≡ 0) where
-  -- what saturation leaves is the saturated table
-  pub saturated-table : {T : Saturated} → saturated x ≡ some T → SaturatedTable (x .case) (T .table)
+module _ (x : Lent) where
+  -- there is no table of n rounds exactly if the table after n rounds passes a limit
+  pub none-exceeds-in : (n : ℕ) → saturated x n ≡ none → ExceedsIn x n
   unfolding saturated
-  saturated-table {T} e =
-      let s = saturate-some (rulesOf (x .case)) (lent (x .moves) (x .entries)) (ownOf (x .case)) e in
-      record {
-        least-closed = saturated-least (rulesOf (x .case)) (λ ρ j. case-rules (x .case) sound j) (case-table (x .case) sound) (case-moves-once (x .case) sound) (case-own (x .case) sound) s;
-        rounds = s .after .rounds;
-        table-is = s .after .table-is;
-      }
+  none-exceeds-in n e = saturate-none (rulesOf (x .case)) (lent (x .moves) (x .entries)) (ownOf (x .case)) n e
 
-  pub none-exceeds : saturated x ≡ none → Exceeds x
+  pub exceeds-in-none : (n : ℕ) → ExceedsIn x n → saturated x n ≡ none
   unfolding saturated
-  none-exceeds e =
-      let (A, s) = case-saturates (x .case) sound in
-      record {
-        table = A;
-        saturated = s;
-        passes = subst (λ (C : Automaton). within (lent (x .moves) (x .entries)) C ≡ false) (sym (s .table-is))
-            (closed-exceeds (rulesOf (x .case)) (lent (x .moves) (x .entries)) (ownOf (x .case)) (s .rounds)
-            (subst (Closed (rulesOf (x .case))) (s .table-is) (s .least-closed .closed)) e);
-      }
+  exceeds-in-none n h = Limits.exceeds-none (rulesOf (x .case)) (lent (x .moves) (x .entries)) (ownOf (x .case)) n h
 
-  pub exceeds-none : Exceeds x → saturated x ≡ none
-  unfolding saturated
-  exceeds-none h =
-      by-option (saturated x) (λ o. o) (λ T o.
-      let s = saturate-some (rulesOf (x .case)) (lent (x .moves) (x .entries)) (ownOf (x .case)) o in
-      let k = least-within (lent (x .moves) (x .entries)) (h .saturated .least-closed) (saturated-table o .least-closed) in
-      absurd (false≢true (sym (h .passes) ∙ k ∙ s .limits-kept)))
+  module _ (sound : caseRefusal (x .case) ≡ 0) where
+    -- what all rounds leave is the saturated table
+    pub saturated-table : {T : Saturated} → saturated x allRounds ≡ some T → SaturatedTable (x .case) (T .table)
+    unfolding saturated
+    saturated-table {T} e =
+        let s = saturate-some (rulesOf (x .case)) (lent (x .moves) (x .entries)) (ownOf (x .case)) allRounds e in
+        let c = all-closed (rulesOf (x .case)) (lent (x .moves) (x .entries)) (ownOf (x .case)) s (omega arith) in
+        record {
+          least-closed = saturated-least (rulesOf (x .case)) (λ ρ j. case-rules (x .case) sound j) (case-table (x .case) sound) (case-moves-once (x .case) sound) (case-own (x .case) sound) s c;
+          rounds = s .after .rounds;
+          table-is = s .after .table-is;
+        }
+
+    -- where the table of some number of rounds passes a limit, the saturated table does
+    pub in-exceeds : (n : ℕ) → ExceedsIn x n → Exceeds x
+    in-exceeds n h =
+        let (A, s) = case-saturates (x .case) sound in
+        record {
+          table = A;
+          saturated = s;
+          passes = subst (λ (C : Automaton). within (lent (x .moves) (x .entries)) C ≡ false) (sym (s .table-is))
+              (closed-exceeds (rulesOf (x .case)) (lent (x .moves) (x .entries)) (ownOf (x .case)) (s .rounds)
+              (subst (Closed (rulesOf (x .case))) (s .table-is) (s .least-closed .closed)) n h);
+        }
+
+    pub none-exceeds : saturated x allRounds ≡ none → Exceeds x
+    none-exceeds e = in-exceeds allRounds (none-exceeds-in allRounds e)
+
+    pub exceeds-none : Exceeds x → saturated x allRounds ≡ none
+    unfolding saturated
+    exceeds-none h =
+        by-option (saturated x allRounds) (λ o. o) (λ T o.
+        let s = saturate-some (rulesOf (x .case)) (lent (x .moves) (x .entries)) (ownOf (x .case)) allRounds o in
+        let k = least-within (lent (x .moves) (x .entries)) (h .saturated .least-closed) (saturated-table o .least-closed) in
+        absurd (false≢true (sym (h .passes) ∙ k ∙ s .limits-kept)))

@@ -1,13 +1,18 @@
--- An answer's number tells whether it is a refusal.
+-- An answer's number tells whether it is a refusal, and a word its round.
 -- Assumes nothing.
-use Prim.Native.Nat.{_≤_}
+use Prim.Native.Nat.{_≤_, ℕ, suc, _-_, _<_}
+use mathlib.Core.Bool.{Bool, true, false}
+use mathlib.Core.Path.{_≡_, refl}
 use native.Mathlib.Omega.{arith}
+use borrow.Author.Tests.{ne-eqb}
+use Rattle.replies.specs.declared.Acceptance.{Acceptance}
+use Rattle.replies.specs.declared.Acceptance.the-variants.{Never, Since}
 use Rattle.replies.specs.declared.Halt.the-variants.{Arrived, TraceFull, CellsShort}
 use Rattle.replies.specs.declared.Reply.{Reply}
 use Rattle.replies.specs.declared.Reply.the-variants.{Refused, NoRun, Open, Walked}
 use Rattle.replies.specs.declared.Replayed.{Replayed}
 use Rattle.replies.specs.declared.Replayed.the-variants as Replayed
-use Rattle.replies.specs.Numbers.{numberOf, replayNumber}
+use Rattle.replies.specs.Numbers.{numberOf, replayNumber, answerWord, openWord, markWord, wordRound}
 
 unfoldable pub IsRefusal : Reply → Type 0
 IsRefusal (Refused n) = Unit {0}
@@ -36,3 +41,12 @@ unfolding IsReplayRefusal
 replay-refusal-number (Replayed.Refused n) l m = tt
 replay-refusal-number Replayed.Accepted l m = omega arith
 replay-refusal-number (Replayed.FailsAt n) l m = omega arith
+
+-- ---- words
+
+-- the word of an answer that is a round, or never, tells the round
+pub word-round : (more : Bool) (a : Acceptance) → answerWord a < openWord → wordRound (markWord more a) ≡ answerWord a - 1
+unfolding wordRound markWord answerWord
+word-round true Never l = refl
+word-round false Never l = refl
+word-round more (Since r) l = rw (wordRound, ne-eqb (suc r) openWord (λ e. absurd (omega arith)))

@@ -14,7 +14,7 @@ use Rattle.stacks.specs.System.{Rule}
 use Rattle.automata.specs.Automaton.{Automaton}
 use Rattle.automata.specs.Saturation.{Saturated, addsMove, saturate, allRounds, roundsAdded}
 use Rattle.automata.specs.Won.{won2}
-use Rattle.replies.specs.Numbers.{markWord}
+use Rattle.replies.specs.Numbers.{markWord, wordRound}
 use Rattle.replies.specs.declared.Halt.the-variants.{CellsShort}
 use Rattle.replies.specs.declared.Replayed.the-variants.{Refused}
 use Rattle.walks.specs.Guide.{walkedBy, noRun, startWalk, guided}
@@ -207,7 +207,7 @@ module _ {one other : List ℕ} (s : SameCase one other) where
 
     round-alike : (rounds n : ℕ) → roundWon (files one) rounds n ≡ roundWon (files other) rounds n
     unfolding roundWon listingJudge
-    round-alike rounds n = ap (λ (d : JudgeDone). getD (d .answers) n 0 - 1) (judge-alike start rounds (1024 * 5) (64 * entryWidth) 64)
+    round-alike rounds n = ap (λ (d : JudgeDone). wordRound (getD (d .answers) n 0)) (judge-alike start rounds (1024 * 5) (64 * entryWidth) 64)
 
     line-alike : (n : ℕ) → startLine (files one) n ≡ startLine (files other) n
     unfolding startLine listingGuide
