@@ -22,6 +22,14 @@ impl Limits {
 
     pub const STATES1: usize = 64;
 
+    // ---- as many rounds are all rounds: each but the last adds a move
+
+    pub const ALL_ROUNDS: u64 = 1025;
+
+    // ---- judge's word for an open start
+
+    pub const OPEN_WORD: u16 = 65535;
+
     // ---- what a start file may have, and how many lent cells count
 
     pub const STARTS: usize = 64;

@@ -1,12 +1,13 @@
--- The saturated table of a sound case.
+-- The table of a sound case after at most so many rounds.
 -- Assumes nothing.
 pub mod Laws
-use Prim.Native.Nat.{ℕ, _≤_}
+use Prim.Native.Nat.{ℕ, suc, _≤_}
 use mathlib.Core.Bool.{Bool, true}
 use mathlib.Core.Path.{_≡_}
+use mathlib.Core.Option.{some}
 use mathlib.Core.List.{List}
 use lib.ListN.{length}
-use Rattle.automata.specs.Saturation.{saturate}
+use Rattle.automata.specs.Saturation.{Saturated, addsMove, saturate, roundsAdded}
 use Rattle.files.specs.Case.{ownOf, rulesOf}
 use Rattle.services.specs.Memory.{lent}
 use Rattle.words.specs.Lists.{zeros}
@@ -27,10 +28,13 @@ pub record Working (inner entries moves pending sizes : List ℕ) : Type 0 where
   pub pending-room : 6144 ≤ length pending
   pub sizes-room : 2050 ≤ length sizes
 
--- The tables hold the saturated table, with zeros behind it, and its sizes stand in their rows; or there is none.
-pub record CaseSaturated (file : List ℕ) (m e : ℕ) (fits : Bool) (z : Table) (k : ℕ) (inner entries moves sizes : List ℕ) : Type 0 where
-  pub saturated : saturate (rulesOf file) (lent m e) (ownOf file) ≡ ended fits (automatonOf z inner entries moves) (rowsIn sizeRow k sizes)
+-- The tables hold the table of at most so many rounds, with zeros behind it, and its sizes stand in their rows; or there is none. The number k of
+-- rounds is that of the definition's table, and `more` says whether a round more would add a move.
+pub record CaseSaturated (file : List ℕ) (rounds m e : ℕ) (fits : Bool) (z : Table) (k : ℕ) (more : Bool) (inner entries moves sizes : List ℕ) : Type 0 where
+  pub saturated : saturate (rulesOf file) (lent m e) rounds (ownOf file) ≡ ended fits (automatonOf z inner entries moves) (rowsIn sizeRow (suc k) sizes)
+  pub count : (T : Saturated) → saturate (rulesOf file) (lent m e) rounds (ownOf file) ≡ some T → k ≡ roundsAdded T
+  pub more-is : fits ≡ true → more ≡ addsMove (rulesOf file) (automatonOf z inner entries moves)
   pub standing : fits ≡ true → Standing z (mostMoves m) (mostEntries e (ownOf file .J)) inner entries moves
   pub entries-filled : fits ≡ true → Filled entryRow (z .entries) entries
   pub moves-filled : fits ≡ true → Filled moveRow (z .moves) moves
-  pub sizes-few : k ≤ 1025
+  pub sizes-few : k ≤ 1024

@@ -1,4 +1,4 @@
-// The service saturate, and the saturated table of a sound case for the services above.
+// The service saturate, and the table of a sound case after at most so many rounds for the services above.
 ghost use mathlib.Core.Path.{_≡_};
 ghost use mathlib.Core.Bool.{false};
 ghost use lib.ListN.{length};
@@ -27,10 +27,11 @@ fn own_fits(case: &[u8], moves: usize, entries: usize) -> bool
     case_file::entry_total(h, case) as usize <= entries / Limits::ENTRY_WORDS
 }
 
-// Saturates the table of a sound case in tables that are all zero, with working memory for its inner edges, for the results of a round and for
-// the sizes after each round.
+// Saturates the table of a sound case by at most `rounds` rounds, in tables that are all zero, with working memory for its inner edges, for the
+// results of a round and for the sizes after each round.
 pub fn saturate_case(
     case: &[u8],
+    rounds: u64,
     inner: &mut [u64],
     entries: &mut [u64],
     moves: &mut [u64],
@@ -38,7 +39,7 @@ pub fn saturate_case(
     sizes: &mut [u64],
 ) -> Saturated
     requires { ⌜ (caseRefusal (now case) ≡ 0) × Working (now inner) (now entries) (now moves) (now pending) (now sizes) ⌝ }
-    ensures { λ r. ⌜ CaseSaturated (now (case .entry)) (length (now (moves .entry))) (length (now (entries .entry))) (r .fits) (r .table) (r .sizes) (now (inner .exit)) (now (entries .exit)) (now (moves .exit)) (now (sizes .exit)) ⌝ }
+    ensures { λ r. ⌜ CaseSaturated (now (case .entry)) rounds (length (now (moves .entry))) (length (now (entries .entry))) (r .fits) (r .table) (r .rounds) (r .more) (now (inner .exit)) (now (entries .exit)) (now (moves .exit)) (now (sizes .exit)) ⌝ }
 {
     if !own_fits(case, moves.len(), entries.len()) {
         return nothing();
@@ -47,12 +48,22 @@ pub fn saturate_case(
     let mut rules = [0u8; Limits::RULE_TABLE];
     case_file::put_rules(case, &mut rules);
     let count = bytes_in::count_of(case, Limits::RULE_BODY);
-    saturation::saturate_tables(z, inner, entries, moves, &rules, count, pending, sizes)
+    saturation::saturate_tables(
+        rounds,
+        z,
+        inner,
+        entries,
+        moves,
+        &rules,
+        count,
+        pending,
+        sizes,
+    )
 }
 
 // No table: a limit is passed.
 fn nothing() -> Saturated
-    ensures { λ r. ⌜ (r .fits ≡ false) × (r .sizes ≡ 0) ⌝ }
+    ensures { λ r. ⌜ (r .fits ≡ false) × (r .rounds ≡ 0) ⌝ }
 {
     let table = tables::Table {
         inner1: 0,
@@ -65,7 +76,8 @@ fn nothing() -> Saturated
     Saturated {
         fits: false,
         table: table,
-        sizes: 0,
+        rounds: 0,
+        more: false,
     }
 }
 
@@ -97,7 +109,15 @@ pub fn saturate(case: &[u8], moves: &mut [u64], entries: &mut [u64]) -> Saturati
     let mut inner = [0u64; Limits::INNER_TABLE];
     let mut pending = [0u64; Limits::PENDING_TABLE];
     let mut sizes = [0u64; Limits::SIZE_TABLE];
-    let r = saturate_case(case, &mut inner, entries, moves, &mut pending, &mut sizes);
+    let r = saturate_case(
+        case,
+        Limits::ALL_ROUNDS,
+        &mut inner,
+        entries,
+        moves,
+        &mut pending,
+        &mut sizes,
+    );
     let table = r.table;
     if !r.fits {
         zeroing::zero_u64(moves);

@@ -1,7 +1,7 @@
--- Rounds until one adds no move or passes a limit.
+-- At most so many rounds, until one adds no move or passes a limit.
 -- Assumes nothing.
 pub mod Laws
-use Prim.Native.Nat.{ℕ, _-_, _/_, _≤_, min}
+use Prim.Native.Nat.{ℕ, suc, _-_, _/_, _≤_, min}
 use mathlib.Core.Bool.{Bool, true, false}
 use mathlib.Core.Path.{_≡_}
 use mathlib.Core.Option.{Option, none, some}
@@ -9,7 +9,7 @@ use mathlib.Core.List.{List}
 use lib.ListN.{length}
 use Rattle.stacks.specs.System.{Rule}
 use Rattle.automata.specs.Automaton.{Automaton}
-use Rattle.automata.specs.Saturation.{Size, Saturated, saturate, saturateFrom}
+use Rattle.automata.specs.Saturation.{Size, Saturated, addsMove, saturate, saturateFrom, roundsAdded}
 use Rattle.services.specs.Memory.{lent, entryWidth}
 use Rattle.tables.specs.declared.Table.{Table}
 use Rattle.tables.specs.Rows.{rowsIn}
@@ -40,26 +40,30 @@ pub record Given (z : Table) (inner entries moves : List ℕ) : Type 0 where
   pub states-exist : StatesExist (automatonOf z inner entries moves)
   pub counts : CountsStand z entries moves
 
--- the saturated table with its sizes, or none
+-- the table with its sizes, or none
 unfoldable pub ended : Bool → Automaton → List Size → Option Saturated
 ended true A sizes = some (record { table = A; sizes = sizes })
 ended false A sizes = none
 
-module _ (rules : List Rule) (inner : List ℕ) (z : Table) (entries moves : List ℕ) where
-  -- The tables at the end: saturated, with their sizes, zeros behind the last rows staying there; or a limit is passed.
-  pub record Ends (fits : Bool) (z′ : Table) (k : ℕ) (entries′ moves′ sizes : List ℕ) : Type 0 where
-    pub saturated : saturate rules (lent (length moves) (length entries)) (automatonOf z inner entries moves)
-        ≡ ended fits (automatonOf z′ inner entries′ moves′) (rowsIn sizeRow k sizes)
+module _ (rules : List Rule) (rounds : ℕ) (inner : List ℕ) (z : Table) (entries moves : List ℕ) where
+  -- The tables at the end: those of at most so many rounds, with their sizes, zeros behind the last rows staying there; or a limit is passed. The
+  -- number k of rounds is that of the definition's table, and `more` says whether a round more would add a move.
+  pub record Ends (fits : Bool) (z′ : Table) (k : ℕ) (more : Bool) (entries′ moves′ sizes : List ℕ) : Type 0 where
+    pub saturated : saturate rules (lent (length moves) (length entries)) rounds (automatonOf z inner entries moves)
+        ≡ ended fits (automatonOf z′ inner entries′ moves′) (rowsIn sizeRow (suc k) sizes)
+    pub count : (T : Saturated) → saturate rules (lent (length moves) (length entries)) rounds (automatonOf z inner entries moves) ≡ some T → k ≡ roundsAdded T
+    pub more-is : fits ≡ true → more ≡ addsMove rules (automatonOf z′ inner entries′ moves′)
     pub standing : fits ≡ true → Standing z′ (mostMoves (length moves)) (mostEntries (length entries) (z .inner1)) inner entries′ moves′
     pub entries-filled : fits ≡ true → Filled entryRow (z .entries) entries → Filled entryRow (z′ .entries) entries′
     pub moves-filled : fits ≡ true → Filled moveRow (z .moves) moves → Filled moveRow (z′ .moves) moves′
-    pub few : k ≤ 1025
+    pub few : k ≤ 1024
 
   -- After k rounds: what is left to do from here gives the whole.
   pub record RunsRounds (z′ : Table) (k : ℕ) (entries′ moves′ sizes : List ℕ) : Type 0 where
     pub standing : Standing z′ (mostMoves (length moves)) (mostEntries (length entries) (z .inner1)) inner entries′ moves′
-    pub left : saturate rules (lent (length moves) (length entries)) (automatonOf z inner entries moves)
-        ≡ saturateFrom rules (lent (length moves) (length entries)) (1025 - k) (rowsIn sizeRow k sizes) (automatonOf z′ inner entries′ moves′)
+    pub left : saturate rules (lent (length moves) (length entries)) rounds (automatonOf z inner entries moves)
+        ≡ saturateFrom rules (lent (length moves) (length entries)) (rounds - k) (rowsIn sizeRow k sizes) (automatonOf z′ inner entries′ moves′)
+    pub asked : k ≤ rounds
     pub count : k ≤ z′ .moves
     pub same-states : z′ .inner1 ≡ z .inner1
     pub entries-filled : Filled entryRow (z .entries) entries → Filled entryRow (z′ .entries) entries′

@@ -1,10 +1,10 @@
-// Rounds of saturation on lent tables: the results of a round are collected first, and then added; the numbers of moves and entries after each
-// round are reported.
+// Rounds of saturation on lent tables, as many as are asked for: the results of a round are collected first, and then added; the numbers of moves
+// and entries after each round are reported, and whether a round more would add a move.
 ghost use mathlib.Core.Path.{_≡_};
 ghost use Prim.Native.Nat.{_<_, _≤_, _+_, _*_};
 ghost use lib.ListN.{length};
 ghost use Rattle.tables.specs.Rows.{rowAt, putRow};
-ghost use Rattle.automata.specs.Saturation.{results};
+ghost use Rattle.automata.specs.Saturation.{results, addsMove};
 ghost use Rattle.tables.specs.Held.{automatonOf};
 ghost use Rattle.move_index.specs.Keys.{ByState, ByWords};
 ghost use Rattle.readings.specs.Memo.{MemoBefore, MemoUpTo};
@@ -69,6 +69,41 @@ fn add_round(
     added_results::add_results(z, entries, moves, most.entries, pending, n)
 }
 
+// Whether a round would add a move: its results are collected with no room for any. What is asked of the tables is what `add_round` asks.
+fn would_add(
+    z: tables::Table,
+    inner: &[u64],
+    entries: &[u64],
+    moves: &[u64],
+    states: &[u16],
+    words: &[u16],
+    t: Before,
+    body: &[u8],
+    count: usize,
+    memo: &mut [u64],
+    pending: &mut [u64],
+    most: Capacity,
+) -> bool
+    requires { ⌜ Standing z (most .moves) (most .entries) (now inner) (now entries) (now moves) × RulesStand count (now body) × ByState (z .moves) (now moves) (now states) × ByWords (z .moves) (now moves) (now words) × SettledBy (automatonOf z (now inner) (now entries) (now moves)) t (results (rulesIn count (now body)) (tableBefore t (automatonOf z (now inner) (now entries) (now moves)))) × MemoBefore (z .moves) (now memo) ⌝ }
+    ensures { λ r. ⌜ r ≡ addsMove (rulesIn count (now (body .entry))) (automatonOf z (now (inner .entry)) (now (entries .entry)) (now (moves .entry))) ⌝ }
+{
+    let n = results::collect(
+        z,
+        inner,
+        entries,
+        moves,
+        states,
+        words,
+        t,
+        body,
+        count,
+        memo,
+        pending,
+        0,
+    );
+    0 < n
+}
+
 // The limits of tables of so many words, where there are so many inner order-1 states: only whole records count, there are at most 1,024 moves
 // and at most 64 order-1 states.
 fn limits_of(moves: usize, entries: usize, states: u64) -> Capacity
@@ -112,16 +147,18 @@ pub fn size_at(sizes: &[u64], i: usize) -> Size
     }
 }
 
-// A saturated table, with the number of sizes reported; or, where `fits` is false, a limit is passed.
+// A table after rounds, the number of those that added a move, and whether a round more would; or, where `fits` is false, a limit is passed.
 pub struct Saturated {
     pub fits: bool,
     pub table: tables::Table,
-    pub sizes: usize,
+    pub rounds: usize,
+    pub more: bool,
 }
 
-// Rounds until one adds no move, by the first `count` rules of a body. The numbers of moves and entries after round 0, 1 and so on are left in the
-// first rows of `sizes`. `states` and `words` index the moves of the rounds before the last.
+// At most `rounds` rounds, until one adds no move, by the first `count` rules of a body. The numbers of moves and entries after round 0, 1 and so on
+// are left in the first rows of `sizes`. `states` and `words` index the moves of the rounds before the last.
 fn run_rounds(
+    rounds: u64,
     z: tables::Table,
     inner: &[u64],
     entries: &mut [u64],
@@ -135,7 +172,7 @@ fn run_rounds(
     memo: &mut [u64],
 ) -> Saturated
     requires { ⌜ Given z (now inner) (now entries) (now moves) × RulesStand count (now body) × (6144 ≤ length (now pending)) × (2050 ≤ length (now sizes)) × ByState 0 (now moves) (now states) × ByWords 0 (now moves) (now words) × MemoBefore (z .moves) (now memo) ⌝ }
-    ensures { λ r. ⌜ Ends (rulesIn count (now (body .entry))) (now (inner .entry)) z (now (entries .entry)) (now (moves .entry)) (r .fits) (r .table) (r .sizes) (now (entries .exit)) (now (moves .exit)) (now (sizes .exit)) ⌝ }
+    ensures { λ r. ⌜ Ends (rulesIn count (now (body .entry))) rounds (now (inner .entry)) z (now (entries .entry)) (now (moves .entry)) (r .fits) (r .table) (r .rounds) (r .more) (now (entries .exit)) (now (moves .exit)) (now (sizes .exit)) ⌝ }
 {
     let most = limits_of(moves.len(), entries.len(), z.inner1);
     let mut before = Before {
@@ -147,8 +184,29 @@ fn run_rounds(
     let mut k: usize = 0;
     loop {
         put_sizes(sizes, k, table.moves, table.entries);
-        k += 1;
         move_index::extend(moves, before.moves, table.moves, states, words);
+        if k as u64 == rounds {
+            let more = would_add(
+                table,
+                inner,
+                entries,
+                moves,
+                states,
+                words,
+                before,
+                body,
+                count,
+                memo,
+                pending,
+                most,
+            );
+            return Saturated {
+                fits: true,
+                table: table,
+                rounds: k,
+                more: more,
+            };
+        }
         let g = add_round(
             table,
             inner,
@@ -168,14 +226,16 @@ fn run_rounds(
             return Saturated {
                 fits: false,
                 table: next,
-                sizes: k,
+                rounds: 0,
+                more: false,
             };
         }
         if next.moves == table.moves {
             return Saturated {
                 fits: true,
                 table: next,
-                sizes: k,
+                rounds: k,
+                more: false,
             };
         }
         before = Before {
@@ -184,12 +244,15 @@ fn run_rounds(
             entries: table.entries,
         };
         table = next;
+        k += 1;
     }
 }
 
-// Saturates the tables by the first `count` rules of a body: rounds until one adds no move. The numbers of moves and entries after round 0, 1
-// and so on are left in the first rows of `sizes`. The index of the moves and the memo table, of 15,360 rows, are this call's own.
+// Saturates the tables by the first `count` rules of a body: at most `rounds` rounds, until one adds no move. The numbers of moves and entries after
+// round 0, 1 and so on are left in the first rows of `sizes`. The index of the moves and the memo table, of 15,360 rows, are this call's own. The
+// number of rounds in the result is that of the definition's table.
 pub fn saturate_tables(
+    rounds: u64,
     z: tables::Table,
     inner: &[u64],
     entries: &mut [u64],
@@ -200,12 +263,13 @@ pub fn saturate_tables(
     sizes: &mut [u64],
 ) -> Saturated
     requires { ⌜ Given z (now inner) (now entries) (now moves) × RulesStand count (now body) × (6144 ≤ length (now pending)) × (2050 ≤ length (now sizes)) ⌝ }
-    ensures { λ r. ⌜ Ends (rulesIn count (now (body .entry))) (now (inner .entry)) z (now (entries .entry)) (now (moves .entry)) (r .fits) (r .table) (r .sizes) (now (entries .exit)) (now (moves .exit)) (now (sizes .exit)) ⌝ }
+    ensures { λ r. ⌜ Ends (rulesIn count (now (body .entry))) rounds (now (inner .entry)) z (now (entries .entry)) (now (moves .entry)) (r .fits) (r .table) (r .rounds) (r .more) (now (entries .exit)) (now (moves .exit)) (now (sizes .exit)) ⌝ }
 {
     let mut states = [0u16; Limits::CHAIN_WORDS];
     let mut words = [0u16; Limits::CHAIN_WORDS];
     let mut memo = [0u64; Limits::MEMO_TABLE];
     run_rounds(
+        rounds,
         z,
         inner,
         entries,

@@ -4,6 +4,7 @@ use Prim.Native.Nat.{ℕ, suc, _+_, _/_, _≤_, _<_, min}
 use mathlib.Core.Bool.{Bool, true, false, not, false≢true}
 use mathlib.Core.Path.{_≡_, ap, ap₂, sym, _∙_, subst, subst₂}
 use mathlib.Core.List.{List, [], _∷_, map}
+use mathlib.Core.Option.{Option·none-ne-some}
 use native.Mathlib.Nat.{min-le-left, le-min, zero-add, add-zero}
 use native.Mathlib.Numerals.{add-one}
 use native.Mathlib.Omega.{arith}
@@ -17,7 +18,7 @@ use Rattle.words.specs.Order.{insert, sorted}
 use Rattle.words.specs.Order.Laws.{by-place, insert-before, insert-after, insert-held}
 use Rattle.stacks.specs.System.{Rule}
 use Rattle.automata.specs.Automaton.{Automaton, Edge, noEdge, choiceKey}
-use Rattle.automata.specs.Saturation.{within, saturate}
+use Rattle.automata.specs.Saturation.{within, saturate, addsMove}
 use Rattle.rounds.specs.Limits.{KeepsLimits, within-keeps, keeps-within, saturateFrom-exceeds}
 use Rattle.files.specs.Bytes.{countOf, records, recordsOf}
 use Rattle.files.specs.Bytes.Laws.{records-at, length-records, length-recordsOf}
@@ -241,16 +242,20 @@ module _ (file : List ℕ) (sound : caseRefusal file ≡ 0) where
       -- ---- the end
 
       -- the rounds' end is the case's, where the tables were all zero before
-      pub case-ends : (body : List ℕ) (count : ℕ) → HoldsRules file body count → length entries ≡ e → length moves ≡ m
+      pub case-ends : (rounds : ℕ) (body : List ℕ) (count : ℕ) → HoldsRules file body count → length entries ≡ e → length moves ≡ m
           → Filled entryRow (z .entries) entries → Filled moveRow (z .moves) moves
-          → (fits : Bool) (z′ : Table) (k : ℕ) (entries′ moves′ sizes : List ℕ) → Ends (rulesIn count body) inner z entries moves fits z′ k entries′ moves′ sizes
-          → CaseSaturated file m e fits z′ k inner entries′ moves′ sizes
-      case-ends body count r le lm fe fm fits z′ k entries′ moves′ sizes h =
-          let same : saturate (rulesIn count body) (lent (length moves) (length entries)) (automatonOf z inner entries moves) ≡ saturate (rulesOf file) (lent m e) (ownOf file) =
-          ap₂ (λ (rules : List Rule) (A : Automaton). saturate rules (lent (length moves) (length entries)) A) (rules-are body count r) own
-          ∙ ap₂ (λ (x y : ℕ). saturate (rulesOf file) (lent x y) (ownOf file)) lm le in
+          → (fits : Bool) (z′ : Table) (k : ℕ) (more : Bool) (entries′ moves′ sizes : List ℕ)
+          → Ends (rulesIn count body) rounds inner z entries moves fits z′ k more entries′ moves′ sizes
+          → CaseSaturated file rounds m e fits z′ k more inner entries′ moves′ sizes
+      case-ends rounds body count r le lm fe fm fits z′ k more entries′ moves′ sizes h =
+          let same : saturate (rulesIn count body) (lent (length moves) (length entries)) rounds (automatonOf z inner entries moves)
+          ≡ saturate (rulesOf file) (lent m e) rounds (ownOf file) =
+          ap₂ (λ (rules : List Rule) (A : Automaton). saturate rules (lent (length moves) (length entries)) rounds A) (rules-are body count r) own
+          ∙ ap₂ (λ (x y : ℕ). saturate (rulesOf file) (lent x y) rounds (ownOf file)) lm le in
           record {
             saturated = sym same ∙ h .saturated;
+            count = λ T q. h .count T (same ∙ q);
+            more-is = λ f. h .more-is f ∙ ap (λ (rules : List Rule). addsMove rules (automatonOf z′ inner entries′ moves′)) (rules-are body count r);
             standing = λ f. limits-same z′ entries′ moves′ lm le (h .standing f);
             entries-filled = λ f. h .entries-filled f fe;
             moves-filled = λ f. h .moves-filled f fm;
@@ -264,12 +269,15 @@ module _ (file : List ℕ) (sound : caseRefusal file ≡ 0) where
               subst₂ (λ (x y : ℕ). Standing z′ x y inner entries′ moves′) (ap mostMoves lm) (ap₂ mostEntries le states-number) s
 
     -- the case's own table passes a limit
-    pub case-over : within (lent m e) (ownOf file) ≡ false → (fits : Bool) (z : Table) (k : ℕ) (inner entries moves sizes : List ℕ) → fits ≡ false → k ≤ 1025
-        → CaseSaturated file m e fits z k inner entries moves sizes
+    pub case-over : within (lent m e) (ownOf file) ≡ false → (rounds : ℕ) (fits : Bool) (z : Table) (k : ℕ) (more : Bool) (inner entries moves sizes : List ℕ)
+        → fits ≡ false → k ≤ 1024 → CaseSaturated file rounds m e fits z k more inner entries moves sizes
     unfolding saturate ended
-    case-over w fits z k inner entries moves sizes f b =
+    case-over w rounds fits z k more inner entries moves sizes f b =
+        let none-left = saturateFrom-exceeds (rulesOf file) (lent m e) rounds [] (ownOf file) w in
         record {
-          saturated = saturateFrom-exceeds (rulesOf file) (lent m e) 1024 [] (ownOf file) w ∙ sym (ap (λ (x : Bool). ended x (automatonOf z inner entries moves) (rowsIn sizeRow k sizes)) f);
+          saturated = none-left ∙ sym (ap (λ (x : Bool). ended x (automatonOf z inner entries moves) (rowsIn sizeRow (suc k) sizes)) f);
+          count = λ T q. absurd (Option·none-ne-some T (sym none-left ∙ q));
+          more-is = λ g. absurd (false≢true (sym f ∙ g));
           standing = λ g. absurd (false≢true (sym f ∙ g));
           entries-filled = λ g. absurd (false≢true (sym f ∙ g));
           moves-filled = λ g. absurd (false≢true (sym f ∙ g));

@@ -1,20 +1,20 @@
 -- The service's answer is that of the definition.
 -- Assumes nothing.
-use Prim.Native.Nat.{ℕ, _*_, _≤_}
+use Prim.Native.Nat.{ℕ, _*_, _≤_, suc}
 use mathlib.Core.Bool.{Bool, true, false}
 use mathlib.Core.Path.{_≡_, refl, ap, ap₂, sym, _∙_}
 use mathlib.Core.Option.{none, some}
 use mathlib.Core.List.{List}
 use lib.ListN.{length}
 use borrow.Author.Tests.{ne-eqb}
-use Rattle.words.specs.Lists.{each, every, zeros}
-use Rattle.automata.specs.Saturation.{Size, Saturated, saturate}
-use Rattle.files.specs.Bytes.{firstHit, testsOn}
-use Rattle.files.specs.Bytes.Laws.{numbered, firstHit-past, firstHit-stays, firstHit-testsOn, numbered-testsOn}
-use Rattle.files.specs.Case.{caseTests, caseRefusal, rulesOf, ownOf}
+use Rattle.words.specs.Lists.{each, zeros}
+use Rattle.automata.specs.Saturation.{Size, Saturated, saturate, allRounds}
+use Rattle.files.specs.Bytes.{Test}
+use Rattle.files.specs.Case.{caseRefusal, rulesOf, ownOf}
 use Rattle.replies.specs.declared.Saturation.{Saturation}
 use Rattle.services.specs.Memory.{padded, Counted, counted, entryWords, entryWidth, moveTable, entryTable, lent}
-use Rattle.services.specs.Saturate.{Lent, saturated, tooLarge, sizeTests, saturateRefusal, saturateRefused, saturateFilled, saturateAnswer, saturateService}
+use Rattle.services.specs.Saturate.{Lent, saturated, sizeTests, saturateRefusal, saturateRefused, saturateFilled, saturateAnswer, saturateService}
+use Rattle.services.specs.Saturate.Laws.{case-first, case-passed, size-refused, size-passed}
 use Rattle.tables.specs.declared.Table.{Table}
 use Rattle.tables.specs.Rows.{rowsIn}
 use Rattle.tables.specs.Rows.Laws.{length-rowsIn}
@@ -32,38 +32,28 @@ use Rattle.saturate.specs.Case.{CaseSaturated}
 use Rattle.saturate.specs.Service.{theLent, theDone, theRefused}
 
 module _ (x : Lent) where
-  numbered-case : numbered (testsOn (λ (y : Lent). y .case) caseTests) ≡ true
-  unfolding caseTests numbered every
-  numbered-case = numbered-testsOn (λ (y : Lent). y .case) caseTests
-
-  refusal-case : (code : ℕ) → code ≡ caseRefusal (x .case) → (code ≡ 0 → ⊥) → saturateRefusal x ≡ code
-  unfolding saturateRefusal caseRefusal
-  refusal-case code e n =
-      let f : firstHit (testsOn (λ (y : Lent). y .case) caseTests) x ≡ code = firstHit-testsOn (λ (y : Lent). y .case) caseTests x ∙ sym e in
-      firstHit-stays (testsOn (λ (y : Lent). y .case) caseTests) sizeTests x (λ q. n (sym f ∙ q)) ∙ f
-
-  refusal-size : caseRefusal (x .case) ≡ 0 → saturateRefusal x ≡ firstHit sizeTests x
-  unfolding saturateRefusal caseRefusal
-  refusal-size e = firstHit-past (testsOn (λ (y : Lent). y .case) caseTests) sizeTests x numbered-case (firstHit-testsOn (λ (y : Lent). y .case) caseTests x ∙ e)
+  -- the test of the size
+  abbrev tests : List (Test Lent)
+  tests = sizeTests (λ y. y) (λ y. allRounds)
 
   -- ---- the three ends
 
   pub done-refused : (code : ℕ) → code ≡ caseRefusal (x .case) → (code ≡ 0 → ⊥) → saturateRefused x code ≡ saturateService x
-  unfolding saturateService saturateAnswer
-  done-refused code e n = sym (ap (saturateAnswer x) (refusal-case code e n) ∙ rw (saturateAnswer, ne-eqb code 0 n))
+  unfolding saturateService saturateAnswer saturateRefusal
+  done-refused code e n =
+      let hit : saturateRefusal x ≡ code = case-first (λ (y : Lent). y .case) tests x (λ z. n (e ∙ z)) ∙ sym e in
+      sym (ap (saturateAnswer x) hit ∙ rw (saturateAnswer, ne-eqb code 0 n))
 
-  pub done-large : caseRefusal (x .case) ≡ 0 → saturated x ≡ none → saturateRefused x 9 ≡ saturateService x
-  unfolding saturateService saturateAnswer sizeTests tooLarge firstHit
+  pub done-large : caseRefusal (x .case) ≡ 0 → saturated x allRounds ≡ none → saturateRefused x 9 ≡ saturateService x
+  unfolding saturateService saturateAnswer saturateRefusal
   done-large e f =
-      let t : tooLarge x ≡ true = rw (tooLarge, f) in
-      let hit : saturateRefusal x ≡ 9 = refusal-size e ∙ (rw (firstHit, t)) in
+      let hit : saturateRefusal x ≡ 9 = case-passed (λ (y : Lent). y .case) tests x e ∙ size-refused (λ y. y) (λ y. allRounds) x f in
       sym (ap (saturateAnswer x) hit)
 
-  pub done-filled : (T : Saturated) → caseRefusal (x .case) ≡ 0 → saturated x ≡ some T → saturateFilled x T ≡ saturateService x
-  unfolding saturateService saturateAnswer sizeTests tooLarge firstHit
+  pub done-filled : (T : Saturated) → caseRefusal (x .case) ≡ 0 → saturated x allRounds ≡ some T → saturateFilled x T ≡ saturateService x
+  unfolding saturateService saturateAnswer saturateRefusal
   done-filled T e f =
-      let t : tooLarge x ≡ false = rw (tooLarge, f) in
-      let none-hit : saturateRefusal x ≡ 0 = refusal-size e ∙ (rw (firstHit, t)) in
+      let none-hit : saturateRefusal x ≡ 0 = case-passed (λ (y : Lent). y .case) tests x e ∙ size-passed (λ y. y) (λ y. allRounds) x f in
       let answer : saturateAnswer x 0 ≡ saturateFilled x T = rw (saturateAnswer, f) in
       sym (ap (saturateAnswer x) none-hit ∙ answer)
 
@@ -105,10 +95,10 @@ module _ (case moves entries : List ℕ) where
 
   -- what was saturated in tables of the same lengths
   module _ (code : ℕ) (ec : code ≡ caseRefusal case) (sound : code ≡ 0) (m e : ℕ) (lm : m ≡ length moves) (le : e ≡ length entries)
-      (fits : Bool) (z : Table) (k : ℕ) (inner entries₁ moves₁ sizes : List ℕ) (s : CaseSaturated case m e fits z k inner entries₁ moves₁ sizes) where
-    saturated-is : saturated (theLent case moves entries) ≡ ended fits (automatonOf z inner entries₁ moves₁) (rowsIn sizeRow k sizes)
+      (fits : Bool) (z : Table) (k : ℕ) (more : Bool) (inner entries₁ moves₁ sizes : List ℕ) (s : CaseSaturated case allRounds m e fits z k more inner entries₁ moves₁ sizes) where
+    saturated-is : saturated (theLent case moves entries) allRounds ≡ ended fits (automatonOf z inner entries₁ moves₁) (rowsIn sizeRow (suc k) sizes)
     unfolding saturated
-    saturated-is = ap₂ (λ (x y : ℕ). saturate (rulesOf case) (lent x y) (ownOf case)) (sym lm) (sym le) ∙ s .saturated
+    saturated-is = ap₂ (λ (x y : ℕ). saturate (rulesOf case) (lent x y) allRounds (ownOf case)) (sym lm) (sym le) ∙ s .saturated
 
     pub ends-large : (r : Saturation) (moves′ entries′ : List ℕ) → fits ≡ false → r ≡ theRefused 9
         → moves′ ≡ zeros (length moves₁) → entries′ ≡ zeros (length entries₁) → length moves₁ ≡ length moves → length entries₁ ≡ length entries
@@ -118,7 +108,7 @@ module _ (case moves entries : List ℕ) where
         ap (λ (x : Saturation). theDone x moves′ entries′) er
         ∙ zero-done case moves entries moves′ entries′ 9 (p ∙ ap zeros a) (q ∙ ap zeros b)
         ∙ done-large (theLent case moves entries) (sym ec ∙ sound)
-        (saturated-is ∙ ap (λ (x : Bool). ended x (automatonOf z inner entries₁ moves₁) (rowsIn sizeRow k sizes)) f)
+        (saturated-is ∙ ap (λ (x : Bool). ended x (automatonOf z inner entries₁ moves₁) (rowsIn sizeRow (suc k) sizes)) f)
 
     pub ends-filled : fits ≡ true → length moves₁ ≡ length moves → length entries₁ ≡ length entries
         → theDone (record { code = 0; moves = z .moves; entries = z .entries }) moves₁ entries₁ ≡ saturateService (theLent case moves entries)
@@ -127,9 +117,9 @@ module _ (case moves entries : List ℕ) where
         let st : Standing z (mostMoves m) (mostEntries e (ownOf case .J)) inner entries₁ moves₁ = s .standing f in
         let es : EntriesStand z entries₁ = standing-entries z (mostMoves m) (mostEntries e (ownOf case .J)) inner entries₁ moves₁ st in
         let ms : MovesStand z moves₁ = standing-moves z (mostMoves m) (mostEntries e (ownOf case .J)) inner entries₁ moves₁ st in
-        filled-done case moves entries inner moves₁ entries₁ z (rowsIn sizeRow k sizes) a b (ms .moves-lent) (es .entries-lent) (s .moves-filled f) (s .entries-filled f) (st .counts)
-        ∙ done-filled (theLent case moves entries) (record { table = automatonOf z inner entries₁ moves₁; sizes = rowsIn sizeRow k sizes }) (sym ec ∙ sound)
-        (saturated-is ∙ ap (λ (x : Bool). ended x (automatonOf z inner entries₁ moves₁) (rowsIn sizeRow k sizes)) f)
+        filled-done case moves entries inner moves₁ entries₁ z (rowsIn sizeRow (suc k) sizes) a b (ms .moves-lent) (es .entries-lent) (s .moves-filled f) (s .entries-filled f) (st .counts)
+        ∙ done-filled (theLent case moves entries) (record { table = automatonOf z inner entries₁ moves₁; sizes = rowsIn sizeRow (suc k) sizes }) (sym ec ∙ sound)
+        (saturated-is ∙ ap (λ (x : Bool). ended x (automatonOf z inner entries₁ moves₁) (rowsIn sizeRow (suc k) sizes)) f)
 
 pub zero-self : (t : List ℕ) (n : ℕ) → t ≡ zeros n → length t ≡ n → t ≡ zeros (length t)
 zero-self t n e l = e ∙ ap zeros (sym l)

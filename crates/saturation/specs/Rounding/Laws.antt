@@ -1,20 +1,20 @@
 -- What a round leaves in the tables, or that it passes a limit.
 -- Assumes nothing.
 use Prim.Native.Nat.{ℕ, _+_, _-_, _*_, _≤_, _<_}
-use mathlib.Core.Bool.{Bool, true, false, false≢true}
+use mathlib.Core.Bool.{Bool, true, false, false≢true, not}
 use mathlib.Core.Path.{_≡_, refl, ap, sym, _∙_, subst}
 use mathlib.Core.Logic.{inl, inr}
 use mathlib.Core.Option.{Option·some-injective, Option·some-ne-none}
 use mathlib.Core.List.{List}
 use native.Mathlib.Omega.{arith}
 use lib.ListN.{length}
-use lib.Dec.{leb}
-use borrow.Author.Tests.{leb-true, leb-false}
+use lib.Dec.{leb, ltb}
+use borrow.Author.Tests.{leb-true, leb-false, ltb-true, ltb-false, ne-eqb, eq-eqb}
 use Rattle.words.specs.Laws.Tests.{by-test}
 use Rattle.stacks.specs.System.{Rule}
 use Rattle.automata.specs.Automaton.{Automaton}
 use Rattle.automata.specs.Derivation.{Result}
-use Rattle.automata.specs.Saturation.{addAll, extend, round}
+use Rattle.automata.specs.Saturation.{addAll, extend, round, addsMove}
 use Rattle.rounds.specs.Added.{addAll-length}
 use Rattle.services.specs.Memory.{entryWidth}
 use Rattle.tables.specs.declared.Table.{Table}
@@ -42,12 +42,26 @@ standing-moves z mostMoves mostEntries inner entries moves s =
     let b : mostMoves * 5 ≤ length moves = s .moves-lent in
     record { moves-lent = omega arith }
 
-module _ (rules : List Rule) (inner : List ℕ) where
+module _ (rules : List Rule) where
   pub round-is : (A : Automaton) → round rules A ≡ addAll A (newResults rules A)
   unfolding round extend newResults
   round-is A = refl
 
-  module _ (z : Table) (mostMoves mostEntries : ℕ) (entries moves : List ℕ) (s : Standing z mostMoves mostEntries inner entries moves)
+  -- Where there is no room, results are counted exactly if a round would add a move.
+  pub counted-adds : (A : Automaton) (n : ℕ) (pending : List ℕ) → pendingIn 0 n pending ≡ limited 0 (newResults rules A) → ltb 0 n ≡ addsMove rules A
+  unfolding addsMove
+  counted-adds A n pending c =
+      let more : length (round rules A .moves) ≡ length (A .moves) + length (newResults rules A) =
+      ap (λ (C : Automaton). length (C .moves)) (round-is A) ∙ addAll-length A (newResults rules A) in
+      by-test (ltb 0 n)
+      (λ t. t ∙ sym (ap not (ne-eqb (length (round rules A .moves)) (length (A .moves)) (λ e.
+      let none : length (newResults rules A) ≤ 0 = omega arith in
+      absurd (Option·some-ne-none _ (sym (limited-fits 0 (newResults rules A) none) ∙ sym c ∙ pending-over 0 n pending (ltb-true 0 n t)))))))
+      (λ t. t ∙ sym (ap not (by-test (leb (length (newResults rules A)) 0)
+      (λ l. let none : length (newResults rules A) ≤ 0 = leb-true _ _ l in eq-eqb (length (round rules A .moves)) (length (A .moves)) (omega arith))
+      (λ l. absurd (Option·some-ne-none _ (sym (pending-fits 0 n pending (ltb-false 0 n t)) ∙ c ∙ limited-over 0 (newResults rules A) (leb-false _ _ l)))))))
+
+  module _ (inner : List ℕ) (z : Table) (mostMoves mostEntries : ℕ) (entries moves : List ℕ) (s : Standing z mostMoves mostEntries inner entries moves)
       (n : ℕ) (pending : List ℕ)
       (c : pendingIn (mostMoves - z .moves) n pending ≡ limited (mostMoves - z .moves) (newResults rules (automatonOf z inner entries moves))) where
     collected-over : mostMoves - z .moves < n → mostMoves - z .moves < length (newResults rules (automatonOf z inner entries moves))

@@ -1,20 +1,20 @@
--- What holds of rounds until one adds no move or passes a limit.
+-- What holds of rounds until as many are run as are asked for, one adds no move, or one passes a limit.
 -- Assumes nothing.
-use Prim.Native.Nat.{ℕ, zero, suc, _+_, _-_, _*_, _/_, _≤_, _<_, min}
+use Prim.Native.Nat.{ℕ, suc, _+_, _-_, _*_, _/_, _≤_, _<_, min}
 use mathlib.Core.Bool.{Bool, true, false, false≢true}
 use mathlib.Core.Path.{_≡_, refl, ap, ap₂, sym, _∙_, subst, subst₂}
 use mathlib.Core.Logic.{_⊎_, inl, inr}
-use mathlib.Core.Option.{none, some}
+use mathlib.Core.Option.{none, some, Option·some-injective, Option·none-ne-some}
 use mathlib.Core.List.{List, [], _∷_, _++_}
-use native.Mathlib.Nat.{min-le-left, min-le-right, le-min}
+use native.Mathlib.Nat.{min-le-left, min-le-right, le-min, sub-zero}
 use native.Mathlib.Omega.{arith}
 use lib.ListN.{length}
 use Rattle.words.specs.Laws.Tests.{by-test}
 use Rattle.stacks.specs.System.{Rule}
 use Rattle.automata.specs.Automaton.{Automaton}
-use Rattle.automata.specs.Saturation.{Size, sizeOf, within, round, saturate, saturateFrom}
-use Rattle.rounds.specs.Rounds.{round-extends, still-same}
-use Rattle.rounds.specs.Limits.{KeepsLimits, within-keeps, keeps-within, saturateFrom-exceeds, saturateFrom-ends, saturateFrom-goes-on}
+use Rattle.automata.specs.Saturation.{Size, sizeOf, within, round, saturate, saturateFrom, addsMove, roundsAdded}
+use Rattle.rounds.specs.Rounds.{round-extends, still-same, still-closed}
+use Rattle.rounds.specs.Limits.{KeepsLimits, within-keeps, keeps-within, saturateFrom-exceeds, saturateFrom-ends, saturateFrom-goes-on, saturateFrom-stops, closed-nothing}
 use Rattle.services.specs.Memory.{lent, entryWidth}
 use Rattle.tables.specs.declared.Table.{Table}
 use Rattle.tables.specs.Rows.{firstOf, rowsIn, putRow}
@@ -56,8 +56,13 @@ module _ (m e J : ℕ) (small : J ≤ 64) (A : Automaton) (same : A .J ≡ J) wh
 
 -- ---- the loop
 
-module _ (rules : List Rule) (inner : List ℕ) (z : Table) (entries moves : List ℕ) where
-  pub runs-given : (sizes : List ℕ) → Given z inner entries moves → RunsRounds rules inner z entries moves z 0 entries moves sizes
+-- the number of rounds of a table with k + 1 sizes
+counted-rows : (A : Automaton) (k : ℕ) (sizes : List ℕ) → roundsAdded (record { table = A; sizes = rowsIn sizeRow (suc k) sizes }) ≡ k
+unfolding roundsAdded
+counted-rows A k sizes = let e = length-rowsIn sizeRow (suc k) sizes in omega arith
+
+module _ (rules : List Rule) (rounds : ℕ) (inner : List ℕ) (z : Table) (entries moves : List ℕ) where
+  pub runs-given : (sizes : List ℕ) → Given z inner entries moves → RunsRounds rules rounds inner z entries moves z 0 entries moves sizes
   unfolding saturate rowsIn firstOf mostMoves mostEntries
   runs-given sizes g =
       let a : z .entries * entryWidth ≤ length entries = g .entries-stand .entries-lent in
@@ -75,7 +80,8 @@ module _ (rules : List Rule) (inner : List ℕ) (z : Table) (entries moves : Lis
           moves-lent = omega arith;
           counts = g .counts;
         };
-        left = refl;
+        left = ap (λ (n : ℕ). saturateFrom rules (lent (length moves) (length entries)) n (rowsIn sizeRow 0 sizes) (automatonOf z inner entries moves)) (sym (sub-zero rounds));
+        asked = omega arith;
         count = omega arith;
         same-states = refl;
         entries-filled = λ x. x;
@@ -84,7 +90,7 @@ module _ (rules : List Rule) (inner : List ℕ) (z : Table) (entries moves : Lis
         moves-long = refl;
       }
 
-  module _ (z₁ : Table) (k : ℕ) (e₁ m₁ sizes : List ℕ) (h : RunsRounds rules inner z entries moves z₁ k e₁ m₁ sizes) where
+  module _ (z₁ : Table) (k : ℕ) (e₁ m₁ sizes : List ℕ) (h : RunsRounds rules rounds inner z entries moves z₁ k e₁ m₁ sizes) where
     -- the table after k rounds
     abbrev now : Automaton
     now = automatonOf z₁ inner e₁ m₁
@@ -115,21 +121,49 @@ module _ (rules : List Rule) (inner : List ℕ) (z : Table) (entries moves : Lis
         (subst (λ (n : ℕ). n ≤ mostEntries (length entries) (z .inner1)) (sym (length-rowsIn entryRow (z₁ .entries) e₁)) (h .standing .growing .entries-few))
 
     module _ (sizes′ : List ℕ) (room : 2050 ≤ length sizes) (put : sizes′ ≡ putRow sizeRow sizes k (theSize (z₁ .moves) (z₁ .entries))) where
-      sizes-more : rowsIn sizeRow (k + 1) sizes′ ≡ rowsIn sizeRow k sizes ++ (sizeOf now ∷ [])
+      sizes-more : rowsIn sizeRow (suc k) sizes′ ≡ rowsIn sizeRow k sizes ++ (sizeOf now ∷ [])
       unfolding sizeOf
       sizes-more =
           let a : k ≤ 1024 = row-left in
-          ap (rowsIn sizeRow (k + 1)) put
+          let next : suc k ≡ k + 1 = omega arith in
+          ap₂ (rowsIn sizeRow) next put
           ∙ put-more sizeRow k sizes (theSize (z₁ .moves) (z₁ .entries)) (omega arith)
           ∙ ap₂ (λ (m e : ℕ). rowsIn sizeRow k sizes ++ (theSize m e ∷ [])) (sym (length-rowsIn moveRow (z₁ .moves) m₁)) (sym (length-rowsIn entryRow (z₁ .entries) e₁))
 
-      fuel : 1025 - k ≡ suc (1025 - (k + 1))
-      fuel = let a : k ≤ 1024 = row-left in omega arith
+      -- the table so far, with its sizes
+      so-far : ended true now (rowsIn sizeRow k sizes ++ (sizeOf now ∷ [])) ≡ ended true now (rowsIn sizeRow (suc k) sizes′)
+      so-far = ap (ended true now) (sym sizes-more)
 
-      from-here : saturate rules limit (automatonOf z inner entries moves) ≡ saturateFrom rules limit (suc (1025 - (k + 1))) (rowsIn sizeRow k sizes) now
-      from-here = h .left ∙ ap (λ (n : ℕ). saturateFrom rules limit n (rowsIn sizeRow k sizes) now) fuel
+      -- ---- as many rounds are run as are asked for
 
-      module _ (fits : Bool) (z₂ : Table) (e₂ m₂ : List ℕ)
+      pub runs-stop : k ≡ rounds → (more : Bool) → more ≡ addsMove rules now → Ends rules rounds inner z entries moves true z₁ k more e₁ m₁ sizes′
+      unfolding ended
+      runs-stop e more m =
+          let none-more : rounds - k ≡ 0 = omega arith in
+          let left : saturate rules limit rounds (automatonOf z inner entries moves) ≡ ended true now (rowsIn sizeRow (suc k) sizes′) =
+          h .left
+          ∙ ap (λ (n : ℕ). saturateFrom rules limit n (rowsIn sizeRow k sizes) now) none-more
+          ∙ saturateFrom-stops rules limit (rowsIn sizeRow k sizes) now now-within
+          ∙ so-far in
+          record {
+            saturated = left;
+            count = λ T q. sym (counted-rows now k sizes′) ∙ ap roundsAdded (Option·some-injective _ T (sym left ∙ q));
+            more-is = λ _. m;
+            standing = λ _. h .standing;
+            entries-filled = λ _. h .entries-filled;
+            moves-filled = λ _. h .moves-filled;
+            few = row-left;
+          }
+
+      -- ---- one more round
+
+      from-here : (k ≡ rounds → ⊥) → saturate rules limit rounds (automatonOf z inner entries moves) ≡ saturateFrom rules limit (suc (rounds - suc k)) (rowsIn sizeRow k sizes) now
+      from-here n =
+          let a : k ≤ rounds = h .asked in
+          let fuel : rounds - k ≡ suc (rounds - suc k) = omega arith in
+          h .left ∙ ap (λ (n : ℕ). saturateFrom rules limit n (rowsIn sizeRow k sizes) now) fuel
+
+      module _ (go-on : k ≡ rounds → ⊥) (fits : Bool) (z₂ : Table) (e₂ m₂ : List ℕ)
           (r : Rounded rules inner z₁ (mostMoves (length moves)) (mostEntries (length entries) (z .inner1)) e₁ m₁ fits z₂ e₂ m₂) where
         abbrev next : Automaton
         next = round rules now
@@ -138,11 +172,6 @@ module _ (rules : List Rule) (inner : List ℕ) (z : Table) (entries moves : Lis
         same-J = round-extends rules now .same-J ∙ h .same-states
 
         -- ---- a limit is passed
-
-        none-left : (n : ℕ) (l : List Size) → within limit next ≡ false → saturateFrom rules limit n l next ≡ none
-        unfolding saturateFrom
-        none-left zero l o = refl
-        none-left (suc n) l o = saturateFrom-exceeds rules limit n l next o
 
         over-differs : (mostMoves (length moves) < length (next .moves)) ⊎ (mostEntries (length entries) (z .inner1) < length (next .entries))
             → length (next .moves) ≡ length (now .moves) → ⊥
@@ -156,16 +185,19 @@ module _ (rules : List Rule) (inner : List ℕ) (z : Table) (entries moves : Lis
             let c : length (next .entries) ≡ length (now .entries) = ap (λ (A : Automaton). length (A .entries)) (still-same rules now e) in
             omega arith
 
-        pub runs-over : fits ≡ false → Ends rules inner z entries moves false z₂ (k + 1) e₂ m₂ sizes′
+        pub runs-over : fits ≡ false → Ends rules rounds inner z entries moves false z₂ 0 false e₂ m₂ sizes′
         unfolding ended
         runs-over e =
             let o : (mostMoves (length moves) < length (next .moves)) ⊎ (mostEntries (length entries) (z .inner1) < length (next .entries)) = r .over e in
             let w : within limit next ≡ false = over-without (length moves) (length entries) (z .inner1) states-small next same-J o in
-            let b : k ≤ 1024 = row-left in
+            let left : saturate rules limit rounds (automatonOf z inner entries moves) ≡ none =
+            from-here go-on
+            ∙ saturateFrom-goes-on rules limit (rounds - suc k) (rowsIn sizeRow k sizes) now now-within (over-differs o)
+            ∙ saturateFrom-exceeds rules limit (rounds - suc k) (rowsIn sizeRow k sizes ++ (sizeOf now ∷ [])) next w in
             record {
-              saturated = from-here
-                  ∙ saturateFrom-goes-on rules limit (1025 - (k + 1)) (rowsIn sizeRow k sizes) now now-within (over-differs o)
-                  ∙ none-left (1025 - (k + 1)) (rowsIn sizeRow k sizes ++ (sizeOf now ∷ [])) w;
+              saturated = left;
+              count = λ T q. absurd (Option·none-ne-some T (sym left ∙ q));
+              more-is = λ f. absurd (false≢true f);
               standing = λ f. absurd (false≢true f);
               entries-filled = λ f. absurd (false≢true f);
               moves-filled = λ f. absurd (false≢true f);
@@ -179,7 +211,7 @@ module _ (rules : List Rule) (inner : List ℕ) (z : Table) (entries moves : Lis
           grown = r .grows y
 
           next-is : automatonOf z₂ inner e₂ m₂ ≡ next
-          next-is = grown .table-is inner ∙ sym (round-is rules inner now)
+          next-is = grown .table-is inner ∙ sym (round-is rules now)
 
           next-moves : length (next .moves) ≡ z₂ .moves
           next-moves = sym (ap (λ (A : Automaton). length (A .moves)) next-is) ∙ length-rowsIn moveRow (z₂ .moves) m₂
@@ -187,30 +219,39 @@ module _ (rules : List Rule) (inner : List ℕ) (z : Table) (entries moves : Lis
           now-moves : length (now .moves) ≡ z₁ .moves
           now-moves = length-rowsIn moveRow (z₁ .moves) m₁
 
-          pub runs-end : z₂ .moves ≡ z₁ .moves → Ends rules inner z entries moves true z₂ (k + 1) e₂ m₂ sizes′
+          pub runs-end : z₂ .moves ≡ z₁ .moves → Ends rules rounds inner z entries moves true z₂ k false e₂ m₂ sizes′
           unfolding ended
           runs-end e =
               let still : length (next .moves) ≡ length (now .moves) = next-moves ∙ e ∙ sym now-moves in
-              let b : k ≤ 1024 = row-left in
+              let same : automatonOf z₂ inner e₂ m₂ ≡ now = next-is ∙ still-same rules now still in
+              let left : saturate rules limit rounds (automatonOf z inner entries moves) ≡ ended true (automatonOf z₂ inner e₂ m₂) (rowsIn sizeRow (suc k) sizes′) =
+              from-here go-on
+              ∙ saturateFrom-ends rules limit (rounds - suc k) (rowsIn sizeRow k sizes) now now-within still
+              ∙ so-far
+              ∙ ap (λ (A : Automaton). ended true A (rowsIn sizeRow (suc k) sizes′)) (sym same) in
               record {
-                saturated = from-here
-                    ∙ saturateFrom-ends rules limit (1025 - (k + 1)) (rowsIn sizeRow k sizes) now now-within still
-                    ∙ ap₂ (λ (A : Automaton) (l : List Size). some (record { table = A; sizes = l })) (sym (next-is ∙ still-same rules now still)) (sym sizes-more);
+                saturated = left;
+                count = λ T q. sym (counted-rows (automatonOf z₂ inner e₂ m₂) k sizes′) ∙ ap roundsAdded (Option·some-injective _ T (sym left ∙ q));
+                more-is = λ _. sym (ap (addsMove rules) same ∙ closed-nothing rules now (still-closed rules now still));
                 standing = λ f. r .standing y;
                 entries-filled = λ f g. grown .entries-filled (h .entries-filled g);
                 moves-filled = λ f g. grown .moves-filled (h .moves-filled g);
-                few = omega arith;
+                few = row-left;
               }
 
-          pub runs-more : (z₂ .moves ≡ z₁ .moves → ⊥) → RunsRounds rules inner z entries moves z₂ (k + 1) e₂ m₂ sizes′
+          pub runs-more : (z₂ .moves ≡ z₁ .moves → ⊥) → RunsRounds rules rounds inner z entries moves z₂ (k + 1) e₂ m₂ sizes′
           runs-more n =
               let more : z₂ .moves ≡ z₁ .moves + length (newResults rules now) = grown .moves-more in
               let b : k ≤ z₁ .moves = h .count in
+              let a : k ≤ rounds = h .asked in
+              let one : k + 1 ≡ suc k = omega arith in
               record {
                 standing = r .standing y;
-                left = from-here
-                    ∙ saturateFrom-goes-on rules limit (1025 - (k + 1)) (rowsIn sizeRow k sizes) now now-within (λ e. n (sym next-moves ∙ e ∙ now-moves))
-                    ∙ ap₂ (λ (l : List Size) (A : Automaton). saturateFrom rules limit (1025 - (k + 1)) l A) (sym sizes-more) (sym next-is);
+                left = from-here go-on
+                    ∙ saturateFrom-goes-on rules limit (rounds - suc k) (rowsIn sizeRow k sizes) now now-within (λ e. n (sym next-moves ∙ e ∙ now-moves))
+                    ∙ ap₂ (λ (l : List Size) (A : Automaton). saturateFrom rules limit (rounds - suc k) l A) (sym sizes-more) (sym next-is)
+                    ∙ ap (λ (i : ℕ). saturateFrom rules limit (rounds - i) (rowsIn sizeRow i sizes′) (automatonOf z₂ inner e₂ m₂)) (sym one);
+                asked = omega arith;
                 count = omega arith;
                 same-states = grown .same-states ∙ h .same-states;
                 entries-filled = λ g. grown .entries-filled (h .entries-filled g);

@@ -1,0 +1,34 @@
+-- `saturation::would_add` meets its contract.
+-- Assumes nothing.
+use native.Mathlib.Omega.{arith}
+use Rattle.saturation.specs.Rounding.Laws.{standing-entries, standing-moves, counted-adds}
+use borrow.Author.Needs.{needs}
+use Rattle.saturation.proofs.would_add.Statement.{statement}
+use Rattle.saturation.proofs.would_add.Tie as tie
+
+collect-requires : tie.Need-collect-requires
+collect-requires c κs = (
+  record {
+    edges-stand = c .before .before .before .before .before .before .before .before .before .before .pre .0 .edges;
+    entries-stand = standing-entries (c .before .before .before .before .before .before .before .before .before .before .args .z) _ _ _ _ _ (c .before .before .before .before .before .before .before .before .before .before .pre .0);
+    moves-stand = standing-moves (c .before .before .before .before .before .before .before .before .before .before .args .z) _ _ _ _ _ (c .before .before .before .before .before .before .before .before .before .before .pre .0);
+    by-state = c .before .before .before .before .before .before .before .before .before .before .pre .2;
+    by-words = c .before .before .before .before .before .before .before .before .before .before .pre .3;
+  },
+  c .before .before .before .before .before .before .before .before .before .before .pre .1,
+  c .before .before .before .before .before .before .before .before .before .before .pre .4,
+  c .before .before .before .before .before .before .before .before .before .before .pre .5,
+  omega arith,
+)
+
+same-length : tie.Need-same-length
+same-length c = search needs
+
+same-length-2 : tie.Need-same-length-2
+same-length-2 c = search needs
+
+returns : tie.Need-returns
+returns c = counted-adds _ _ _ _ (c .before .before .before .before .collect .ensures .0)
+
+pub would-add-spec : {M : Type 1} → statement M
+would-add-spec = tie.close (tie.spec collect-requires same-length same-length-2 returns)
