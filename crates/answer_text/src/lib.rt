@@ -43,6 +43,7 @@ pub fn put_answer(text: &mut [u8], number: usize, round: u64, reply: Reply, trac
     match reply {
         Reply::Refused(n) => text::put_refused(text, 0, n),
         Reply::NoRun => text::put_reply_line(text, 0, number as u64, round, reply),
+        Reply::Open => text::put_reply_line(text, 0, number as u64, round, reply),
         Reply::Walked(halt) => put_walk(text, number, round, halt, trace),
     }
 }

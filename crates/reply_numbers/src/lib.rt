@@ -14,6 +14,7 @@ pub fn number_of(reply: Reply) -> u64
     match reply {
         Reply::Refused(n) => n,
         Reply::NoRun => 258,
+        Reply::Open => 259,
         Reply::Walked(h) => match h {
             Halt::Arrived(_) => 0,
             Halt::TraceFull(_) => 256,
@@ -29,6 +30,7 @@ pub fn counts_of(reply: Reply) -> Counts
     match reply {
         Reply::Refused(_) => Counts { steps: 0, cells: 0 },
         Reply::NoRun => Counts { steps: 0, cells: 0 },
+        Reply::Open => Counts { steps: 0, cells: 0 },
         Reply::Walked(h) => match h {
             Halt::Arrived(c) => c,
             Halt::TraceFull(c) => c,

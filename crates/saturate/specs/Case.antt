@@ -1,7 +1,7 @@
 -- The table of a sound case after at most so many rounds.
 -- Assumes nothing.
 pub mod Laws
-use Prim.Native.Nat.{ℕ, suc, _≤_}
+use Prim.Native.Nat.{ℕ, _≤_, _+_}
 use mathlib.Core.Bool.{Bool, true}
 use mathlib.Core.Path.{_≡_}
 use mathlib.Core.Option.{some}
@@ -31,7 +31,7 @@ pub record Working (inner entries moves pending sizes : List ℕ) : Type 0 where
 -- The tables hold the table of at most so many rounds, with zeros behind it, and its sizes stand in their rows; or there is none. The number k of
 -- rounds is that of the definition's table, and `more` says whether a round more would add a move.
 pub record CaseSaturated (file : List ℕ) (rounds m e : ℕ) (fits : Bool) (z : Table) (k : ℕ) (more : Bool) (inner entries moves sizes : List ℕ) : Type 0 where
-  pub saturated : saturate (rulesOf file) (lent m e) rounds (ownOf file) ≡ ended fits (automatonOf z inner entries moves) (rowsIn sizeRow (suc k) sizes)
+  pub saturated : saturate (rulesOf file) (lent m e) rounds (ownOf file) ≡ ended fits (automatonOf z inner entries moves) (rowsIn sizeRow (k + 1) sizes)
   pub count : (T : Saturated) → saturate (rulesOf file) (lent m e) rounds (ownOf file) ≡ some T → k ≡ roundsAdded T
   pub more-is : fits ≡ true → more ≡ addsMove (rulesOf file) (automatonOf z inner entries moves)
   pub standing : fits ≡ true → Standing z (mostMoves m) (mostEntries e (ownOf file .J)) inner entries moves

@@ -1,7 +1,7 @@
 -- At most so many rounds, until one adds no move or passes a limit.
 -- Assumes nothing.
 pub mod Laws
-use Prim.Native.Nat.{ℕ, suc, _-_, _/_, _≤_, min}
+use Prim.Native.Nat.{ℕ, _-_, _/_, _≤_, min, _+_}
 use mathlib.Core.Bool.{Bool, true, false}
 use mathlib.Core.Path.{_≡_}
 use mathlib.Core.Option.{Option, none, some}
@@ -50,7 +50,7 @@ module _ (rules : List Rule) (rounds : ℕ) (inner : List ℕ) (z : Table) (entr
   -- number k of rounds is that of the definition's table, and `more` says whether a round more would add a move.
   pub record Ends (fits : Bool) (z′ : Table) (k : ℕ) (more : Bool) (entries′ moves′ sizes : List ℕ) : Type 0 where
     pub saturated : saturate rules (lent (length moves) (length entries)) rounds (automatonOf z inner entries moves)
-        ≡ ended fits (automatonOf z′ inner entries′ moves′) (rowsIn sizeRow (suc k) sizes)
+        ≡ ended fits (automatonOf z′ inner entries′ moves′) (rowsIn sizeRow (k + 1) sizes)
     pub count : (T : Saturated) → saturate rules (lent (length moves) (length entries)) rounds (automatonOf z inner entries moves) ≡ some T → k ≡ roundsAdded T
     pub more-is : fits ≡ true → more ≡ addsMove rules (automatonOf z′ inner entries′ moves′)
     pub standing : fits ≡ true → Standing z′ (mostMoves (length moves)) (mostEntries (length entries) (z .inner1)) inner entries′ moves′

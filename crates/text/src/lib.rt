@@ -98,6 +98,7 @@ fn put_reply(out: &mut [u8], at: usize, round: u64, reply: Reply) -> usize
             put_decimal(out, number, n)
         },
         Reply::NoRun => put_text(out, at, b" no"),
+        Reply::Open => put_text(out, at, b" open"),
         Reply::Walked(h) => {
             let halt = put_text(out, at, b" yes");
             put_halt(out, halt, round, h)

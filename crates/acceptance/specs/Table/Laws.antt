@@ -1,4 +1,4 @@
--- The tables that saturation leaves hold the saturated table of a sound case, and keep what acceptance asks of tables.
+-- The tables that saturation leaves hold the table of a sound case after rounds, and keep what acceptance asks of tables.
 -- Assumes nothing.
 use Prim.Native.Nat.{ℕ, _+_, _≤_, _<_}
 use mathlib.Core.Path.{_≡_, ap, sym, _∙_, subst}
@@ -63,12 +63,12 @@ stands {A} {z} {inner} {entries} {moves} s h =
           };
     }
 
--- ---- the saturated table of a sound case
+-- ---- the table of a sound case after at most so many rounds
 
-module _ (x : Lent) (sound : caseRefusal (x .case) ≡ 0) {T : Saturated} (is : saturated x ≡ some T) where
-  pub is-saturated : IsSaturated (rulesOf (x .case)) (lent (x .moves) (x .entries)) (ownOf (x .case)) T
+module _ (x : Lent) (rounds : ℕ) (sound : caseRefusal (x .case) ≡ 0) {T : Saturated} (is : saturated x rounds ≡ some T) where
+  pub is-saturated : IsSaturated (rulesOf (x .case)) (lent (x .moves) (x .entries)) (ownOf (x .case)) rounds T
   unfolding saturated
-  is-saturated = saturate-some (rulesOf (x .case)) (lent (x .moves) (x .entries)) (ownOf (x .case)) is
+  is-saturated = saturate-some (rulesOf (x .case)) (lent (x .moves) (x .entries)) (ownOf (x .case)) rounds is
 
   table-facts : TableFacts (head (x .case) .P) (T .table)
   table-facts =

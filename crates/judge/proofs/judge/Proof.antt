@@ -19,6 +19,9 @@ zero-u16-requires c κs = search needs
 refusal-before-requires : tie.Need-refusal-before-requires
 refusal-before-requires c κs = search needs
 
+refused-requires : tie.Need-refused-requires
+refused-requires c κs = search needs
+
 same-length : tie.Need-same-length
 same-length c = search needs
 
@@ -30,9 +33,8 @@ same-length-3 c = search needs
 
 returns : tie.Need-returns
 returns c =
-    let b = c .before .before .before .before in
-    let z = b .before .before .before .before .before .before .zero-tables .ensures in
-    meets _ _ (left-refused _ (b .zero-u16 .kept .0) (c .before .refusal-before .ensures) (c .if1 .taken) (z .0) (z .1) (b .zero-u16 .ensures))
+    let z = c .before .before .before .before .before .before .before .before .before .before .before .zero-tables .ensures in
+    meets _ _ (left-refused _ (c .before .before .before .before .before .zero-u16 .kept .0) (c .before .before .refusal-before .ensures) (c .before .if1 .taken) (z .0) (z .1) (c .before .before .before .before .before .zero-u16 .ensures) (c .refused .ensures))
 
 judge-sound-requires : tie.Need-judge-sound-requires
 judge-sound-requires c κs =
@@ -57,10 +59,9 @@ same-length-6 c = search needs
 
 returns-2 : tie.Need-returns-2
 returns-2 c =
-    let s = c .before .before .before .before .before .before .before .before .before .before .before .before .before .before in
-    let b = s .zero-u16 in
-    let t = s .before .before .before .before .before .before .zero-tables in
-    meets _ _ (service-kept _ _ (c .before .before .before .before .before .before .judge-sound .ensures) (t .kept .0) (t .kept .1 .0) (b .kept .0))
+    let b = c .before .before .before .before .before .before .before .before .before .before .before .before .before .before .zero-u16 in
+    let t = c .before .before .before .before .before .before .before .before .before .before .before .before .before .before .before .before .before .before .before .before .zero-tables in
+    meets _ _ (service-kept _ _ _ (c .before .before .before .before .before .before .judge-sound .ensures) (t .kept .0) (t .kept .1 .0) (b .kept .0))
 
 pub judge-spec : {M : Type 1} → statement M
 judge-spec =
@@ -69,6 +70,7 @@ judge-spec =
     zero-tables-requires
     zero-u16-requires
     refusal-before-requires
+    refused-requires
     same-length
     same-length-2
     same-length-3

@@ -4,8 +4,9 @@ use Prim.Native.Nat.{_≤_}
 use native.Mathlib.Omega.{arith}
 use lib.ListN.{length}
 use borrow.Author.Tests.{not-true, not-false}
+use Rattle.services.specs.Judge.{moreToAdd}
 use Rattle.sound_files.specs.Sound.Laws.{start-sound}
-use Rattle.sound_files.specs.Saturated.Laws.{table-there, table-none, table-stands}
+use Rattle.sound_files.specs.Saturated.Laws.{table-there, table-none, table-stands, rounds-run}
 use Rattle.judge.specs.Service.Left.{left-exceeded, left-judged}
 use borrow.Author.Needs.{needs}
 use Rattle.judge.proofs.judge_sound.Statement.{statement}
@@ -26,6 +27,9 @@ saturate-case-requires c κs = search needs
 zero-tables-requires : tie.Need-zero-tables-requires
 zero-tables-requires c κs = search needs
 
+refused-requires : tie.Need-refused-requires
+refused-requires c κs = search needs
+
 same-length : tie.Need-same-length
 same-length c = search needs
 
@@ -34,12 +38,10 @@ same-length-2 c = search needs
 
 returns : tie.Need-returns
 returns c =
-    let t = c .before .before .before .before .before .before .before in
-    let s = t .before .before .before .before .before .before .before .before .before .before in
-    let e = s .before .before .before .before .before .before .before .before .before .before .before in
-    let z = c .before .before .before .before .zero-tables .ensures in
-    left-exceeded _ (e .pre .0) (e .pre .1) (s .saturate-case .kept .1 .1 .1 .0) (s .saturate-case .kept .1 .1 .0) (z .0) (z .1)
-    (table-none (s .saturate-case .ensures) (not-true (s .saturate-case .result .fits) (t .if1 .taken))) (e .pre .4)
+    let z = c .before .before .before .before .before .zero-tables .ensures in
+    let s = c .before .before .before .before .before .before .before .before .before .before .before .before .before .before .before .before .before .before .saturate-case in
+    left-exceeded _ (c .before .before .before .before .before .before .before .before .before .before .before .before .before .before .before .before .before .before .before .before .before .before .before .before .before .before .before .before .before .pre .0) (c .before .before .before .before .before .before .before .before .before .before .before .before .before .before .before .before .before .before .before .before .before .before .before .before .before .before .before .before .before .pre .1) (s .kept .1 .1 .1 .1 .0) (s .kept .1 .1 .1 .0) (z .0) (z .1)
+    (table-none (s .ensures) (not-true (s .result .fits) (c .before .before .before .before .before .before .before .before .if1 .taken))) (c .before .before .before .before .before .before .before .before .before .before .before .before .before .before .before .before .before .before .before .before .before .before .before .before .before .before .before .before .before .pre .4) (c .refused .ensures)
 
 slice-aggregate-mark-starts : tie.Need-slice-aggregate-mark-starts
 slice-aggregate-mark-starts c = search needs
@@ -47,14 +49,16 @@ slice-aggregate-mark-starts c = search needs
 slice-aggregate-mark-starts-2 : tie.Need-slice-aggregate-mark-starts-2
 slice-aggregate-mark-starts-2 c = search needs
 
+add-mark-starts : tie.Need-add-mark-starts
+add-mark-starts c = omega (arith, c .before .before .before .before .before .before .before .before .before .before .before .before .before .before .before .saturate-case .ensures .sizes-few)
+
 mark-starts-requires : tie.Need-mark-starts-requires
 mark-starts-requires c κs =
-    let s = c .before .before .before .before .before .before .before .before .before .before .before .before .before .before .before in
-    let e = s .before .before .before .before .before .before .before .before .before .before .before in
-    let p = e .pre in
-    let k = s .saturate-case .ensures .sizes-few in
-    let room : 2050 ≤ length (s .saturate-case .last .1 .1 .1 .1 .1 .0) = search needs in (
-      table-stands (s .saturate-case .ensures) (p .0 .sound-case) (not-false (s .saturate-case .result .fits) (c .before .before .before .before .before .if1 .left)),
+    let s = c .before .before .before .before .before .before .before .before .before .before .before .before .before .before .before .before .saturate-case in
+    let p = c .before .before .before .before .before .before .before .before .before .before .before .before .before .before .before .before .before .before .before .before .before .before .before .before .before .before .before .pre in
+    let k = s .ensures .sizes-few in
+    let room : 2050 ≤ length (s .last .1 .1 .1 .1 .1 .1 .0) = search needs in (
+      table-stands (s .ensures) (p .0 .sound-case) (not-false (s .result .fits) (c .before .before .before .before .before .before .if1 .left)),
       omega arith,
       omega arith,
       start-sound (p .0),
@@ -74,14 +78,13 @@ same-length-5 : tie.Need-same-length-5
 same-length-5 c = search needs
 
 returns-2 : tie.Need-returns-2
+unfolding moreToAdd
 returns-2 c =
-    let t = c .before .before .before .before .before .before .before .before .before .before .before .before .before .before .before in
-    let s = t .before .before .before .before .before .before .before .before .before .before in
-    let e = s .before .before .before .before .before .before .before .before .before .before .before in
     let z = c .before .before .before .before .zero-tables2 .ensures in
-    left-judged _ (e .pre .0) (e .pre .1) (s .saturate-case .kept .1 .1 .1 .0) (s .saturate-case .kept .1 .1 .0) (z .0) (z .1)
-    (table-there (s .saturate-case .ensures) (not-false (s .saturate-case .result .fits) (t .if1 .left))) (e .pre .4)
-    (c .before .before .before .before .before .before .before .before .before .mark-starts .ensures)
+    let s = c .before .before .before .before .before .before .before .before .before .before .before .before .before .before .before .before .before .before .before .before .before .before .before .before .before .before .saturate-case in
+    let fits = not-false (s .result .fits) (c .before .before .before .before .before .before .before .before .before .before .before .before .before .before .before .before .if1 .left) in
+    left-judged _ (c .before .before .before .before .before .before .before .before .before .before .before .before .before .before .before .before .before .before .before .before .before .before .before .before .before .before .before .before .before .before .before .before .before .before .before .before .before .pre .0) (c .before .before .before .before .before .before .before .before .before .before .before .before .before .before .before .before .before .before .before .before .before .before .before .before .before .before .before .before .before .before .before .before .before .before .before .before .before .pre .1) (s .kept .1 .1 .1 .1 .0) (s .kept .1 .1 .1 .0) (z .0) (z .1)
+    (table-there (s .ensures) fits) (c .before .before .before .before .before .before .before .before .before .before .before .before .before .before .before .before .before .before .before .before .before .before .before .before .before .before .before .before .before .before .before .before .before .before .before .before .before .pre .4) (s .ensures .more-is fits) (c .before .before .before .before .before .before .before .before .before .mark-starts .ensures) (rounds-run (s .ensures) fits)
 
 pub judge-sound-spec : {M : Type 1} → statement M
 judge-sound-spec =
@@ -92,11 +95,13 @@ judge-sound-spec =
     slice-aggregate-saturate-case-3
     saturate-case-requires
     zero-tables-requires
+    refused-requires
     same-length
     same-length-2
     returns
     slice-aggregate-mark-starts
     slice-aggregate-mark-starts-2
+    add-mark-starts
     mark-starts-requires
     zero-tables-requires-2
     same-length-3

@@ -27,22 +27,18 @@ slice-aggregate-put-marks c = search needs
 
 put-marks-requires : tie.Need-put-marks-requires
 put-marks-requires c κs =
-    let s = c .before .before .before .before .before .before .before .before .before .before .before .before in
-    let n = c .before .before .count-of .ensures .0 ∙ sym (starts-count (s .args .start .now)) in
-    let room = s .pre .4 in
+    let n = c .before .before .count-of .ensures .0 ∙ sym (starts-count (c .before .before .before .before .before .before .before .before .before .before .before .before .args .start .now)) in
+    let room = c .before .before .before .before .before .before .before .before .before .before .before .before .pre .4 in
     let long = c .before .before .before .before .start-rounds .ensures .long in
-    (s .pre .3, n, omega arith, omega arith)
+    (c .before .before .before .before .before .before .before .before .before .before .before .before .pre .3, n, omega arith, omega arith)
 
 same-length : tie.Need-same-length
 same-length c = search needs
 
 returns : tie.Need-returns
 returns c =
-    let n = c .before .before .before .before .before in
-    let r = n .before .before in
-    let s = c .before .before .before .before .before .before .before .before .before .before .before .before .before .before .before in
-    marks-written (saturatedIn (s .args .z) _ _ _ _ _) (states-below (s .pre .0)) _ (s .pre .3) (r .start-rounds .ensures .filled) _
-    (n .count-of .ensures .0 ∙ sym (starts-count (s .args .start .now))) (c .before .before .put-marks .ensures)
+    marks-written _ (saturatedIn (c .before .before .before .before .before .before .before .before .before .before .before .before .before .before .before .args .z) _ _ _ _ _) (states-below (c .before .before .before .before .before .before .before .before .before .before .before .before .before .before .before .pre .0)) _ (c .before .before .before .before .before .before .before .before .before .before .before .before .before .before .before .pre .3) (c .before .before .before .before .before .before .before .start-rounds .ensures .filled) _
+    (c .before .before .before .before .before .count-of .ensures .0 ∙ sym (starts-count (c .before .before .before .before .before .before .before .before .before .before .before .before .before .before .before .args .start .now))) (c .before .before .put-marks .ensures)
 
 pub mark-starts-spec : {M : Type 1} → statement M
 mark-starts-spec =

@@ -14,10 +14,10 @@ use Rattle.judge.proofs.put_marks.Statement.{statement}
 use Rattle.judge.proofs.put_marks.Tie as tie
 
 abbrev Inv-loop : tie.InvT-loop
-Inv-loop start n rounds answers₀ i₀ answers i = (i ≤ n) × WrittenBelow (map (markBy rounds) (startsOf start)) answers₀ answers i
+Inv-loop start n rounds more answers₀ i₀ answers i = (i ≤ n) × WrittenBelow (map (markBy more rounds) (startsOf start)) answers₀ answers i
 
 abbrev μ-loop : tie.MeasureT-loop
-μ-loop start n rounds answers₀ i₀ answers i = n - i
+μ-loop start n rounds more answers₀ i₀ answers i = n - i
 
 loop-holds : tie.Need-loop-holds Inv-loop μ-loop
 loop-holds c = (search needs, written-none _ _)
@@ -29,8 +29,8 @@ start-accepted-requires c κs =
     let l = c .loop-test .taken in
     (p .0, omega arith, p .2)
 
-word-of-requires : tie.Need-word-of-requires Inv-loop μ-loop
-word-of-requires c κs = c .start-accepted .ensures .1
+mark-of-requires : tie.Need-mark-of-requires Inv-loop μ-loop
+mark-of-requires c κs = c .start-accepted .ensures .1
 
 mul-answers : tie.Need-mul-answers Inv-loop μ-loop
 mul-answers c = let l = c .before .before .before .loop .inv .1 .long in search needs
@@ -47,15 +47,15 @@ loop-less c = search needs
 loop-again : tie.Need-loop-again Inv-loop μ-loop
 loop-again c = (
   search needs,
-  marks-more _ _ (c .before .before .before .before .before .before .before .pre .1) (c .before .before .before .loop .inv .1) (c .before .before .loop-test .taken) (search needs) (c .before .start-accepted .ensures .0)
-      (c .word-of .ensures) refl,
+  marks-more _ _ _ (c .before .before .before .before .before .before .before .pre .1) (c .before .before .before .loop .inv .1) (c .before .before .loop-test .taken) (search needs) (c .before .start-accepted .ensures .0)
+      (c .mark-of .ensures) refl,
 )
 
 same-length : tie.Need-same-length Inv-loop μ-loop
 same-length c = c .before .loop .inv .1 .long
 
 returns : tie.Need-returns Inv-loop μ-loop
-returns c = marks-all _ _ (c .before .before .before .before .before .pre .1) (c .before .loop .inv .1) (c .loop-test .left)
+returns c = marks-all _ _ _ (c .before .before .before .before .before .pre .1) (c .before .loop .inv .1) (c .loop-test .left)
 
 pub put-marks-spec : {M : Type 1} → statement M
 put-marks-spec =
@@ -65,7 +65,7 @@ put-marks-spec =
     μ-loop
     loop-holds
     start-accepted-requires
-    word-of-requires
+    mark-of-requires
     mul-answers
     slice-write-answers
     add-i

@@ -6,7 +6,7 @@ use mathlib.Core.Option.{none, some, Option·some-injective, Option·none-ne-som
 use mathlib.Core.List.{[], map}
 use native.Mathlib.Omega.{arith}
 use lib.ListN.{length}
-use Rattle.automata.specs.Saturation.{Saturated}
+use Rattle.automata.specs.Saturation.{Saturated, roundsAdded}
 use Rattle.files.specs.Case.{caseRefusal}
 use Rattle.files.specs.Start.{startRefusal, startsOf}
 use Rattle.services.specs.Saturate.{saturated}
@@ -27,20 +27,20 @@ module _ (x : JudgeInput) where
   none-before : FilesSound (x .case) (x .start) → length (startsOf (x .start)) ≤ x .answers → before ≡ 0
   none-before = before-past (x .case) (x .start) (x .answers) 8 0
 
-  refused-is : {d : JudgeDone} → JudgeCase x d → (before ≡ 0 → ⊥) → d ≡ judgeLeft x before []
+  refused-is : {d : JudgeDone} → JudgeCase x d → (before ≡ 0 → ⊥) → d ≡ judgeLeft x before 0 []
   unfolding judgeFiles
-  refused-is (case-refused h) b = ap (λ (n : ℕ). judgeLeft x n []) (sym (before-case (x .case) (x .start) (x .answers) 8 0 h))
-  refused-is (start-refused c h) b = ap (λ (n : ℕ). judgeLeft x n []) (sym (before-start (x .case) (x .start) (x .answers) 8 0 c h))
+  refused-is (case-refused h) b = ap (λ (n : ℕ). judgeLeft x n 0 []) (sym (before-case (x .case) (x .start) (x .answers) 8 0 h))
+  refused-is (start-refused c h) b = ap (λ (n : ℕ). judgeLeft x n 0 []) (sym (before-start (x .case) (x .start) (x .answers) 8 0 c h))
   refused-is (answers-short c s h) b =
-      ap (λ (n : ℕ). judgeLeft x n []) (sym (before-below (x .case) (x .start) (x .answers) 8 0 (sound-files c s) h))
+      ap (λ (n : ℕ). judgeLeft x n 0 []) (sym (before-below (x .case) (x .start) (x .answers) 8 0 (sound-files c s) h))
   refused-is (size-exceeded c s h e) b = absurd (b (none-before (sound-files c s) h))
   refused-is (judged T c s h e) b = absurd (b (none-before (sound-files c s) h))
 
-  pub answers-refused : (before ≡ 0 → ⊥) → judgeService x ≡ judgeLeft x before []
+  pub answers-refused : (before ≡ 0 → ⊥) → judgeService x ≡ judgeLeft x before 0 []
   answers-refused b = refused-is (judge-cases x) b
 
   module _ (sound : FilesSound (x .case) (x .start)) (lent : length (startsOf (x .start)) ≤ x .answers) where
-    exceeded-is : {d : JudgeDone} → JudgeCase x d → saturated (judgeLent x) ≡ none → d ≡ judgeLeft x 9 []
+    exceeded-is : {d : JudgeDone} → JudgeCase x d → saturated (judgeLent x) (x .rounds) ≡ none → d ≡ judgeLeft x 9 0 []
     unfolding judgeFiles
     exceeded-is (case-refused h) e = absurd (h (sound .sound-case))
     exceeded-is (start-refused c h) e = absurd (h (sound .sound-start))
@@ -48,19 +48,19 @@ module _ (x : JudgeInput) where
     exceeded-is (size-exceeded c s h f) e = refl
     exceeded-is (judged T c s h f) e = absurd (Option·none-ne-some T (sym e ∙ f))
 
-    pub answers-exceeded : saturated (judgeLent x) ≡ none → judgeService x ≡ judgeLeft x 9 []
+    pub answers-exceeded : saturated (judgeLent x) (x .rounds) ≡ none → judgeService x ≡ judgeLeft x 9 0 []
     answers-exceeded e = exceeded-is (judge-cases x) e
 
-    judged-is : {d : JudgeDone} → JudgeCase x d → {T : Saturated} → saturated (judgeLent x) ≡ some T
-        → d ≡ judgeLeft x 0 (map (mark (x .case) T (x .start)) (startsOf (x .start)))
+    judged-is : {d : JudgeDone} → JudgeCase x d → {T : Saturated} → saturated (judgeLent x) (x .rounds) ≡ some T
+        → d ≡ judgeLeft x 0 (roundsAdded T) (map (mark (x .case) T (x .start)) (startsOf (x .start)))
     unfolding judgeFiles
     judged-is (case-refused h) e = absurd (h (sound .sound-case))
     judged-is (start-refused c h) e = absurd (h (sound .sound-start))
     judged-is (answers-short c s h) e = absurd (omega (arith, lent))
     judged-is (size-exceeded c s h f) {T} e = absurd (Option·none-ne-some T (sym f ∙ e))
     judged-is (judged U c s h f) {T} e =
-        ap (λ (W : Saturated). judgeLeft x 0 (map (mark (x .case) W (x .start)) (startsOf (x .start)))) (Option·some-injective U T (sym f ∙ e))
+        ap (λ (W : Saturated). judgeLeft x 0 (roundsAdded W) (map (mark (x .case) W (x .start)) (startsOf (x .start)))) (Option·some-injective U T (sym f ∙ e))
 
-    pub answers-judged : {T : Saturated} → saturated (judgeLent x) ≡ some T
-        → judgeService x ≡ judgeLeft x 0 (map (mark (x .case) T (x .start)) (startsOf (x .start)))
+    pub answers-judged : {T : Saturated} → saturated (judgeLent x) (x .rounds) ≡ some T
+        → judgeService x ≡ judgeLeft x 0 (roundsAdded T) (map (mark (x .case) T (x .start)) (startsOf (x .start)))
     answers-judged e = judged-is (judge-cases x) e

@@ -28,7 +28,7 @@ same-length-2 : tie.Need-same-length-2
 same-length-2 c = search needs
 
 returns : tie.Need-returns
-returns c = meets _ _ (ends-refused (@args .case .now) (@args .moves .now) (@args .entries .now) _ _ _ _ (@refused .ensures) (@check-case .ensures) (@if1 .taken) (@zero-u64 .ensures) (@zero-u642 .ensures))
+returns c = meets _ _ (ends-refused (c .before .before .before .before .before .before .before .before .before .before .before .before .before .before .args .case .now) (c .before .before .before .before .before .before .before .before .before .before .before .before .before .before .args .moves .now) (c .before .before .before .before .before .before .before .before .before .before .before .before .before .before .args .entries .now) _ _ _ _ (c .refused .ensures) (c .before .before .check-case .ensures) (c .before .if1 .taken) (c .before .before .before .before .before .before .before .before .before .zero-u64 .ensures) (c .before .before .before .before .before .zero-u642 .ensures))
 
 slice-aggregate-saturate-case : tie.Need-slice-aggregate-saturate-case
 slice-aggregate-saturate-case c = search needs
@@ -40,7 +40,7 @@ slice-aggregate-saturate-case-3 : tie.Need-slice-aggregate-saturate-case-3
 slice-aggregate-saturate-case-3 c = search needs
 
 saturate-case-requires : tie.Need-saturate-case-requires
-saturate-case-requires c κs = (sym (@check-case .ensures) ∙ (@if1 .left), record { entries-zero = zero-self _ _ (@zero-u642 .ensures) (@zero-u642 .kept .0); moves-zero = zero-self _ _ (@zero-u64 .ensures) (@zero-u64 .kept .0); inner-room = omega arith; pending-room = omega arith; sizes-room = omega arith })
+saturate-case-requires c κs = (sym (c .before .before .before .before .before .before .check-case .ensures) ∙ (c .before .before .before .before .before .if1 .left), record { entries-zero = zero-self _ _ (c .before .before .before .before .before .before .before .before .before .zero-u642 .ensures) (c .before .before .before .before .before .before .before .before .before .zero-u642 .kept .0); moves-zero = zero-self _ _ (c .before .before .before .before .before .before .before .before .before .before .before .before .before .zero-u64 .ensures) (c .before .before .before .before .before .before .before .before .before .before .before .before .before .zero-u64 .kept .0); inner-room = omega arith; pending-room = omega arith; sizes-room = omega arith })
 
 zero-u64-requires-3 : tie.Need-zero-u64-requires-3
 zero-u64-requires-3 c κs = search needs
@@ -52,22 +52,22 @@ refused-requires-2 : tie.Need-refused-requires-2
 refused-requires-2 c κs = search needs
 
 same-length-3 : tie.Need-same-length-3
-same-length-3 c = (@zero-u643 .kept .0) ∙ (@saturate-case .kept .1 .1 .1 .0) ∙ (@zero-u64 .kept .0)
+same-length-3 c = (c .before .before .before .before .before .before .before .zero-u643 .kept .0) ∙ (c .before .before .before .before .before .before .before .before .before .before .before .before .before .before .before .before .before .before .before .saturate-case .kept .1 .1 .1 .1 .0) ∙ (c .before .before .before .before .before .before .before .before .before .before .before .before .before .before .before .before .before .before .before .before .before .before .before .before .before .before .before .before .before .before .before .before .before .zero-u64 .kept .0)
 
 same-length-4 : tie.Need-same-length-4
-same-length-4 c = (@zero-u644 .kept .0) ∙ (@saturate-case .kept .1 .1 .0) ∙ (@zero-u642 .kept .0)
+same-length-4 c = (c .before .before .before .zero-u644 .kept .0) ∙ (c .before .before .before .before .before .before .before .before .before .before .before .before .before .before .before .before .before .before .before .saturate-case .kept .1 .1 .1 .0) ∙ (c .before .before .before .before .before .before .before .before .before .before .before .before .before .before .before .before .before .before .before .before .before .before .before .before .before .before .before .before .before .zero-u642 .kept .0)
 
 returns-2 : tie.Need-returns-2
-returns-2 c = meets _ _ (ends-large (@args .case .now) (@args .moves .now) (@args .entries .now) _ (@check-case .ensures) (@if1 .left) _ _ (@zero-u64 .kept .0) (@zero-u642 .kept .0) _ _ _ _ _ _ _ (@saturate-case .ensures) _ _ _ (not-true (@saturate-case .result .fits) (@if2 .taken)) (@refused2 .ensures) (@zero-u643 .ensures) (@zero-u644 .ensures) ((@saturate-case .kept .1 .1 .1 .0) ∙ (@zero-u64 .kept .0)) ((@saturate-case .kept .1 .1 .0) ∙ (@zero-u642 .kept .0)))
+returns-2 c = meets _ _ (ends-large (c .before .before .before .before .before .before .before .before .before .before .before .before .before .before .before .before .before .before .before .before .before .before .before .before .before .before .before .before .before .before .before .before .before .before .before .before .before .before .args .case .now) (c .before .before .before .before .before .before .before .before .before .before .before .before .before .before .before .before .before .before .before .before .before .before .before .before .before .before .before .before .before .before .before .before .before .before .before .before .before .before .args .moves .now) (c .before .before .before .before .before .before .before .before .before .before .before .before .before .before .before .before .before .before .before .before .before .before .before .before .before .before .before .before .before .before .before .before .before .before .before .before .before .before .args .entries .now) _ (c .before .before .before .before .before .before .before .before .before .before .before .before .before .before .before .before .before .before .before .before .before .before .before .before .before .before .check-case .ensures) (c .before .before .before .before .before .before .before .before .before .before .before .before .before .before .before .before .before .before .before .before .before .before .before .before .before .if1 .left) _ _ (c .before .before .before .before .before .before .before .before .before .before .before .before .before .before .before .before .before .before .before .before .before .before .before .before .before .before .before .before .before .before .before .before .before .zero-u64 .kept .0) (c .before .before .before .before .before .before .before .before .before .before .before .before .before .before .before .before .before .before .before .before .before .before .before .before .before .before .before .before .before .zero-u642 .kept .0) _ _ _ _ _ _ _ _ (c .before .before .before .before .before .before .before .before .before .before .before .before .before .before .before .before .before .before .before .saturate-case .ensures) _ _ _ (not-true (c .before .before .before .before .before .before .before .before .before .before .before .before .before .before .before .before .before .before .before .saturate-case .result .fits) (c .before .before .before .before .before .before .before .before .before .if2 .taken)) (c .refused2 .ensures) (c .before .before .before .before .before .before .before .zero-u643 .ensures) (c .before .before .before .zero-u644 .ensures) ((c .before .before .before .before .before .before .before .before .before .before .before .before .before .before .before .before .before .before .before .saturate-case .kept .1 .1 .1 .1 .0) ∙ (c .before .before .before .before .before .before .before .before .before .before .before .before .before .before .before .before .before .before .before .before .before .before .before .before .before .before .before .before .before .before .before .before .before .zero-u64 .kept .0)) ((c .before .before .before .before .before .before .before .before .before .before .before .before .before .before .before .before .before .before .before .saturate-case .kept .1 .1 .1 .0) ∙ (c .before .before .before .before .before .before .before .before .before .before .before .before .before .before .before .before .before .before .before .before .before .before .before .before .before .before .before .before .before .zero-u642 .kept .0)))
 
 same-length-5 : tie.Need-same-length-5
-same-length-5 c = (@saturate-case .kept .1 .1 .1 .0) ∙ (@zero-u64 .kept .0)
+same-length-5 c = (c .before .before .before .before .before .before .before .before .before .before .saturate-case .kept .1 .1 .1 .1 .0) ∙ (c .before .before .before .before .before .before .before .before .before .before .before .before .before .before .before .before .before .before .before .before .before .before .before .before .zero-u64 .kept .0)
 
 same-length-6 : tie.Need-same-length-6
-same-length-6 c = (@saturate-case .kept .1 .1 .0) ∙ (@zero-u642 .kept .0)
+same-length-6 c = (c .before .before .before .before .before .before .before .before .before .before .saturate-case .kept .1 .1 .1 .0) ∙ (c .before .before .before .before .before .before .before .before .before .before .before .before .before .before .before .before .before .before .before .before .zero-u642 .kept .0)
 
 returns-3 : tie.Need-returns-3
-returns-3 c = meets _ _ (ends-filled (@args .case .now) (@args .moves .now) (@args .entries .now) _ (@check-case .ensures) (@if1 .left) _ _ (@zero-u64 .kept .0) (@zero-u642 .kept .0) _ _ _ _ _ _ _ (@saturate-case .ensures) (not-false (@saturate-case .result .fits) (@if2 .left)) ((@saturate-case .kept .1 .1 .1 .0) ∙ (@zero-u64 .kept .0)) ((@saturate-case .kept .1 .1 .0) ∙ (@zero-u642 .kept .0)))
+returns-3 c = meets _ _ (ends-filled (c .before .before .before .before .before .before .before .before .before .before .before .before .before .before .before .before .before .before .before .before .before .before .before .before .before .before .before .before .before .args .case .now) (c .before .before .before .before .before .before .before .before .before .before .before .before .before .before .before .before .before .before .before .before .before .before .before .before .before .before .before .before .before .args .moves .now) (c .before .before .before .before .before .before .before .before .before .before .before .before .before .before .before .before .before .before .before .before .before .before .before .before .before .before .before .before .before .args .entries .now) _ (c .before .before .before .before .before .before .before .before .before .before .before .before .before .before .before .before .before .check-case .ensures) (c .before .before .before .before .before .before .before .before .before .before .before .before .before .before .before .before .if1 .left) _ _ (c .before .before .before .before .before .before .before .before .before .before .before .before .before .before .before .before .before .before .before .before .before .before .before .before .zero-u64 .kept .0) (c .before .before .before .before .before .before .before .before .before .before .before .before .before .before .before .before .before .before .before .before .zero-u642 .kept .0) _ _ _ _ _ _ _ _ (c .before .before .before .before .before .before .before .before .before .before .saturate-case .ensures) (not-false (c .before .before .before .before .before .before .before .before .before .before .saturate-case .result .fits) (c .if2 .left)) ((c .before .before .before .before .before .before .before .before .before .before .saturate-case .kept .1 .1 .1 .1 .0) ∙ (c .before .before .before .before .before .before .before .before .before .before .before .before .before .before .before .before .before .before .before .before .before .before .before .before .zero-u64 .kept .0)) ((c .before .before .before .before .before .before .before .before .before .before .saturate-case .kept .1 .1 .1 .0) ∙ (c .before .before .before .before .before .before .before .before .before .before .before .before .before .before .before .before .before .before .before .before .zero-u642 .kept .0)))
 
 pub saturate-spec : {M : Type 1} → statement M
 saturate-spec =

@@ -275,7 +275,7 @@ module _ (file : List ℕ) (sound : caseRefusal file ≡ 0) where
     case-over w rounds fits z k more inner entries moves sizes f b =
         let none-left = saturateFrom-exceeds (rulesOf file) (lent m e) rounds [] (ownOf file) w in
         record {
-          saturated = none-left ∙ sym (ap (λ (x : Bool). ended x (automatonOf z inner entries moves) (rowsIn sizeRow (suc k) sizes)) f);
+          saturated = none-left ∙ sym (ap (λ (x : Bool). ended x (automatonOf z inner entries moves) (rowsIn sizeRow (k + 1) sizes)) f);
           count = λ T q. absurd (Option·none-ne-some T (sym none-left ∙ q));
           more-is = λ g. absurd (false≢true (sym f ∙ g));
           standing = λ g. absurd (false≢true (sym f ∙ g));

@@ -1,6 +1,6 @@
 -- The service's answer is that of the definition.
 -- Assumes nothing.
-use Prim.Native.Nat.{ℕ, _*_, _≤_, suc}
+use Prim.Native.Nat.{ℕ, _*_, _≤_, _+_}
 use mathlib.Core.Bool.{Bool, true, false}
 use mathlib.Core.Path.{_≡_, refl, ap, ap₂, sym, _∙_}
 use mathlib.Core.Option.{none, some}
@@ -96,7 +96,7 @@ module _ (case moves entries : List ℕ) where
   -- what was saturated in tables of the same lengths
   module _ (code : ℕ) (ec : code ≡ caseRefusal case) (sound : code ≡ 0) (m e : ℕ) (lm : m ≡ length moves) (le : e ≡ length entries)
       (fits : Bool) (z : Table) (k : ℕ) (more : Bool) (inner entries₁ moves₁ sizes : List ℕ) (s : CaseSaturated case allRounds m e fits z k more inner entries₁ moves₁ sizes) where
-    saturated-is : saturated (theLent case moves entries) allRounds ≡ ended fits (automatonOf z inner entries₁ moves₁) (rowsIn sizeRow (suc k) sizes)
+    saturated-is : saturated (theLent case moves entries) allRounds ≡ ended fits (automatonOf z inner entries₁ moves₁) (rowsIn sizeRow (k + 1) sizes)
     unfolding saturated
     saturated-is = ap₂ (λ (x y : ℕ). saturate (rulesOf case) (lent x y) allRounds (ownOf case)) (sym lm) (sym le) ∙ s .saturated
 
@@ -108,7 +108,7 @@ module _ (case moves entries : List ℕ) where
         ap (λ (x : Saturation). theDone x moves′ entries′) er
         ∙ zero-done case moves entries moves′ entries′ 9 (p ∙ ap zeros a) (q ∙ ap zeros b)
         ∙ done-large (theLent case moves entries) (sym ec ∙ sound)
-        (saturated-is ∙ ap (λ (x : Bool). ended x (automatonOf z inner entries₁ moves₁) (rowsIn sizeRow (suc k) sizes)) f)
+        (saturated-is ∙ ap (λ (x : Bool). ended x (automatonOf z inner entries₁ moves₁) (rowsIn sizeRow (k + 1) sizes)) f)
 
     pub ends-filled : fits ≡ true → length moves₁ ≡ length moves → length entries₁ ≡ length entries
         → theDone (record { code = 0; moves = z .moves; entries = z .entries }) moves₁ entries₁ ≡ saturateService (theLent case moves entries)
@@ -117,9 +117,9 @@ module _ (case moves entries : List ℕ) where
         let st : Standing z (mostMoves m) (mostEntries e (ownOf case .J)) inner entries₁ moves₁ = s .standing f in
         let es : EntriesStand z entries₁ = standing-entries z (mostMoves m) (mostEntries e (ownOf case .J)) inner entries₁ moves₁ st in
         let ms : MovesStand z moves₁ = standing-moves z (mostMoves m) (mostEntries e (ownOf case .J)) inner entries₁ moves₁ st in
-        filled-done case moves entries inner moves₁ entries₁ z (rowsIn sizeRow (suc k) sizes) a b (ms .moves-lent) (es .entries-lent) (s .moves-filled f) (s .entries-filled f) (st .counts)
-        ∙ done-filled (theLent case moves entries) (record { table = automatonOf z inner entries₁ moves₁; sizes = rowsIn sizeRow (suc k) sizes }) (sym ec ∙ sound)
-        (saturated-is ∙ ap (λ (x : Bool). ended x (automatonOf z inner entries₁ moves₁) (rowsIn sizeRow (suc k) sizes)) f)
+        filled-done case moves entries inner moves₁ entries₁ z (rowsIn sizeRow (k + 1) sizes) a b (ms .moves-lent) (es .entries-lent) (s .moves-filled f) (s .entries-filled f) (st .counts)
+        ∙ done-filled (theLent case moves entries) (record { table = automatonOf z inner entries₁ moves₁; sizes = rowsIn sizeRow (k + 1) sizes }) (sym ec ∙ sound)
+        (saturated-is ∙ ap (λ (x : Bool). ended x (automatonOf z inner entries₁ moves₁) (rowsIn sizeRow (k + 1) sizes)) f)
 
 pub zero-self : (t : List ℕ) (n : ℕ) → t ≡ zeros n → length t ≡ n → t ≡ zeros (length t)
 zero-self t n e l = e ∙ ap zeros (sym l)

@@ -4,7 +4,7 @@ use Prim.Native.Nat.{ℕ, suc, _+_, _-_, _*_, _/_, _≤_, _<_, min}
 use mathlib.Core.Bool.{Bool, true, false, false≢true}
 use mathlib.Core.Path.{_≡_, refl, ap, ap₂, sym, _∙_, subst, subst₂}
 use mathlib.Core.Logic.{_⊎_, inl, inr}
-use mathlib.Core.Option.{none, some, Option·some-injective, Option·none-ne-some}
+use mathlib.Core.Option.{none, Option·some-injective, Option·none-ne-some}
 use mathlib.Core.List.{List, [], _∷_, _++_}
 use native.Mathlib.Nat.{min-le-left, min-le-right, le-min, sub-zero}
 use native.Mathlib.Omega.{arith}
@@ -57,9 +57,9 @@ module _ (m e J : ℕ) (small : J ≤ 64) (A : Automaton) (same : A .J ≡ J) wh
 -- ---- the loop
 
 -- the number of rounds of a table with k + 1 sizes
-counted-rows : (A : Automaton) (k : ℕ) (sizes : List ℕ) → roundsAdded (record { table = A; sizes = rowsIn sizeRow (suc k) sizes }) ≡ k
+counted-rows : (A : Automaton) (k : ℕ) (sizes : List ℕ) → roundsAdded (record { table = A; sizes = rowsIn sizeRow (k + 1) sizes }) ≡ k
 unfolding roundsAdded
-counted-rows A k sizes = let e = length-rowsIn sizeRow (suc k) sizes in omega arith
+counted-rows A k sizes = let e = length-rowsIn sizeRow (k + 1) sizes in omega arith
 
 module _ (rules : List Rule) (rounds : ℕ) (inner : List ℕ) (z : Table) (entries moves : List ℕ) where
   pub runs-given : (sizes : List ℕ) → Given z inner entries moves → RunsRounds rules rounds inner z entries moves z 0 entries moves sizes
@@ -121,17 +121,16 @@ module _ (rules : List Rule) (rounds : ℕ) (inner : List ℕ) (z : Table) (entr
         (subst (λ (n : ℕ). n ≤ mostEntries (length entries) (z .inner1)) (sym (length-rowsIn entryRow (z₁ .entries) e₁)) (h .standing .growing .entries-few))
 
     module _ (sizes′ : List ℕ) (room : 2050 ≤ length sizes) (put : sizes′ ≡ putRow sizeRow sizes k (theSize (z₁ .moves) (z₁ .entries))) where
-      sizes-more : rowsIn sizeRow (suc k) sizes′ ≡ rowsIn sizeRow k sizes ++ (sizeOf now ∷ [])
+      sizes-more : rowsIn sizeRow (k + 1) sizes′ ≡ rowsIn sizeRow k sizes ++ (sizeOf now ∷ [])
       unfolding sizeOf
       sizes-more =
           let a : k ≤ 1024 = row-left in
-          let next : suc k ≡ k + 1 = omega arith in
-          ap₂ (rowsIn sizeRow) next put
+          ap (rowsIn sizeRow (k + 1)) put
           ∙ put-more sizeRow k sizes (theSize (z₁ .moves) (z₁ .entries)) (omega arith)
           ∙ ap₂ (λ (m e : ℕ). rowsIn sizeRow k sizes ++ (theSize m e ∷ [])) (sym (length-rowsIn moveRow (z₁ .moves) m₁)) (sym (length-rowsIn entryRow (z₁ .entries) e₁))
 
       -- the table so far, with its sizes
-      so-far : ended true now (rowsIn sizeRow k sizes ++ (sizeOf now ∷ [])) ≡ ended true now (rowsIn sizeRow (suc k) sizes′)
+      so-far : ended true now (rowsIn sizeRow k sizes ++ (sizeOf now ∷ [])) ≡ ended true now (rowsIn sizeRow (k + 1) sizes′)
       so-far = ap (ended true now) (sym sizes-more)
 
       -- ---- as many rounds are run as are asked for
@@ -140,7 +139,7 @@ module _ (rules : List Rule) (rounds : ℕ) (inner : List ℕ) (z : Table) (entr
       unfolding ended
       runs-stop e more m =
           let none-more : rounds - k ≡ 0 = omega arith in
-          let left : saturate rules limit rounds (automatonOf z inner entries moves) ≡ ended true now (rowsIn sizeRow (suc k) sizes′) =
+          let left : saturate rules limit rounds (automatonOf z inner entries moves) ≡ ended true now (rowsIn sizeRow (k + 1) sizes′) =
           h .left
           ∙ ap (λ (n : ℕ). saturateFrom rules limit n (rowsIn sizeRow k sizes) now) none-more
           ∙ saturateFrom-stops rules limit (rowsIn sizeRow k sizes) now now-within
@@ -224,11 +223,11 @@ module _ (rules : List Rule) (rounds : ℕ) (inner : List ℕ) (z : Table) (entr
           runs-end e =
               let still : length (next .moves) ≡ length (now .moves) = next-moves ∙ e ∙ sym now-moves in
               let same : automatonOf z₂ inner e₂ m₂ ≡ now = next-is ∙ still-same rules now still in
-              let left : saturate rules limit rounds (automatonOf z inner entries moves) ≡ ended true (automatonOf z₂ inner e₂ m₂) (rowsIn sizeRow (suc k) sizes′) =
+              let left : saturate rules limit rounds (automatonOf z inner entries moves) ≡ ended true (automatonOf z₂ inner e₂ m₂) (rowsIn sizeRow (k + 1) sizes′) =
               from-here go-on
               ∙ saturateFrom-ends rules limit (rounds - suc k) (rowsIn sizeRow k sizes) now now-within still
               ∙ so-far
-              ∙ ap (λ (A : Automaton). ended true A (rowsIn sizeRow (suc k) sizes′)) (sym same) in
+              ∙ ap (λ (A : Automaton). ended true A (rowsIn sizeRow (k + 1) sizes′)) (sym same) in
               record {
                 saturated = left;
                 count = λ T q. sym (counted-rows (automatonOf z₂ inner e₂ m₂) k sizes′) ∙ ap roundsAdded (Option·some-injective _ T (sym left ∙ q));
@@ -250,7 +249,7 @@ module _ (rules : List Rule) (rounds : ℕ) (inner : List ℕ) (z : Table) (entr
                 left = from-here go-on
                     ∙ saturateFrom-goes-on rules limit (rounds - suc k) (rowsIn sizeRow k sizes) now now-within (λ e. n (sym next-moves ∙ e ∙ now-moves))
                     ∙ ap₂ (λ (l : List Size) (A : Automaton). saturateFrom rules limit (rounds - suc k) l A) (sym sizes-more) (sym next-is)
-                    ∙ ap (λ (i : ℕ). saturateFrom rules limit (rounds - i) (rowsIn sizeRow i sizes′) (automatonOf z₂ inner e₂ m₂)) (sym one);
+                    ∙ ap (λ (i : ℕ). saturateFrom rules limit (rounds - i) (rowsIn sizeRow (k + 1) sizes′) (automatonOf z₂ inner e₂ m₂)) (sym one);
                 asked = omega arith;
                 count = omega arith;
                 same-states = grown .same-states ∙ h .same-states;

@@ -29,14 +29,23 @@ slice-aggregate-put-text-2 c = search needs
 put-text-requires-2 : tie.Need-put-text-requires-2
 put-text-requires-2 c κs = search needs
 
-enum-known-reply-2 : tie.Need-enum-known-reply-2
-enum-known-reply-2 c = search needs
+enum-told-2 : tie.Need-enum-told-2
+enum-told-2 c = search needs
 
 slice-aggregate-put-text-3 : tie.Need-slice-aggregate-put-text-3
 slice-aggregate-put-text-3 c = search needs
 
 put-text-requires-3 : tie.Need-put-text-requires-3
 put-text-requires-3 c κs = search needs
+
+enum-known-reply-2 : tie.Need-enum-known-reply-2
+enum-known-reply-2 c = search needs
+
+slice-aggregate-put-text-4 : tie.Need-slice-aggregate-put-text-4
+slice-aggregate-put-text-4 c = search needs
+
+put-text-requires-4 : tie.Need-put-text-requires-4
+put-text-requires-4 c κs = search needs
 
 put-halt-requires : tie.Need-put-halt-requires
 put-halt-requires c κs = search needs
@@ -60,7 +69,14 @@ same-length-3 c = search needs
 
 returns-3 : tie.Need-returns-3
 unfolding replyText ascii
-returns-3 c = (written-same (sym (ap (replyText _) (c .before .before .before .before .before .before .before .before .before .before .reply2 .given .1))) (written-then (c .before .before .before .before .before .before .put-text3 .ensures) (c .before .before .put-halt .ensures .0)), omega arith)
+returns-3 c = (written-same (sym (ap (replyText _) (c .before .before .before .before .before .enum-told2 .given .1))) (c .before .before .put-text3 .ensures), omega arith)
+
+same-length-4 : tie.Need-same-length-4
+same-length-4 c = search needs
+
+returns-4 : tie.Need-returns-4
+unfolding replyText ascii
+returns-4 c = (written-same (sym (ap (replyText _) (c .before .before .before .before .before .before .before .before .before .before .reply2 .given .1))) (written-then (c .before .before .before .before .before .before .put-text4 .ensures) (c .before .before .put-halt .ensures .0)), omega arith)
 
 pub put-reply-spec : {M : Type 1} → statement M
 put-reply-spec =
@@ -73,13 +89,18 @@ put-reply-spec =
     enum-told
     slice-aggregate-put-text-2
     put-text-requires-2
-    enum-known-reply-2
+    enum-told-2
     slice-aggregate-put-text-3
     put-text-requires-3
+    enum-known-reply-2
+    slice-aggregate-put-text-4
+    put-text-requires-4
     put-halt-requires
     same-length
     returns
     same-length-2
     returns-2
     same-length-3
-    returns-3)
+    returns-3
+    same-length-4
+    returns-4)

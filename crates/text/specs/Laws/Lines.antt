@@ -6,11 +6,12 @@ use mathlib.Core.List.{List, _++_, append-assoc, append-nil}
 use native.Mathlib.Nat.{add-zero, zero-add}
 use native.Mathlib.Numerals.{add-one}
 use native.Mathlib.Omega.{arith}
+use Rattle.automata.specs.Saturation.{allRounds}
 use Rattle.files.specs.Start.{Files}
 use Rattle.services.specs.Guide.{guideService}
 use Rattle.services.specs.Listing.{listingGuide, replyLine, roundWon, startLine, startLines}
 
-pub startLine-is : (f : Files) (n : ℕ) → startLine f n ≡ replyLine n (roundWon f n) (guideService (listingGuide f n) .reply)
+pub startLine-is : (f : Files) (n : ℕ) → startLine f n ≡ replyLine n (roundWon f allRounds n) (guideService (listingGuide f n) .reply)
 unfolding startLine
 startLine-is f n = refl
 
