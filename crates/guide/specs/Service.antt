@@ -8,6 +8,7 @@ use Prim.Native.Nat.{ℕ}
 use mathlib.Core.List.{List}
 use lib.ListN.{getD}
 use Rattle.replies.specs.declared.Reply.{Reply}
+use Rattle.replies.specs.Numbers.{wordRound}
 use Rattle.services.specs.Judge.{judgeService}
 use Rattle.services.specs.Guide.{GuideDone}
 use Rattle.judge.specs.Service.{judgeInput}
@@ -16,6 +17,7 @@ abbrev pub guideDone : Reply → List ℕ → List ℕ → List ℕ → List ℕ
 guideDone reply moves entries cells trace =
     record { reply = reply; moves = moves; entries = entries; cells = cells; trace = trace }
 
--- The round is that of judge's word: the word for a start, where judge is lent tables of m and e words and an answer for each start.
-abbrev pub judgedWord : List ℕ → List ℕ → ℕ → ℕ → ℕ → ℕ
-judgedWord case start number m e = getD (judgeService (judgeInput case start m e 64) .answers) number 0
+-- The round is that of judge's word: the word for a start, where judge is asked for as many rounds and is lent tables of m and e words and an
+-- answer for each start.
+abbrev pub judgedRound : List ℕ → List ℕ → ℕ → ℕ → ℕ → ℕ → ℕ
+judgedRound case start number rounds m e = wordRound (getD (judgeService (judgeInput case start rounds m e 64) .answers) number 0)

@@ -1,6 +1,6 @@
 // The service guide: the rule numbers of a run from one start.
 ghost use mathlib.Core.Path.{_≡_};
-ghost use Prim.Native.Nat.{_<_};
+ghost use Prim.Native.Nat.{_-_, _<_};
 ghost use lib.ListN.{length};
 ghost use Rattle.files.specs.Start.{startsOf};
 ghost use Rattle.words.specs.Lists.{zeros};
@@ -12,7 +12,7 @@ ghost use Rattle.demands.specs.Demand2.{GuideRuns, GuideSize};
 ghost use Rattle.demands.specs.Demand3.{Guides};
 ghost use Rattle.sound_files.specs.Refusal.{FilesSound};
 ghost use Rattle.guided_start.specs.Run.{guideInput};
-ghost use Rattle.guide.specs.Service.{guideDone, judgedWord};
+ghost use Rattle.guide.specs.Service.{guideDone, judgedRound};
 use guided_start::Guided;
 use limits::Limits;
 use replies::Acceptance;
@@ -28,30 +28,38 @@ fn refused(n: u64) -> Guided
     }
 }
 
-// Guides from a start of sound files. All lent memory is zero before.
+// Guides from a start of sound files, on the table of at most `rounds` rounds. All lent memory is zero before.
 fn guide_sound(
     case: &[u8],
     start: &[u8],
     number: usize,
+    rounds: u64,
     moves: &mut [u64],
     entries: &mut [u64],
     cells: &mut [u16],
     trace: &mut [u16],
 ) -> Guided
     requires { ⌜ FilesSound (now case) (now start) × (number < length (startsOf (now start))) × (now moves ≡ zeros (length (now moves))) × (now entries ≡ zeros (length (now entries))) × (now cells ≡ zeros (length (now cells))) × (now trace ≡ zeros (length (now trace))) ⌝ }
-    ensures { λ r. ⌜ guideDone (r .reply) (now (moves .exit)) (now (entries .exit)) (now (cells .exit)) (now (trace .exit)) ≡ guideService (guideInput (now (case .entry)) (now (start .entry)) number (length (now (moves .entry))) (length (now (entries .entry))) (length (now (cells .entry))) (length (now (trace .entry)))) ⌝ }
-    ensures won { λ r. ⌜ answerWord (r .won) ≡ judgedWord (now (case .entry)) (now (start .entry)) number (length (now (moves .entry))) (length (now (entries .entry))) ⌝ }
+    ensures { λ r. ⌜ guideDone (r .reply) (now (moves .exit)) (now (entries .exit)) (now (cells .exit)) (now (trace .exit)) ≡ guideService (guideInput (now (case .entry)) (now (start .entry)) number rounds (length (now (moves .entry))) (length (now (entries .entry))) (length (now (cells .entry))) (length (now (trace .entry)))) ⌝ }
+    ensures won { λ r. ⌜ answerWord (r .won) - 1 ≡ judgedRound (now (case .entry)) (now (start .entry)) number rounds (length (now (moves .entry))) (length (now (entries .entry))) ⌝ }
 {
     let mut inner = [0u64; Limits::INNER_TABLE];
     let mut pending = [0u64; Limits::PENDING_TABLE];
     let mut sizes = [0u64; Limits::SIZE_TABLE];
-    let r = saturate::saturate_case(case, &mut inner, entries, moves, &mut pending, &mut sizes);
+    let r = saturate::saturate_case(
+        case,
+        rounds,
+        &mut inner,
+        entries,
+        moves,
+        &mut pending,
+        &mut sizes,
+    );
     let table = r.table;
     if !r.fits {
         sound_files::zero_tables(moves, entries);
         return refused(9);
     }
-    let k = r.sizes;
     let guided = guided_start::guide_start(
         case,
         start,
@@ -61,7 +69,8 @@ fn guide_sound(
         entries,
         moves,
         &sizes,
-        k,
+        r.rounds + 1,
+        r.more,
         cells,
         trace,
     );
@@ -70,18 +79,19 @@ fn guide_sound(
     guided
 }
 
-// Guides as `guide` does, and answers the round in which the start was won too: the round is that of judge's word.
+// Guides as `guide` does, and answers the round in which the start was won too: the round is that of judge's word in as many rounds.
 pub fn guide_won(
     case: &[u8],
     start: &[u8],
     number: usize,
+    rounds: u64,
     moves: &mut [u64],
     entries: &mut [u64],
     cells: &mut [u16],
     trace: &mut [u16],
 ) -> Guided
-    ensures { λ r. ⌜ guideDone (r .reply) (now (moves .exit)) (now (entries .exit)) (now (cells .exit)) (now (trace .exit)) ≡ guideService (guideInput (now (case .entry)) (now (start .entry)) number (length (now (moves .entry))) (length (now (entries .entry))) (length (now (cells .entry))) (length (now (trace .entry)))) ⌝ }
-    ensures won { λ r. ⌜ answerWord (r .won) ≡ judgedWord (now (case .entry)) (now (start .entry)) number (length (now (moves .entry))) (length (now (entries .entry))) ⌝ }
+    ensures { λ r. ⌜ guideDone (r .reply) (now (moves .exit)) (now (entries .exit)) (now (cells .exit)) (now (trace .exit)) ≡ guideService (guideInput (now (case .entry)) (now (start .entry)) number rounds (length (now (moves .entry))) (length (now (entries .entry))) (length (now (cells .entry))) (length (now (trace .entry)))) ⌝ }
+    ensures won { λ r. ⌜ answerWord (r .won) - 1 ≡ judgedRound (now (case .entry)) (now (start .entry)) number rounds (length (now (moves .entry))) (length (now (entries .entry))) ⌝ }
 {
     sound_files::zero_tables(moves, entries);
     zeroing::zero_u16(cells);
@@ -90,26 +100,28 @@ pub fn guide_won(
     if refusal != 0 {
         return refused(refusal);
     }
-    guide_sound(case, start, number, moves, entries, cells, trace)
+    guide_sound(case, start, number, rounds, moves, entries, cells, trace)
 }
 
-// Writes into the trace the rule numbers of a run from start `number` into the case's target, as many as the trace and the cells hold. Answers
-// how the walk halted, that there is no run, or the number of a refusal. Demands 1, 2 and 3 hold of its answer.
+// Writes into the trace the rule numbers of a run from start `number` into the case's target, as many as the trace and the cells hold, on the table of
+// at most `rounds` rounds. Answers how the walk halted, that there is no run, that the start is open, or the number of a refusal. Demands 1, 2 and 3
+// hold of its answer.
 pub fn guide(
     case: &[u8],
     start: &[u8],
     number: usize,
+    rounds: u64,
     moves: &mut [u64],
     entries: &mut [u64],
     cells: &mut [u16],
     trace: &mut [u16],
 ) -> Reply
-    ensures { λ r. ⌜ guideDone r (now (moves .exit)) (now (entries .exit)) (now (cells .exit)) (now (trace .exit)) ≡ guideService (guideInput (now (case .entry)) (now (start .entry)) number (length (now (moves .entry))) (length (now (entries .entry))) (length (now (cells .entry))) (length (now (trace .entry)))) ⌝ }
-    ensures demand1 { λ r. ⌜ GuideStates (guideInput (now (case .entry)) (now (start .entry)) number (length (now (moves .entry))) (length (now (entries .entry))) (length (now (cells .entry))) (length (now (trace .entry)))) (guideDone r (now (moves .exit)) (now (entries .exit)) (now (cells .exit)) (now (trace .exit))) ⌝ }
-    ensures demand2 { λ r. ⌜ GuideRuns (guideInput (now (case .entry)) (now (start .entry)) number (length (now (moves .entry))) (length (now (entries .entry))) (length (now (cells .entry))) (length (now (trace .entry)))) r ⌝ }
-    ensures size { λ r. ⌜ GuideSize (guideInput (now (case .entry)) (now (start .entry)) number (length (now (moves .entry))) (length (now (entries .entry))) (length (now (cells .entry))) (length (now (trace .entry)))) (refusalOf r) ⌝ }
-    ensures demand3 { λ r. ⌜ Guides (guideInput (now (case .entry)) (now (start .entry)) number (length (now (moves .entry))) (length (now (entries .entry))) (length (now (cells .entry))) (length (now (trace .entry)))) (guideDone r (now (moves .exit)) (now (entries .exit)) (now (cells .exit)) (now (trace .exit))) ⌝ }
+    ensures { λ r. ⌜ guideDone r (now (moves .exit)) (now (entries .exit)) (now (cells .exit)) (now (trace .exit)) ≡ guideService (guideInput (now (case .entry)) (now (start .entry)) number rounds (length (now (moves .entry))) (length (now (entries .entry))) (length (now (cells .entry))) (length (now (trace .entry)))) ⌝ }
+    ensures demand1 { λ r. ⌜ GuideStates (guideInput (now (case .entry)) (now (start .entry)) number rounds (length (now (moves .entry))) (length (now (entries .entry))) (length (now (cells .entry))) (length (now (trace .entry)))) (guideDone r (now (moves .exit)) (now (entries .exit)) (now (cells .exit)) (now (trace .exit))) ⌝ }
+    ensures demand2 { λ r. ⌜ GuideRuns (guideInput (now (case .entry)) (now (start .entry)) number rounds (length (now (moves .entry))) (length (now (entries .entry))) (length (now (cells .entry))) (length (now (trace .entry)))) r ⌝ }
+    ensures size { λ r. ⌜ GuideSize (guideInput (now (case .entry)) (now (start .entry)) number rounds (length (now (moves .entry))) (length (now (entries .entry))) (length (now (cells .entry))) (length (now (trace .entry)))) (refusalOf r) ⌝ }
+    ensures demand3 { λ r. ⌜ Guides (guideInput (now (case .entry)) (now (start .entry)) number rounds (length (now (moves .entry))) (length (now (entries .entry))) (length (now (cells .entry))) (length (now (trace .entry)))) (guideDone r (now (moves .exit)) (now (entries .exit)) (now (cells .exit)) (now (trace .exit))) ⌝ }
 {
-    let guided = guide_won(case, start, number, moves, entries, cells, trace);
+    let guided = guide_won(case, start, number, rounds, moves, entries, cells, trace);
     guided.reply
 }

@@ -1,4 +1,4 @@
--- What is asked of the tables of a saturated case for a guided run.
+-- What is asked of the tables of a case after rounds for a guided run.
 -- Assumes nothing.
 pub mod Laws
 use Prim.Native.Nat.{ℕ, _*_, _≤_}

@@ -1,4 +1,4 @@
-// The guided run from one start of a sound start file, on the saturated table of a sound case.
+// The guided run from one start of a sound start file, on the table of a sound case after rounds.
 ghost use mathlib.Core.Path.{_≡_};
 ghost use mathlib.Core.List.{[]};
 ghost use Prim.Native.Nat.{_<_, _≤_, _-_, _*_};
@@ -9,13 +9,14 @@ ghost use Rattle.files.specs.Start.{startsOf, cellsOf, configurationOf, startAt
 ghost use Rattle.words.specs.Lists.{zeros};
 ghost use Rattle.replies.specs.Numbers.{answerWord};
 ghost use Rattle.rounds.specs.Won.{round2};
+ghost use Rattle.services.specs.Judge.{moreToAdd};
 ghost use Rattle.services.specs.Guide.{guideRun};
 ghost use Rattle.tables.specs.Held.{automatonOf};
 ghost use Rattle.saturation.specs.Held.{saturatedIn};
 ghost use Rattle.guided_walk.specs.Turns.{Leaves};
 ghost use Rattle.sound_files.specs.Sound.{StartSound};
 ghost use Rattle.guided_start.specs.Tables.{TablesStand};
-ghost use Rattle.guided_start.specs.Run.{guideInput, lentCells, shortAtStart};
+ghost use Rattle.guided_start.specs.Run.{tableInput, lentCells, shortAtStart, unaccepted};
 ghost use Rattle.guided_start.specs.Walk.{StartRounds, Ready};
 use guided_step::Walk;
 use limits::Limits;
@@ -47,6 +48,16 @@ fn cells_lent(words: usize) -> usize
     ensures { λ r. ⌜ r ≡ lentCells words ⌝ }
 {
     numbers::smaller((words / Limits::CELL_WORDS) as u64, Limits::CELLS as u64) as usize
+}
+
+// The answer for a start that is not accepted: open while a round more would add a move, otherwise that there is no run.
+fn not_accepted(more: bool) -> Reply
+    ensures { λ r. ⌜ r ≡ unaccepted more ⌝ }
+{
+    if more {
+        return Reply::Open;
+    }
+    Reply::NoRun
 }
 
 // Short before any step, with 0 steps and 0 cells.
@@ -99,8 +110,8 @@ fn walk_from(
     )
 }
 
-// Guides from one start of a sound start file, for a sound case whose saturated table stands in these tables, its sizes in the first k rows, and
-// the words of the start file's cells. The trace is all zero before. What the cells hold after it is left free: the service zeroes them.
+// Guides from one start of a sound start file, for a sound case whose table after rounds stands in these tables, its sizes in the first k rows, to
+// which a round more would add a move or not, and the words of the start file's cells. The trace is all zero before. What the cells hold after it is left free: the service zeroes them.
 pub fn guide_with_rounds(
     case: &[u8],
     start: &[u8],
@@ -111,15 +122,16 @@ pub fn guide_with_rounds(
     moves: &[u64],
     sizes: &[u64],
     k: usize,
+    more: bool,
     rounds: &[u16],
     cells: &mut [u16],
     trace: &mut [u16],
 ) -> Reply
-    requires { ⌜ (caseRefusal (now case) ≡ 0) × StartSound (now start) × TablesStand z (now inner) (now entries) (now moves) k (now sizes) × StartRounds z (now inner) (now entries) (now moves) k (now sizes) (now start) (now rounds) × (number < length (startsOf (now start))) × (now trace ≡ zeros (length (now trace))) ⌝ }
-    ensures { λ r. ⌜ Leaves (guideRun (guideInput (now (case .entry)) (now (start .entry)) number (length (now (moves .entry))) (length (now (entries .entry))) (length (now (cells .entry))) (length (now (trace .entry)))) (saturatedIn z (now (inner .entry)) (now (entries .entry)) (now (moves .entry)) k (now (sizes .entry)))) (length (now (trace .entry))) r (now (trace .exit)) ⌝ }
+    requires { ⌜ (caseRefusal (now case) ≡ 0) × StartSound (now start) × TablesStand z (now inner) (now entries) (now moves) k (now sizes) × StartRounds z (now inner) (now entries) (now moves) k (now sizes) (now start) (now rounds) × (number < length (startsOf (now start))) × (now trace ≡ zeros (length (now trace))) × (more ≡ moreToAdd (now case) (saturatedIn z (now inner) (now entries) (now moves) k (now sizes))) ⌝ }
+    ensures { λ r. ⌜ Leaves (guideRun (tableInput (now (case .entry)) (now (start .entry)) number (length (now (moves .entry))) (length (now (entries .entry))) (length (now (cells .entry))) (length (now (trace .entry)))) (saturatedIn z (now (inner .entry)) (now (entries .entry)) (now (moves .entry)) k (now (sizes .entry)))) (length (now (trace .entry))) r (now (trace .exit)) ⌝ }
 {
     if !acceptance_words::is_won(sound_files::start_accepted(start, number, rounds)) {
-        return Reply::NoRun;
+        return not_accepted(more);
     }
     let most = cells_lent(cells.len());
     if most < bytes_in::count_of(start, Limits::CELL_BODY) {
@@ -143,8 +155,8 @@ pub fn guide_with_rounds(
     )
 }
 
-// Guides from one start of a sound start file, for a sound case whose saturated table stands in these tables, its sizes in the first k rows.
-// The trace is all zero before. What the cells hold after it is left free: the service zeroes them.
+// Guides from one start of a sound start file, for a sound case whose table after rounds stands in these tables, its sizes in the first k rows, to
+// which a round more would add a move or not. The trace is all zero before. What the cells hold after it is left free: the service zeroes them.
 pub fn guide_start(
     case: &[u8],
     start: &[u8],
@@ -155,11 +167,12 @@ pub fn guide_start(
     moves: &[u64],
     sizes: &[u64],
     k: usize,
+    more: bool,
     cells: &mut [u16],
     trace: &mut [u16],
 ) -> Guided
-    requires { ⌜ (caseRefusal (now case) ≡ 0) × StartSound (now start) × TablesStand z (now inner) (now entries) (now moves) k (now sizes) × (number < length (startsOf (now start))) × (now trace ≡ zeros (length (now trace))) ⌝ }
-    ensures { λ r. ⌜ Leaves (guideRun (guideInput (now (case .entry)) (now (start .entry)) number (length (now (moves .entry))) (length (now (entries .entry))) (length (now (cells .entry))) (length (now (trace .entry)))) (saturatedIn z (now (inner .entry)) (now (entries .entry)) (now (moves .entry)) k (now (sizes .entry)))) (length (now (trace .entry))) (r .reply) (now (trace .exit)) ⌝ }
+    requires { ⌜ (caseRefusal (now case) ≡ 0) × StartSound (now start) × TablesStand z (now inner) (now entries) (now moves) k (now sizes) × (number < length (startsOf (now start))) × (now trace ≡ zeros (length (now trace))) × (more ≡ moreToAdd (now case) (saturatedIn z (now inner) (now entries) (now moves) k (now sizes))) ⌝ }
+    ensures { λ r. ⌜ Leaves (guideRun (tableInput (now (case .entry)) (now (start .entry)) number (length (now (moves .entry))) (length (now (entries .entry))) (length (now (cells .entry))) (length (now (trace .entry)))) (saturatedIn z (now (inner .entry)) (now (entries .entry)) (now (moves .entry)) k (now (sizes .entry)))) (length (now (trace .entry))) (r .reply) (now (trace .exit)) ⌝ }
     ensures won { λ r. ⌜ r .won ≡ round2 (saturatedIn z (now (inner .entry)) (now (entries .entry)) (now (moves .entry)) k (now (sizes .entry))) (configurationOf (now (start .entry)) (startAt (now (start .entry)) number) .stack) (startAt (now (start .entry)) number .control) ⌝ }
 {
     let mut rounds = [0u16; Limits::START_CELLS * Limits::STATES1];
@@ -175,6 +188,7 @@ pub fn guide_start(
         moves,
         sizes,
         k,
+        more,
         &rounds,
         cells,
         trace,

@@ -8,7 +8,7 @@ use lib.ListN.{length, take}
 use Rattle.services.specs.Run.{withDigit}
 
 -- n is what the first i bytes give
-pub record ReadTo (bytes : List ℕ) (i n : ℕ) : Type 0 where
+pub record ReadTo (most : ℕ) (bytes : List ℕ) (i n : ℕ) : Type 0 where
   pub within : i ≤ length bytes
-  pub is : n ≡ foldl withDigit 0 (take i bytes)
-  pub small : n ≤ 64
+  pub is : n ≡ foldl (withDigit most) 0 (take i bytes)
+  pub small : n ≤ most

@@ -1,7 +1,8 @@
-// Numbers as text: written in decimal with spaces between them, and the number of a start that an argument names.
+// Numbers as text: written in decimal with spaces between them, and the number of a start or of rounds that an argument names.
 ghost use mathlib.Core.Path.{_≡_};
 ghost use Prim.Native.Nat.{_+_, _*_, _≤_, _<_};
 ghost use lib.ListN.{length};
+ghost use Rattle.automata.specs.Saturation.{allRounds};
 ghost use Rattle.text.specs.Written.{Written};
 ghost use Rattle.services.specs.Run.{spacedNumbers, numbersText, withDigit, numberNamed};
 use limits::Limits;
@@ -45,36 +46,50 @@ pub fn put_numbers(out: &mut [u8], at: usize, numbers: &[u16]) -> usize
     put_spaced(out, first, &numbers[1..])
 }
 
-// ---- the number that an argument names
+// ---- the numbers that arguments name
 
-// A number with one more digit behind it, or 64 where that is too large or the byte is no digit.
-fn with_digit(n: usize, byte: u8) -> usize
-    requires { ⌜ n ≤ 64 ⌝ }
-    ensures { λ r. ⌜ r ≡ withDigit n byte ⌝ }
-    ensures within { λ r. ⌜ r ≤ 64 ⌝ }
+// A number with one more digit behind it, or `most` where that is larger or the byte is no digit.
+fn with_digit(most: u64, n: u64, byte: u8) -> u64
+    requires { ⌜ (n ≤ most) × (most ≤ 65535) ⌝ }
+    ensures { λ r. ⌜ r ≡ withDigit most n byte ⌝ }
+    ensures within { λ r. ⌜ r ≤ most ⌝ }
 {
     if byte < 48 {
-        return Limits::STARTS;
+        return most;
     }
     if 57 < byte {
-        return Limits::STARTS;
+        return most;
     }
-    let longer = n * 10 + (byte - 48) as usize;
-    numbers::smaller(longer as u64, Limits::STARTS as u64) as usize
+    numbers::smaller(n * 10 + (byte - 48) as u64, most)
 }
 
-// The number of a start that these bytes name in decimal, or 64, which no start has.
-pub fn number_named(argument: &[u8]) -> usize
-    ensures { λ r. ⌜ r ≡ numberNamed (now (argument .entry)) ⌝ }
+// The number that these bytes say in decimal, or `most` where it is larger or they say none.
+fn named(most: u64, argument: &[u8]) -> u64
+    requires { ⌜ most ≤ 65535 ⌝ }
+    ensures { λ r. ⌜ r ≡ numberNamed most (now (argument .entry)) ⌝ }
 {
     if argument.len() == 0 {
-        return Limits::STARTS;
+        return most;
     }
-    let mut n: usize = 0;
+    let mut n: u64 = 0;
     let mut read: usize = 0;
     while read < argument.len() {
-        n = with_digit(n, argument[read]);
+        n = with_digit(most, n, argument[read]);
         read += 1;
     }
     n
+}
+
+// The number of a start that these bytes name, or 64, which no start has.
+pub fn start_named(argument: &[u8]) -> usize
+    ensures { λ r. ⌜ r ≡ numberNamed 64 (now (argument .entry)) ⌝ }
+{
+    named(Limits::STARTS as u64, argument) as usize
+}
+
+// The number of rounds that these bytes name, or all rounds where it is larger or they name none.
+pub fn rounds_named(argument: &[u8]) -> u64
+    ensures { λ r. ⌜ r ≡ numberNamed allRounds (now (argument .entry)) ⌝ }
+{
+    named(Limits::ALL_ROUNDS, argument)
 }

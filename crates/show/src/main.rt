@@ -6,7 +6,7 @@ use limits::Limits;
 fn main() {
     let mut argument = [0u8; 4096];
     let a = os::arg(1, &mut argument);
-    let number = number_text::number_named(&argument[..a]);
+    let number = number_text::start_named(&argument[..a]);
     let mut text = [0u8; Limits::SHOW_TEXT];
     let n = printing::read_show(b"case.bin", b"start.bin", number, &mut text);
     let all = io::write_all(STDOUT_FILENO, &text[..n]);

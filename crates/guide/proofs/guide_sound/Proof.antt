@@ -1,7 +1,9 @@
 -- `guide::guide_sound` meets its contract.
 -- Assumes nothing.
 use mathlib.Core.Path.{_∙_}
+use native.Mathlib.Omega.{arith}
 use borrow.Author.Tests.{not-true, not-false}
+use Rattle.services.specs.Judge.{moreToAdd}
 use Rattle.sound_files.specs.Sound.Laws.{start-sound}
 use Rattle.sound_files.specs.Saturated.Laws.{table-there, table-none}
 use Rattle.guided_start.specs.Tables.Laws.{tables-stand}
@@ -39,12 +41,12 @@ same-length-2 c = search needs
 returns : tie.Need-returns
 returns c =
     let s = c .before .before .before .before .before .before .before .before .before .before .before .before .before .before .before .before .before .before .saturate-case in
-    let e = c .before .before .before .before .before .before .before .before .before .before .before .before .before .before .before .before .before .before .before .before .before .before .before .before .before .before .before .before .before .before in
+    let p = c .before .before .before .before .before .before .before .before .before .before .before .before .before .before .before .before .before .before .before .before .before .before .before .before .before .before .before .before .before .before .pre in
     let z = c .before .before .before .before .before .zero-tables .ensures in
     let none = table-none (s .ensures) (not-true (s .result .fits) (c .before .before .before .before .before .before .before .before .if1 .taken)) in (
-      left-exceeded _ (zeros-kept (z .0) (s .kept .1 .1 .1 .0)) (zeros-kept (z .1) (s .kept .1 .1 .0)) (e .pre .4) (e .pre .0) (e .pre .1) none (c .refused .ensures .1)
-          (e .pre .5),
-      won-exceeded _ _ _ _ _ (e .pre .0) (c .refused .ensures .0) none,
+      left-exceeded _ (zeros-kept (z .0) (s .kept .1 .1 .1 .1 .0)) (zeros-kept (z .1) (s .kept .1 .1 .1 .0)) (p .4) (p .0) (p .1) none (c .refused .ensures .1)
+          (p .5),
+      won-exceeded _ _ _ _ _ _ (p .0) _ (c .refused .ensures .0) none,
     )
 
 slice-aggregate-guide-start : tie.Need-slice-aggregate-guide-start
@@ -53,18 +55,24 @@ slice-aggregate-guide-start c = search needs
 slice-aggregate-guide-start-2 : tie.Need-slice-aggregate-guide-start-2
 slice-aggregate-guide-start-2 c = search needs
 
+add-guide-start : tie.Need-add-guide-start
+add-guide-start c = omega (arith, c .before .before .before .before .before .before .before .before .before .before .before .before .before .before .before .saturate-case .ensures .sizes-few)
+
 guide-start-requires : tie.Need-guide-start-requires
+unfolding moreToAdd
 guide-start-requires c κs =
-    let s = c .before .before .before .before .before .before .before .before .before .before .before .before .before .before .before .before .saturate-case in
-    let p = c .before .before .before .before .before .before .before .before .before .before .before .before .before .before .before .before .before .before .before .before .before .before .before .before .before .before .before .before .pre in
+    let s = c .before .before .before .before .before .before .before .before .before .before .before .before .before .before .before .before .before .saturate-case in
+    let p = c .before .before .before .before .before .before .before .before .before .before .before .before .before .before .before .before .before .before .before .before .before .before .before .before .before .before .before .before .before .pre in
     let sound = p .0 in
-    let inner = s .kept .1 .0 in
-    let sizes = s .kept .1 .1 .1 .1 .1 .0 in (
+    let fits = not-false (s .result .fits) (c .before .before .before .before .before .before .before .if1 .left) in
+    let inner = s .kept .1 .1 .0 in
+    let sizes = s .kept .1 .1 .1 .1 .1 .1 .0 in (
       sound .sound-case,
       start-sound sound,
-      tables-stand (s .ensures) (sound .sound-case) (not-false (s .result .fits) (c .before .before .before .before .before .before .if1 .left)) (search needs) (search needs),
+      tables-stand (s .ensures) (sound .sound-case) fits (search needs) (search needs),
       p .1,
       p .5,
+      s .ensures .more-is fits,
     )
 
 zero-tables-requires-2 : tie.Need-zero-tables-requires-2
@@ -74,10 +82,10 @@ zero-u16-requires : tie.Need-zero-u16-requires
 zero-u16-requires c κs = search needs
 
 same-length-3 : tie.Need-same-length-3
-same-length-3 c = search needs
+same-length-3 c = c .before .before .before .before .before .before .before .before .zero-tables2 .kept .0 ∙ c .before .before .before .before .before .before .before .before .before .before .before .before .before .before .before .before .before .before .before .before .before .before .before .before .before .before .before .before .before .before .before .before .before .saturate-case .kept .1 .1 .1 .1 .0
 
 same-length-4 : tie.Need-same-length-4
-same-length-4 c = c .before .before .before .before .before .before .before .before .zero-tables2 .kept .1 .0 ∙ c .before .before .before .before .before .before .before .before .before .before .before .before .before .before .before .before .before .before .before .before .before .before .before .before .before .before .before .before .before .before .before .before .saturate-case .kept .1 .1 .0
+same-length-4 c = c .before .before .before .before .before .before .before .before .zero-tables2 .kept .1 .0 ∙ c .before .before .before .before .before .before .before .before .before .before .before .before .before .before .before .before .before .before .before .before .before .before .before .before .before .before .before .before .before .before .before .before .before .saturate-case .kept .1 .1 .1 .0
 
 same-length-5 : tie.Need-same-length-5
 same-length-5 c = search needs
@@ -87,15 +95,15 @@ same-length-6 c = search needs
 
 returns-2 : tie.Need-returns-2
 returns-2 c =
-    let s = c .before .before .before .before .before .before .before .before .before .before .before .before .before .before .before .before .before .before .before .before .before .before .before .before .before .before .before .before .before .before .before .before .saturate-case in
-    let e = c .before .before .before .before .before .before .before .before .before .before .before .before .before .before .before .before .before .before .before .before .before .before .before .before .before .before .before .before .before .before .before .before .before .before .before .before .before .before .before .before .before .before .before .before in
+    let s = c .before .before .before .before .before .before .before .before .before .before .before .before .before .before .before .before .before .before .before .before .before .before .before .before .before .before .before .before .before .before .before .before .before .saturate-case in
+    let p = c .before .before .before .before .before .before .before .before .before .before .before .before .before .before .before .before .before .before .before .before .before .before .before .before .before .before .before .before .before .before .before .before .before .before .before .before .before .before .before .before .before .before .before .before .before .pre in
     let g = c .before .before .before .before .before .before .before .before .before .before .before .before .before .before .before .guide-start in
     let z = c .before .before .before .before .before .before .before .before .zero-tables2 .ensures in
-    let there = table-there (s .ensures) (not-false (s .result .fits) (c .before .before .before .before .before .before .before .before .before .before .before .before .before .before .before .before .before .before .before .before .before .before .if1 .left)) in (
-      left-guided _ (zeros-kept (z .0) (s .kept .1 .1 .1 .0)) (zeros-kept (z .1) (s .kept .1 .1 .0))
-          (zeros-kept (c .before .before .zero-u16 .ensures) (g .kept .1 .1 .1 .1 .1 .1 .1 .1 .1 .0)) (e .pre .0) (e .pre .1) there
-          (leaves-same (run-tables _ _ _ _ _ _ _ _ _ _) (g .ensures .0)),
-      won-guided _ _ _ _ _ (e .pre .0) (e .pre .1) there (g .ensures .1),
+    let there = table-there (s .ensures) (not-false (s .result .fits) (c .before .before .before .before .before .before .before .before .before .before .before .before .before .before .before .before .before .before .before .before .before .before .before .if1 .left)) in (
+      left-guided _ (zeros-kept (z .0) (s .kept .1 .1 .1 .1 .0)) (zeros-kept (z .1) (s .kept .1 .1 .1 .0))
+          (zeros-kept (c .before .before .zero-u16 .ensures) (g .kept .1 .1 .1 .1 .1 .1 .1 .1 .1 .1 .0)) (p .0) (p .1) there
+          (leaves-same (run-tables _ _ _ _ _ _ _ _ _ _ _) (g .ensures .0)),
+      won-guided _ _ _ _ _ _ (p .0) (p .1) there (g .ensures .1),
     )
 
 pub guide-sound-spec : {M : Type 1} → statement M
@@ -113,6 +121,7 @@ guide-sound-spec =
     returns
     slice-aggregate-guide-start
     slice-aggregate-guide-start-2
+    add-guide-start
     guide-start-requires
     zero-tables-requires-2
     zero-u16-requires

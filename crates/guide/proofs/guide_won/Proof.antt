@@ -5,7 +5,7 @@ use native.Mathlib.Omega.{arith}
 use Rattle.saturate.specs.Service.Laws.{zero-self}
 use Rattle.sound_files.specs.Refusal.Laws.{sound-before, not-past}
 use Rattle.guide.specs.Service.Left.{left-refused, service-kept}
-use Rattle.guide.specs.Service.Won.{won-refused, word-kept}
+use Rattle.guide.specs.Service.Won.{won-refused, round-kept}
 use borrow.Author.Needs.{needs}
 use Rattle.guide.proofs.guide_won.Statement.{statement}
 use Rattle.guide.proofs.guide_won.Tie as tie
@@ -43,7 +43,7 @@ returns c =
     let is = c .before .before .refusal-before .ensures in
     let r = c .refused .ensures in (
       left-refused _ (t .0) (t .1) (c .before .before .before .before .before .before .before .before .before .zero-u16 .ensures) is (c .before .if1 .taken) (r .1) (c .before .before .before .before .before .zero-u162 .ensures),
-      won-refused _ _ _ _ _ (r .0) is (c .before .if1 .taken),
+      won-refused _ _ _ _ _ _ _ (r .0) is (c .before .if1 .taken),
     )
 
 guide-sound-requires : tie.Need-guide-sound-requires
@@ -76,8 +76,8 @@ returns-2 : tie.Need-returns-2
 returns-2 c =
     let t = c .before .before .before .before .before .before .before .before .before .before .before .before .before .before .before .before .before .before .before .before .before .before .before .before .before .before .before .zero-tables in
     let g = c .before .before .before .before .before .before .before .before .guide-sound .ensures in (
-      service-kept _ _ _ (g .0) (t .kept .0) (t .kept .1 .0) (c .before .before .before .before .before .before .before .before .before .before .before .before .before .before .before .before .before .before .before .before .before .zero-u16 .kept .0) (c .before .before .before .before .before .before .before .before .before .before .before .before .before .before .before .before .before .zero-u162 .kept .0),
-      word-kept _ _ _ (g .1) (t .kept .0) (t .kept .1 .0),
+      service-kept _ _ _ _ (g .0) (t .kept .0) (t .kept .1 .0) (c .before .before .before .before .before .before .before .before .before .before .before .before .before .before .before .before .before .before .before .before .before .zero-u16 .kept .0) (c .before .before .before .before .before .before .before .before .before .before .before .before .before .before .before .before .before .zero-u162 .kept .0),
+      round-kept _ _ _ _ (g .1) (t .kept .0) (t .kept .1 .0),
     )
 
 pub guide-won-spec : {M : Type 1} → statement M

@@ -35,17 +35,17 @@ module _ (x : GuideInput) {m e c t : List ℕ} (p : m ≡ zeros (x .moves)) (q :
       done-same (o ∙ ap Refused is) p q k (z ∙ sym (padded-none (x .trace))) ∙ sym (answers-refused x (λ n. h (is ∙ n)))
 
   module _ (sound : FilesSound (x .case) (x .start)) (there : x .number < length (startsOf (x .start))) where
-    pub left-exceeded : {r : Reply} → saturated (lentOf (x .case) (x .moves) (x .entries)) ≡ none → r ≡ Refused 9 → t ≡ zeros (x .trace)
+    pub left-exceeded : {r : Reply} → saturated (lentOf (x .case) (x .moves) (x .entries)) (x .rounds) ≡ none → r ≡ Refused 9 → t ≡ zeros (x .trace)
         → guideDone r m e c t ≡ guideService x
     unfolding guideLeft refused guideLent
     left-exceeded h o z = done-same o p q k (z ∙ sym (padded-none (x .trace))) ∙ sym (answers-exceeded x sound there h)
 
-    pub left-guided : {r : Reply} {T : Saturated} → saturated (lentOf (x .case) (x .moves) (x .entries)) ≡ some T → Leaves (guideRun x T) (x .trace) r t
+    pub left-guided : {r : Reply} {T : Saturated} → saturated (lentOf (x .case) (x .moves) (x .entries)) (x .rounds) ≡ some T → Leaves (guideRun x T) (x .trace) r t
         → guideDone r m e c t ≡ guideService x
     unfolding guideLeft guideLent
     left-guided h a = done-same (a .reply-is) p q k (a .trace-is) ∙ sym (answers-guided x sound there h)
 
 -- the same slices are lent where a call before has kept their lengths
-pub service-kept : (case start : List ℕ) (number : ℕ) {d : GuideDone} {m m′ e e′ c c′ t t′ : ℕ} → d ≡ guideService (guideInput case start number m e c t)
-    → m ≡ m′ → e ≡ e′ → c ≡ c′ → t ≡ t′ → d ≡ guideService (guideInput case start number m′ e′ c′ t′)
-service-kept case start number h p q r s = h ∙ (λ i. guideService (guideInput case start number (p i) (q i) (r i) (s i)))
+pub service-kept : (case start : List ℕ) (number rounds : ℕ) {d : GuideDone} {m m′ e e′ c c′ t t′ : ℕ} → d ≡ guideService (guideInput case start number rounds m e c t)
+    → m ≡ m′ → e ≡ e′ → c ≡ c′ → t ≡ t′ → d ≡ guideService (guideInput case start number rounds m′ e′ c′ t′)
+service-kept case start number rounds h p q r s = h ∙ (λ i. guideService (guideInput case start number rounds (p i) (q i) (r i) (s i)))

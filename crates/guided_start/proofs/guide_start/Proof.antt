@@ -35,7 +35,7 @@ guide-with-rounds-requires c κs =
     let p = c .before .before .before .before .before .before .before .before .before .before .before .before .before .before .before .before .pre in
     let r = c .before .before .before .before .before .before .start-rounds .ensures in
     let long = r .long in
-    (p .0, p .1, p .2, record { rounds-lent = omega arith; rounds-stand = r .filled }, p .3, p .4)
+    (p .0, p .1, p .2, record { rounds-lent = omega arith; rounds-stand = r .filled }, p .3, p .4, p .5)
 
 same-length : tie.Need-same-length
 same-length c = search needs
@@ -45,11 +45,10 @@ same-length-2 c = search needs
 
 returns : tie.Need-returns
 returns c =
-    let s = c .before .before .before .before .before .before .before .before .before .before .before .before .before .before .before .before .before .before .before .before .before in
-    let p = s .pre in (
+    let p = c .before .before .before .before .before .before .before .before .before .before .before .before .before .before .before .before .before .before .before .before .before .pre in (
       c .before .before .before .before .guide-with-rounds .ensures,
       c .before .before .before .before .before .before .before .before .start-accepted .ensures .0
-          ∙ start-since (saturatedIn (s .args .z) _ _ _ _ _) (states-below (p .2 .stands)) _ (p .1) (c .before .before .before .before .before .before .before .before .before .before .before .start-rounds .ensures .filled) _
+          ∙ start-since (saturatedIn (c .before .before .before .before .before .before .before .before .before .before .before .before .before .before .before .before .before .before .before .before .before .args .z) _ _ _ _ _) (states-below (p .2 .stands)) _ (p .1) (c .before .before .before .before .before .before .before .before .before .before .before .start-rounds .ensures .filled) _
           (start-listed _ _ (p .3)),
     )
 

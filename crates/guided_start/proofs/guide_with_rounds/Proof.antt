@@ -6,7 +6,7 @@ use borrow.Author.Tests.{not-true, not-false}
 use Rattle.saturation.specs.Held.{saturatedIn}
 use Rattle.acceptance.specs.Cells.Laws.{states-below}
 use Rattle.sound_files.specs.Sound.Laws.{start-long, cells-count, start-lent, start-names}
-use Rattle.guided_start.specs.Run.Laws.{lent-fit, named, tested, leaves-no, leaves-short, leaves-walk}
+use Rattle.guided_start.specs.Run.Laws.{lent-fit, named, tested, leaves-not, leaves-short, leaves-walk}
 use borrow.Author.Needs.{needs}
 use Rattle.guided_start.proofs.guide_with_rounds.Statement.{statement}
 use Rattle.guided_start.proofs.guide_with_rounds.Tie as tie
@@ -17,13 +17,15 @@ start-accepted-requires c κs = search needs
 is-won-requires : tie.Need-is-won-requires
 is-won-requires c κs = search needs
 
+not-accepted-requires : tie.Need-not-accepted-requires
+not-accepted-requires c κs = search needs
+
 returns : tie.Need-returns
 returns c =
-    let s = c .before .before .before .before .before .before .before .before .before .before .before .before in
-    let p = s .pre in
-    let is = tested _ (p .4) (saturatedIn (s .args .z) _ _ _ _ _) (states-below (p .2 .stands)) (p .1) (p .3 .rounds-stand) (c .before .before .start-accepted .ensures .0)
-    (c .before .is-won .ensures) in
-    leaves-no _ _ is (not-true (c .before .is-won .result) (c .if1 .taken)) (p .5)
+    let p = c .before .before .before .before .before .before .before .before .before .before .before .before .before .pre in
+    let is = tested _ (p .4) (saturatedIn (c .before .before .before .before .before .before .before .before .before .before .before .before .before .args .z) _ _ _ _ _) (states-below (p .2 .stands)) (p .1) (p .3 .rounds-stand) (c .before .before .before .start-accepted .ensures .0)
+    (c .before .before .is-won .ensures) in
+    leaves-not _ _ is (not-true (c .before .before .is-won .result) (c .before .if1 .taken)) (p .6) (c .not-accepted .ensures) (p .5)
 
 cells-lent-requires : tie.Need-cells-lent-requires
 cells-lent-requires c κs = search needs
@@ -36,13 +38,11 @@ short-at-start-requires c κs = search needs
 
 returns-2 : tie.Need-returns-2
 returns-2 c =
-    let s = c .before .before .before .before .before .before .before .before .before .before .before .before .before .before .before .before in
-    let p = s .pre in
-    let is = tested _ (p .4) (saturatedIn (s .args .z) _ _ _ _ _) (states-below (p .2 .stands)) (p .1) (p .3 .rounds-stand) (c .before .before .before .before .before .before .start-accepted .ensures .0)
+    let p = c .before .before .before .before .before .before .before .before .before .before .before .before .before .before .before .before .pre in
+    let is = tested _ (p .4) (saturatedIn (c .before .before .before .before .before .before .before .before .before .before .before .before .before .before .before .before .args .z) _ _ _ _ _) (states-below (p .2 .stands)) (p .1) (p .3 .rounds-stand) (c .before .before .before .before .before .before .start-accepted .ensures .0)
     (c .before .before .before .before .before .is-won .ensures) in
-    let n = c .before .before in
-    leaves-short _ _ is (not-false (c .before .before .before .before .before .is-won .result) (c .before .before .before .before .if1 .left)) (n .before .cells-lent .ensures)
-    (n .count-of .ensures .0 ∙ sym (cells-count _)) (c .before .if2 .taken) (c .short-at-start .ensures) (p .5)
+    leaves-short _ _ is (not-false (c .before .before .before .before .before .is-won .result) (c .before .before .before .before .if1 .left)) (c .before .before .before .cells-lent .ensures)
+    (c .before .before .count-of .ensures .0 ∙ sym (cells-count _)) (c .before .if2 .taken) (c .short-at-start .ensures) (p .5)
 
 start-body-requires : tie.Need-start-body-requires
 start-body-requires c κs = search needs
@@ -53,10 +53,9 @@ start-at-requires c κs = let p = c .before .before .before .before .before .bef
 walk-from-requires : tie.Need-walk-from-requires
 walk-from-requires c κs =
     let p = c .before .before .before .before .before .before .before .before .before .before .before .before .before .before .before .before .before .before .before .pre in
-    let n = c .before .before .before .before .before in
-    let count = n .count-of .ensures .0 ∙ sym (cells-count _) in
+    let count = c .before .before .before .before .before .count-of .ensures .0 ∙ sym (cells-count _) in
     let fits = c .before .before .before .before .if2 .left in
-    let lent = lent-fit _ (n .before .cells-lent .ensures) in (
+    let lent = lent-fit _ (c .before .before .before .before .before .before .cells-lent .ensures) in (
       record { case-sound = p .0; start-is = p .1; tables = p .2; start-rounds = p .3 },
       start-names _ (p .1) (p .4) (c .before .before .before .start-body .ensures) {words = 256} (omega arith) (c .before .before .start-at .ensures) .0,
       p .5,
@@ -73,14 +72,12 @@ same-length-2 c = search needs
 
 returns-3 : tie.Need-returns-3
 returns-3 c =
-    let s = c .before .before .before .before .before .before .before .before .before .before .before .before .before .before .before .before .before .before .before .before .before .before .before .before in
-    let p = s .pre in
-    let is = tested _ (p .4) (saturatedIn (s .args .z) _ _ _ _ _) (states-below (p .2 .stands)) (p .1) (p .3 .rounds-stand) (c .before .before .before .before .before .before .before .before .before .before .before .before .before .before .start-accepted .ensures .0)
+    let p = c .before .before .before .before .before .before .before .before .before .before .before .before .before .before .before .before .before .before .before .before .before .before .before .before .pre in
+    let is = tested _ (p .4) (saturatedIn (c .before .before .before .before .before .before .before .before .before .before .before .before .before .before .before .before .before .before .before .before .before .before .before .before .args .z) _ _ _ _ _) (states-below (p .2 .stands)) (p .1) (p .3 .rounds-stand) (c .before .before .before .before .before .before .before .before .before .before .before .before .before .before .start-accepted .ensures .0)
     (c .before .before .before .before .before .before .before .before .before .before .before .before .before .is-won .ensures) in
-    let n = c .before .before .before .before .before .before .before .before .before .before in
     let x = named _ (p .4) (c .before .before .before .before .before .before .before .before .start-body .ensures) (c .before .before .before .before .before .before .before .start-at .ensures) in
-    leaves-walk _ _ is (not-false (c .before .before .before .before .before .before .before .before .before .before .before .before .before .is-won .result) (c .before .before .before .before .before .before .before .before .before .before .before .before .if1 .left)) (n .before .cells-lent .ensures)
-    (n .count-of .ensures .0 ∙ sym (cells-count _)) (c .before .before .before .before .before .before .before .before .before .if2 .left) x (c .before .before .before .before .walk-from .ensures)
+    leaves-walk _ _ is (not-false (c .before .before .before .before .before .before .before .before .before .before .before .before .before .is-won .result) (c .before .before .before .before .before .before .before .before .before .before .before .before .if1 .left)) (c .before .before .before .before .before .before .before .before .before .before .before .cells-lent .ensures)
+    (c .before .before .before .before .before .before .before .before .before .before .count-of .ensures .0 ∙ sym (cells-count _)) (c .before .before .before .before .before .before .before .before .before .if2 .left) x (c .before .before .before .before .walk-from .ensures)
 
 pub guide-with-rounds-spec : {M : Type 1} → statement M
 guide-with-rounds-spec =
@@ -88,6 +85,7 @@ guide-with-rounds-spec =
     (tie.spec
     start-accepted-requires
     is-won-requires
+    not-accepted-requires
     returns
     cells-lent-requires
     count-of-requires

@@ -1,4 +1,4 @@
--- The guided run from a start on a saturated table, as the code comes to it: no run, short at the start, or the walk.
+-- The guided run from a start on a table that is there, as the code comes to it: not accepted, short at the start, or the walk.
 -- Assumes nothing.
 use Prim.Native.Nat.{ℕ, _*_, _/_, _≤_, _<_, min}
 use mathlib.Core.Bool.{Bool, true, false}
@@ -10,13 +10,14 @@ use lib.ListN.{length}
 use Rattle.automata.specs.Saturation.{Saturated}
 use Rattle.replies.specs.declared.Acceptance.{Acceptance}
 use Rattle.replies.specs.declared.Reply.{Reply}
-use Rattle.replies.specs.declared.Reply.the-variants.{NoRun}
 use Rattle.replies.specs.declared.Halt.the-variants.{CellsShort}
 use Rattle.walks.specs.Guide.{Report, walkedBy, noRun, startWalk, guided}
 use Rattle.files.specs.Case.{rulesOf}
 use Rattle.files.specs.Start.{Start, startOf, startsOf, cellsOf, startAt}
 use Rattle.words.specs.Lists.{zeros}
-use Rattle.services.specs.Guide.{GuideInput, accepted, cellWords, cellsLent, startNamed, guideWalk, guideRun}
+use Rattle.words.specs.Laws.Tests.{by-test}
+use Rattle.services.specs.Judge.{moreToAdd}
+use Rattle.services.specs.Guide.{GuideInput, accepted, cellWords, cellsLent, startNamed, guideWalk, guideRun, openStart}
 use Rattle.services.specs.Guide.Laws.{walk-short, walk-goes}
 use Rattle.services.specs.Memory.Laws.{padded-none}
 use Rattle.bytes_in.specs.Records.{recordAt, bodyOf}
@@ -28,7 +29,7 @@ use Rattle.guided_walk.specs.Turns.{Leaves}
 use Rattle.sound_files.specs.Starts.{startRound}
 use Rattle.sound_files.specs.Sound.{StartSound}
 use Rattle.sound_files.specs.Sound.Rounds.{start-read, start-listed, start-since}
-use Rattle.guided_start.specs.Run.{guideInput, lentCells, shortAtStart}
+use Rattle.guided_start.specs.Run.{guideInput, tableInput, lentCells, shortAtStart, unaccepted}
 
 -- they are in the slice, and at most 4,096
 pub lent-fit : (words : ℕ) {c : ℕ} → c ≡ lentCells words → (c * 68 ≤ words) × (c ≤ 4096)
@@ -64,16 +65,18 @@ module _ (x : GuideInput) (there : x .number < length (startsOf (x .start))) whe
 
 -- ---- the run
 
--- it does not depend on the lengths of the tables
-pub run-tables : (case start : List ℕ) (number m m′ e e′ c t : ℕ) (T : Saturated)
-    → guideRun (guideInput case start number m e c t) T ≡ guideRun (guideInput case start number m′ e′ c t) T
+-- it does not depend on the lengths of the tables, nor on the rounds that are asked for
+pub run-tables : (case start : List ℕ) (number rounds m m′ e e′ c t : ℕ) (T : Saturated)
+    → guideRun (guideInput case start number rounds m e c t) T ≡ guideRun (tableInput case start number m′ e′ c t) T
 unfolding guideRun guideWalk cellsLent startNamed
-run-tables case start number m m′ e e′ c t T = refl
+run-tables case start number rounds m m′ e e′ c t T = refl
 
 module _ (x : GuideInput) (T : Saturated) where
-  pub run-no : accepted (T .table) (x .start) (startNamed x) ≡ false → guideRun x T ≡ noRun
-  unfolding guideRun
-  run-no e = rw (guideRun, e)
+  pub run-not : accepted (T .table) (x .start) (startNamed x) ≡ false → guideRun x T ≡ record { reply = unaccepted (moreToAdd (x .case) T); trace = [] }
+  unfolding guideRun unaccepted noRun openStart
+  run-not e =
+      rw (guideRun, e)
+      (by-test (moreToAdd (x .case) T) (λ m. rw (m, unaccepted) refl) (λ m. rw (m, unaccepted) refl))
 
   module _ (yes : accepted (T .table) (x .start) (startNamed x) ≡ true) where
     pub run-short : cellsLent x < length (cellsOf (x .start)) → guideRun x T ≡ walkedBy (CellsShort (record { steps = 0; cells = 0 })) []
@@ -93,9 +96,10 @@ unfolding cellsLent cellWords
 cells-are x = refl
 
 module _ (x : GuideInput) (T : Saturated) {t : Bool} (is : t ≡ accepted (T .table) (x .start) (startNamed x)) {trace : List ℕ} where
-  pub leaves-no : t ≡ false → trace ≡ zeros (x .trace) → Leaves (guideRun x T) (x .trace) NoRun trace
-  unfolding noRun
-  leaves-no f z = leaves-same (run-no x T (sym is ∙ f)) (record { reply-is = refl; trace-is = z ∙ sym (padded-none (x .trace)) })
+  pub leaves-not : t ≡ false → {more : Bool} → more ≡ moreToAdd (x .case) T → {r : Reply} → r ≡ unaccepted more → trace ≡ zeros (x .trace)
+      → Leaves (guideRun x T) (x .trace) r trace
+  leaves-not f m e z =
+      leaves-same (run-not x T (sym is ∙ f)) (record { reply-is = e ∙ ap unaccepted m; trace-is = z ∙ sym (padded-none (x .trace)) })
 
   module _ (yes : t ≡ true) {c n : ℕ} (lent : c ≡ lentCells (x .cells)) (count : n ≡ length (cellsOf (x .start))) where
     pub leaves-short : {r : Reply} → c < n → r ≡ shortAtStart → trace ≡ zeros (x .trace) → Leaves (guideRun x T) (x .trace) r trace

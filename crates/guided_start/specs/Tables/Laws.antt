@@ -1,6 +1,6 @@
 -- The tables that saturation leaves keep what a guided run asks of them.
 -- Assumes nothing.
-use Prim.Native.Nat.{ℕ, _/_, _≤_, min}
+use Prim.Native.Nat.{ℕ, _/_, _≤_, min, _+_}
 use mathlib.Core.Bool.{Bool, true}
 use mathlib.Core.Path.{_≡_}
 use mathlib.Core.List.{List}
@@ -27,19 +27,19 @@ reading-stands t =
       moves-few = t .few .moves-few;
     }
 
-pub tables-stand : {case : List ℕ} {m e : ℕ} {fits : Bool} {z : Table} {k : ℕ} {inner entries moves sizes : List ℕ}
-    → CaseSaturated case m e fits z k inner entries moves sizes → caseRefusal case ≡ 0 → fits ≡ true → length inner ≡ 192 → 2050 ≤ length sizes
-    → TablesStand z inner entries moves k sizes
+pub tables-stand : {case : List ℕ} {rounds m e : ℕ} {fits : Bool} {z : Table} {k : ℕ} {more : Bool} {inner entries moves sizes : List ℕ}
+    → CaseSaturated case rounds m e fits z k more inner entries moves sizes → caseRefusal case ≡ 0 → fits ≡ true → length inner ≡ 192 → 2050 ≤ length sizes
+    → TablesStand z inner entries moves (k + 1) sizes
 unfolding mostMoves
 tables-stand {m = m} {k = k} C sound f i l =
     let s = C .standing f in
     let a = s .edges .edges-lent in
     let b = s .moves-few in
     let d : min (m / 5) 1024 ≤ 1024 = min-le-right (m / 5) 1024 in
-    let n : k ≤ 1025 = C .sizes-few in
+    let n : k ≤ 1024 = C .sizes-few in
     record {
       stands = table-stands C sound f;
       few = record { moves-few = omega arith; edges-few = omega arith };
       sizes-lent = omega arith;
-      sizes-few = n;
+      sizes-few = omega arith;
     }
