@@ -4,6 +4,7 @@ pub mod Laws
 use Prim.Native.Nat.{ℕ}
 use mathlib.Core.List.{List}
 use Rattle.replies.specs.declared.Saturation.{Saturation}
+use Rattle.replies.specs.declared.Judged.{Judged}
 use Rattle.replies.specs.declared.Counts.{Counts}
 use Rattle.replies.specs.Numbers.{numberOf, replyCounts, replayNumber, replayStep, bracketsNumber, bracketsLength}
 use Rattle.services.specs.Guide.{GuideDone}
@@ -13,6 +14,10 @@ use Rattle.services.specs.Brackets.{BracketsDone}
 -- saturate's reply: the number returned and the two words written
 abbrev pub theReply : ℕ → ℕ → ℕ → Saturation
 theReply code moves entries = record { code = code; moves = moves; entries = entries }
+
+-- judge's reply: the number returned and the word written
+abbrev pub theJudged : ℕ → ℕ → Judged
+theJudged code rounds = record { code = code; rounds = rounds }
 
 -- guide's answer as a number and two counts, and all four lent slices afterwards
 pub record GuideAnswer : Type 0 where

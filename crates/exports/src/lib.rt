@@ -15,7 +15,7 @@ ghost use Rattle.brackets.specs.Service.{bracketsInput};
 ghost use Rattle.services.specs.Memory.{padded};
 ghost use Rattle.services.specs.Listing.{listingText};
 ghost use Rattle.start_file.specs.Checks.{filesOf};
-ghost use Rattle.exports.specs.Answers.{theReply, theCounts, theAnswer, answerOf, theReplay, replayOf, theBrackets, bracketsOf};
+ghost use Rattle.exports.specs.Answers.{theReply, theJudged, theCounts, theAnswer, answerOf, theReplay, replayOf, theBrackets, bracketsOf};
 use limits::Limits;
 
 // The service saturate: 0 with the numbers of moves and entries, or the number of a refusal with 0 and 0.
@@ -35,26 +35,31 @@ pub extern "C" fn analyser_saturate(
     r.code
 }
 
-// The service judge: 0, or the number of a refusal.
+// The service judge in at most `rounds` rounds: 0 with the number of rounds that added a move, or the number of a refusal with 0.
 #[no_mangle]
 pub extern "C" fn analyser_judge(
     case: &[u8],
     start: &[u8],
+    rounds: u64,
     moves: &mut [u64],
     entries: &mut [u64],
     answers: &mut [u16],
+    rounds_used: &mut u64,
 ) -> u64
-    ensures { λ r. ⌜ judgeDone r (now (moves .exit)) (now (entries .exit)) (now (answers .exit)) ≡ judgeService (judgeInput (now (case .entry)) (now (start .entry)) (length (now (moves .entry))) (length (now (entries .entry))) (length (now (answers .entry)))) ⌝ }
+    ensures { λ r. ⌜ judgeDone (theJudged r (now («rounds_used» .exit))) (now (moves .exit)) (now (entries .exit)) (now (answers .exit)) ≡ judgeService (judgeInput (now (case .entry)) (now (start .entry)) rounds (length (now (moves .entry))) (length (now (entries .entry))) (length (now (answers .entry)))) ⌝ }
 {
-    judge::judge(case, start, moves, entries, answers)
+    let r = judge::judge(case, start, rounds, moves, entries, answers);
+    *rounds_used = r.rounds;
+    r.code
 }
 
-// The service guide from start `number`: the number of its answer, with the steps taken and the cells used, 0 and 0 where it counts none.
+// The service guide from start `number`, in at most `rounds` rounds: the number of its answer, with the steps taken and the cells used, 0 and 0 where it counts none.
 #[no_mangle]
 pub extern "C" fn analyser_guide(
     case: &[u8],
     start: &[u8],
     number: u64,
+    rounds: u64,
     moves: &mut [u64],
     entries: &mut [u64],
     cells: &mut [u16],
@@ -62,9 +67,18 @@ pub extern "C" fn analyser_guide(
     steps: &mut u64,
     cells_used: &mut u64,
 ) -> u64
-    ensures { λ r. ⌜ theAnswer r (theCounts (now (steps .exit)) (now («cells_used» .exit))) (now (moves .exit)) (now (entries .exit)) (now (cells .exit)) (now (trace .exit)) ≡ answerOf (guideService (guideInput (now (case .entry)) (now (start .entry)) number (length (now (moves .entry))) (length (now (entries .entry))) (length (now (cells .entry))) (length (now (trace .entry))))) ⌝ }
+    ensures { λ r. ⌜ theAnswer r (theCounts (now (steps .exit)) (now («cells_used» .exit))) (now (moves .exit)) (now (entries .exit)) (now (cells .exit)) (now (trace .exit)) ≡ answerOf (guideService (guideInput (now (case .entry)) (now (start .entry)) number rounds (length (now (moves .entry))) (length (now (entries .entry))) (length (now (cells .entry))) (length (now (trace .entry))))) ⌝ }
 {
-    let reply = guide::guide(case, start, number as usize, moves, entries, cells, trace);
+    let reply = guide::guide(
+        case,
+        start,
+        number as usize,
+        rounds,
+        moves,
+        entries,
+        cells,
+        trace,
+    );
     let counts = reply_numbers::counts_of(reply);
     *steps = counts.steps;
     *cells_used = counts.cells;

@@ -1,4 +1,4 @@
-// The text that the printing program prints for a case file and a start file. The case is saturated once, the words of the start file's cells are
+// The text that the printing program prints for a case file and a start file. The case is saturated once, in all rounds, the words of the start file's cells are
 // worked out once, and every start is guided by them.
 ghost use mathlib.Core.Path.{_≡_};
 ghost use Prim.Native.Nat.{_+_, _*_, _≤_, _<_};
@@ -62,6 +62,7 @@ fn start_line(
         moves,
         sizes,
         k,
+        false,
         rounds,
         &mut cells,
         &mut trace,
@@ -166,6 +167,7 @@ fn sound_listing(case: &[u8], start: &[u8], text: &mut [u8]) -> usize
     let mut sizes = [0u64; Limits::SIZE_TABLE];
     let r = saturate::saturate_case(
         case,
+        Limits::ALL_ROUNDS,
         &mut inner,
         &mut entries,
         &mut moves,
@@ -176,7 +178,7 @@ fn sound_listing(case: &[u8], start: &[u8], text: &mut [u8]) -> usize
         return text::put_refused(text, 0, 9);
     }
     let z = r.table;
-    let k = r.sizes;
+    let k = r.rounds + 1;
     table_lines(case, start, z, &inner, &entries, &moves, &sizes, k, text)
 }
 

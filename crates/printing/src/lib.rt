@@ -38,21 +38,22 @@ pub fn read_listing(
     listing_text::listing(&case[..c], &start[..s], text)
 }
 
-// Reads the files with these names and writes the run from the start of this number into the text. Answers its length.
+// Reads the files with these names and writes the run from the start of this number, in so many rounds, into the text. Answers its length.
 pub fn read_run(
     case_path: &[u8],
     start_path: &[u8],
     number: usize,
+    rounds: u64,
     text: &mut [u8; Limits::RUN_TEXT],
 ) -> usize
-    ensures { λ r. ⌜ TextRead (λ f. runText f number) r (now (text .exit)) ⌝ }
+    ensures { λ r. ⌜ TextRead (λ f. runText f number rounds) r (now (text .exit)) ⌝ }
     ensures counts { λ r. ⌜ Counts r (now (text .exit)) ⌝ }
 {
     let mut case = [0u8; Limits::CASE_FILE + 1];
     let mut start = [0u8; Limits::START_FILE + 1];
     let c = read_file(case_path, &mut case);
     let s = read_file(start_path, &mut start);
-    run_text::run_text(&case[..c], &start[..s], number, text)
+    run_text::run_text(&case[..c], &start[..s], number, rounds, text)
 }
 
 // Reads the files with these names and writes the start of this number as brackets into the text. Answers its length.

@@ -42,12 +42,13 @@ same-length c = search needs
 
 returns : tie.Need-returns
 returns c =
-    let t = c .before .before .before .before in
-    let s = t .before .before .before .before .before .before .before in
-    let e = s .before .before .before .before .before .before .before .before .before in
+    let s = c .before .before .before .before .before .before .before .before .before .before .before .saturate-case in
     let w = c .before .before .put-refused .ensures in
-    let large = table-none (s .saturate-case .ensures) (not-true (s .saturate-case .result .fits) (t .if1 .taken)) in
-    (written-same (listing-exceeded _ _ (e .pre .0) large) (w .0), omega arith)
+    let large = table-none (s .ensures) (not-true (s .result .fits) (c .before .before .before .before .if1 .taken)) in
+    (written-same (listing-exceeded _ _ (c .before .before .before .before .before .before .before .before .before .before .before .before .before .before .before .before .before .before .before .before .pre .0) large) (w .0), omega arith)
+
+add-k : tie.Need-add-k
+add-k c = omega (arith, c .before .before .before .before .before .before .before .before .before .saturate-case .ensures .sizes-few)
 
 slice-aggregate-table-lines : tie.Need-slice-aggregate-table-lines
 slice-aggregate-table-lines c = search needs
@@ -63,12 +64,10 @@ slice-aggregate-table-lines-4 c = search needs
 
 table-lines-requires : tie.Need-table-lines-requires
 table-lines-requires c κs =
-    let t = c .before .before .before .before .before .before in
-    let s = t .before .before .before .before .before .before .before in
-    let e = s .before .before .before .before .before .before .before .before .before in
-    let k = s .saturate-case .kept in
-    let fits = not-false (s .saturate-case .result .fits) (t .if1 .left) in
-    (prepared (e .pre .0) (s .saturate-case .ensures) fits (k .1 .0) (k .1 .1 .1 .1 .1 .0), search needs)
+    let s = c .before .before .before .before .before .before .before .before .before .before .before .before .before .before .saturate-case in
+    let k = s .kept in
+    let fits = not-false (s .result .fits) (c .before .before .before .before .before .before .before .if1 .left) in
+    (prepared (c .before .before .before .before .before .before .before .before .before .before .before .before .before .before .before .before .before .before .before .before .before .before .before .pre .0) (s .ensures) fits (k .1 .1 .0) (k .1 .1 .1 .1 .1 .1 .0), c .before .before .before .before .before .before .before .before .before .before .before .before .before .before .before .before .before .before .before .before .before .before .before .pre .1)
 
 same-length-2 : tie.Need-same-length-2
 same-length-2 c = search needs
@@ -89,6 +88,7 @@ sound-listing-spec =
     put-refused-requires
     same-length
     returns
+    add-k
     slice-aggregate-table-lines
     slice-aggregate-table-lines-2
     slice-aggregate-table-lines-3

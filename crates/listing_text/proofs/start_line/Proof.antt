@@ -1,8 +1,9 @@
 -- `listing_text::start_line` meets its contract.
 -- Assumes nothing.
-use mathlib.Core.Path.{refl}
+use mathlib.Core.Path.{refl, sym}
 use native.Mathlib.Omega.{arith}
 use Rattle.words.specs.Lists.{zeros}
+use Rattle.automata.specs.Saturation.{allRounds}
 use Rattle.demands.specs.Laws.Accepted.{round-small}
 use Rattle.start_file.specs.Checks.{filesOf}
 use Rattle.text.specs.Written.Laws.{written-same}
@@ -23,7 +24,7 @@ unfolding zeros
 guide-with-rounds-requires c κs =
     let p = c .before .before .before .before .before .before .before .before .before .before .pre in
     let s = p .0 .sound in
-    (s .sound-case, start-sound s, p .0 .tables, p .1, p .2, refl)
+    (s .sound-case, start-sound s, p .0 .tables, p .1, p .2, refl, sym (p .0 .nothing-left))
 
 start-accepted-requires : tie.Need-start-accepted-requires
 start-accepted-requires c κs = let p = c .before .before .before .before .before .before .before .before .before .before .before .before .before .pre in (start-sound (p .0 .sound), p .2, p .1 .rounds-lent)
@@ -33,11 +34,10 @@ round-of-requires c κs = search needs
 
 put-reply-line-requires : tie.Need-put-reply-line-requires
 put-reply-line-requires c κs =
-    let s = c .before .before .before .before .before .before .before .before .before .before .before .before .before .before .before .before in
-    let p = s .pre in
+    let p = c .before .before .before .before .before .before .before .before .before .before .before .before .before .before .before .before .pre in
     let few = starts-few (p .0 .sound) in
     let is = round-won _ _ (p .0) (p .1) (p .2) (c .before .before .start-accepted .ensures .0) (c .before .round-of .ensures) in
-    let small = round-small (filesOf (s .args .case .now) (s .args .start .now)) (s .args .n) in
+    let small = round-small (filesOf (c .before .before .before .before .before .before .before .before .before .before .before .before .before .before .before .before .args .case .now) (c .before .before .before .before .before .before .before .before .before .before .before .before .before .before .before .before .args .start .now)) allRounds (c .before .before .before .before .before .before .before .before .before .before .before .before .before .before .before .before .args .n) in
     (omega arith, omega arith, search needs)
 
 same-length : tie.Need-same-length

@@ -9,7 +9,7 @@ use native.Mathlib.Omega.{arith}
 use lib.ListN.{length}
 use lib.Dec.{eqb}
 use borrow.Author.Tests.{eq-eqb, ne-eqb}
-use Rattle.automata.specs.Saturation.{Saturated}
+use Rattle.automata.specs.Saturation.{Saturated, allRounds}
 use Rattle.replies.specs.declared.Acceptance.{Acceptance}
 use Rattle.replies.specs.declared.Saturation.{Saturation}
 use Rattle.replies.specs.declared.Reply.{Reply}
@@ -35,26 +35,25 @@ use Rattle.sound_files.specs.Sound.Rounds.{start-listed, start-since}
 use Rattle.sound_files.specs.Refusal.{FilesSound, filesRefusal, refusedBefore}
 use Rattle.sound_files.specs.Refusal.Laws.{by-files}
 use Rattle.sound_files.specs.Saturated.{lentOf}
-use Rattle.judge.specs.Marks.{markOf}
 use Rattle.judge.specs.Service.Cases as judge
-use Rattle.judge.specs.Service.Words.{word-is}
+use Rattle.judge.specs.Service.Words.{round-is}
 use Rattle.saturation.specs.Held.{saturatedIn}
 use Rattle.guided_start.specs.Walk.{StartRounds}
-use Rattle.guided_start.specs.Run.{guideInput}
+use Rattle.guided_start.specs.Run.{tableInput}
 use Rattle.guided_start.specs.Run.Laws.{run-tables}
 use Rattle.guide.specs.Service.Cases.{answers-guided}
 use Rattle.listing_text.specs.Prepared.{TableReady}
 
 -- ---- by the number with which judge refuses
 
-text-refused : (f : Files) (n : ℕ) → judgeService (listingJudge f) .code ≡ n → (n ≡ 0 → ⊥) → listingText f ≡ refusedText n
+text-refused : (f : Files) (n : ℕ) → judgeService (listingJudge f allRounds) .code ≡ n → (n ≡ 0 → ⊥) → listingText f ≡ refusedText n
 unfolding listingText
 text-refused f n e h =
     ap (λ (m : ℕ). elim (eqb m 0) [ true ↦ judgedText f | false ↦ refusedText m ]) e ∙ rw (ne-eqb n 0 h)
 
-text-judged : (f : Files) → judgeService (listingJudge f) .code ≡ 0 → listingText f ≡ judgedText f
+text-judged : (f : Files) → judgeService (listingJudge f allRounds) .code ≡ 0 → listingText f ≡ judgedText f
 unfolding listingText
-text-judged f e = rw (listingText, eq-eqb (judgeService (listingJudge f) .code) 0 e)
+text-judged f e = rw (listingText, eq-eqb (judgeService (listingJudge f allRounds) .code) 0 e)
 
 module _ (case start : List ℕ) where
   abbrev files : Files
@@ -64,12 +63,12 @@ module _ (case start : List ℕ) where
   unfolding listingJudge judgeLeft
   listing-refused {n} is h =
       let e : n ≡ refusedBefore case start 64 8 0 = by-files case start 64 8 0 is h in
-      sym (text-refused files n (ap (λ d. d .code) (judge.answers-refused (listingJudge files) (λ z. h (e ∙ z))) ∙ sym e) h)
+      sym (text-refused files n (ap (λ d. d .code) (judge.answers-refused (listingJudge files allRounds) (λ z. h (e ∙ z))) ∙ sym e) h)
 
-  pub listing-exceeded : FilesSound case start → saturated (lentOf case (1024 * 5) (64 * entryWidth)) ≡ none → refusedText 9 ≡ listingText files
+  pub listing-exceeded : FilesSound case start → saturated (lentOf case (1024 * 5) (64 * entryWidth)) allRounds ≡ none → refusedText 9 ≡ listingText files
   unfolding listingJudge judgeLeft judgeLent
   listing-exceeded s h =
-      sym (text-refused files 9 (ap (λ d. d .code) (judge.answers-exceeded (listingJudge files) s (starts-few s) h)) (omega arith))
+      sym (text-refused files 9 (ap (λ d. d .code) (judge.answers-exceeded (listingJudge files allRounds) s (starts-few s) h)) (omega arith))
 
   module _ {z : Table} {inner entries moves : List ℕ} {k : ℕ} {sizes : List ℕ} (prepared : TableReady case start z inner entries moves k sizes) where
     abbrev T : Saturated
@@ -95,27 +94,27 @@ module _ (case start : List ℕ) where
     unfolding listingLent listingJudge judgeLeft judgeLent judgedText
     listing-judged is =
         ap₂ (λ (r : Saturation) (k : ℕ). sizeLine r ++ mostLine k ++ startLines files 0 (length (startsOf start))) (sym sizes-are) (is ∙ most-is)
-        ∙ sym (text-judged files (ap (λ d. d .code) (judge.answers-judged (listingJudge files) (prepared .sound) (starts-few (prepared .sound)) (prepared .table-is))))
+        ∙ sym (text-judged files (ap (λ d. d .code) (judge.answers-judged (listingJudge files allRounds) (prepared .sound) (starts-few (prepared .sound)) (prepared .table-is))))
 
     -- the round of a start, by the words of the cells
     pub round-won : {rounds : List ℕ} {n r : ℕ} {a : Acceptance} → StartRounds z inner entries moves k sizes start rounds → n < length (startsOf start)
-        → a ≡ startRound rounds (startAt start n) → r ≡ answerWord a - 1 → r ≡ roundWon files n
-    unfolding roundWon listingJudge judgeLent markOf
+        → a ≡ startRound rounds (startAt start n) → r ≡ answerWord a - 1 → r ≡ roundWon files allRounds n
+    unfolding roundWon listingJudge judgeLent
     round-won {n = n} R l e f =
         f
         ∙ ap (λ (b : Acceptance). answerWord b - 1)
         (e
         ∙ start-since T (states-below (prepared .tables .stands)) start (start-sound (prepared .sound)) (R .rounds-stand) (startAt start n)
         (start-listed start n l))
-        ∙ ap (λ (w : ℕ). w - 1) (sym (word-is (listingJudge files) (prepared .sound) (starts-few (prepared .sound)) (prepared .table-is) n l))
+        ∙ sym (round-is (listingJudge files allRounds) (prepared .sound) (starts-few (prepared .sound)) (prepared .table-is) n l)
 
     -- the line of a start is that of the reply of its run, whatever the lengths m and e of the tables
     pub line-guided : (n m e : ℕ) {r : ℕ} {reply : Reply} → n < length (startsOf start)
-        → r ≡ roundWon files n → reply ≡ guideRun (guideInput case start n m e (512 * 68) 1024) T .reply → replyLine n r reply ≡ startLine files n
+        → r ≡ roundWon files allRounds n → reply ≡ guideRun (tableInput case start n m e (512 * 68) 1024) T .reply → replyLine n r reply ≡ startLine files n
     unfolding listingGuide guideLent guideLeft cellWords
     line-guided n m e h round is =
         ap₂ (replyLine n) round
         (is
-        ∙ ap (λ o. o .reply) (run-tables case start n m (1024 * 5) e (64 * entryWidth) (512 * 68) 1024 T)
+        ∙ sym (ap (λ o. o .reply) (run-tables case start n allRounds (1024 * 5) m (64 * entryWidth) e (512 * 68) 1024 T))
         ∙ sym (ap (λ d. d .reply) (answers-guided (listingGuide files n) (prepared .sound) h (prepared .table-is))))
         ∙ sym (startLine-is files n)

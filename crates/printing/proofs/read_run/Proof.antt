@@ -34,7 +34,7 @@ run-text-requires : tie.Need-run-text-requires
 run-text-requires c κs = search needs
 
 returns : tie.Need-returns
-returns c = let w = c .run-text .ensures in text-read (λ f. runText f _) _ _ (w .0) (w .1 .0) (w .1 .1)
+returns c = let w = c .run-text .ensures in text-read (λ f. runText f _ _) _ _ (w .0) (w .1 .0) (w .1 .1)
 
 pub read-run-spec : {M : Type 1} → statement M
 read-run-spec =

@@ -36,13 +36,12 @@ slice-aggregate-put-answer c = search needs
 put-answer-requires : tie.Need-put-answer-requires
 put-answer-requires c κs =
     let g = c .before .before .before .before .before .before .before .guide-won in
-    let start = c .before .before .before .before .before .before .before .before .before .before .before .before .before .before .before in
-    let long = g .kept .1 .1 .1 .1 .1 .1 .0 in
-    let is = round-is _ _ _ (g .ensures .1) (c .before .before .round-of .ensures) in
-    let small = round-small (filesOf (start .args .case .now) (start .args .start .now)) (start .args .number) in (
-      subst (λ (k : ℕ). Bounded (start .args .number) k (g .result .reply)) (sym long) (answer-bounded _ _ _ (g .ensures .0)),
+    let long = g .kept .1 .1 .1 .1 .1 .1 .1 .0 in
+    let is = round-is _ _ _ _ (g .ensures .1) (c .before .before .round-of .ensures) in
+    let small = round-small (filesOf (c .before .before .before .before .before .before .before .before .before .before .before .before .before .before .before .args .case .now) (c .before .before .before .before .before .before .before .before .before .before .before .before .before .before .before .args .start .now)) (c .before .before .before .before .before .before .before .before .before .before .before .before .before .before .before .args .rounds) (c .before .before .before .before .before .before .before .before .before .before .before .before .before .before .before .args .number) in (
+      subst (λ (k : ℕ). Bounded (c .before .before .before .before .before .before .before .before .before .before .before .before .before .before .before .args .number) k (g .result .reply)) (sym long) (answer-bounded _ _ _ _ (g .ensures .0)),
       omega arith,
-      text-room long (start .pre),
+      text-room long (c .before .before .before .before .before .before .before .before .before .before .before .before .before .before .before .pre),
     )
 
 same-length : tie.Need-same-length
@@ -52,8 +51,8 @@ returns : tie.Need-returns
 returns c =
     let g = c .before .before .before .before .before .before .before .before .before .before .guide-won in
     let w = c .before .before .put-answer .ensures in
-    let long = g .kept .1 .1 .1 .1 .1 .1 .0 in
-    (written-same (answer-is _ _ _ (g .ensures .0) (round-is _ _ _ (g .ensures .1) (c .before .before .before .before .before .round-of .ensures))) (w .0), text-within long (w .1))
+    let long = g .kept .1 .1 .1 .1 .1 .1 .1 .0 in
+    (written-same (answer-is _ _ _ _ (g .ensures .0) (round-is _ _ _ _ (g .ensures .1) (c .before .before .before .before .before .round-of .ensures))) (w .0), text-within long (w .1))
 
 pub put-run-spec : {M : Type 1} → statement M
 put-run-spec =

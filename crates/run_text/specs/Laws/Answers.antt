@@ -9,25 +9,25 @@ use Rattle.services.specs.Memory.{entryWidth}
 use Rattle.services.specs.Guide.{GuideDone, guideService, cellWords}
 use Rattle.start_file.specs.Checks.{filesOf}
 use Rattle.guided_start.specs.Run.{guideInput}
-use Rattle.guide.specs.Service.{guideDone, judgedWord}
+use Rattle.guide.specs.Service.{guideDone, judgedRound}
 use Rattle.services.specs.Listing.{listingJudge, roundWon}
 use Rattle.services.specs.Run.{runGuide, answerText, runText}
 use Rattle.answer_text.specs.Bounds.{Bounded}
 use Rattle.run_text.specs.Laws.Bounds.{guide-bounded}
 
 -- the round of the answer, by judge's word
-pub round-is : (case start : List ℕ) (number : ℕ) {w r : ℕ} → w ≡ judgedWord case start number (1024 * 5) (64 * entryWidth) → r ≡ w - 1
-    → r ≡ roundWon (filesOf case start) number
+pub round-is : (case start : List ℕ) (number rounds : ℕ) {w r : ℕ} → w ≡ judgedRound case start number rounds (1024 * 5) (64 * entryWidth) → r ≡ w
+    → r ≡ roundWon (filesOf case start) rounds number
 unfolding roundWon listingJudge
-round-is case start number is e = e ∙ ap (λ (w : ℕ). w - 1) is
+round-is case start number rounds is e = e ∙ is
 
-module _ (case start : List ℕ) (number : ℕ) {reply : Reply} {moves entries cells trace : List ℕ}
-    (is : guideDone reply moves entries cells trace ≡ guideService (guideInput case start number (1024 * 5) (64 * entryWidth) (4096 * 68) 65536)) where
+module _ (case start : List ℕ) (number rounds : ℕ) {reply : Reply} {moves entries cells trace : List ℕ}
+    (is : guideDone reply moves entries cells trace ≡ guideService (guideInput case start number rounds (1024 * 5) (64 * entryWidth) (4096 * 68) 65536)) where
   pub answer-bounded : Bounded number 65536 reply
   answer-bounded =
-      subst (Bounded number 65536) (sym (ap (λ (d : GuideDone). d .reply) is)) (guide-bounded (guideInput case start number (1024 * 5) (64 * entryWidth) (4096 * 68) 65536))
+      subst (Bounded number 65536) (sym (ap (λ (d : GuideDone). d .reply) is)) (guide-bounded (guideInput case start number rounds (1024 * 5) (64 * entryWidth) (4096 * 68) 65536))
 
-  pub answer-is : {r : ℕ} → r ≡ roundWon (filesOf case start) number → answerText number r reply trace ≡ runText (filesOf case start) number
+  pub answer-is : {r : ℕ} → r ≡ roundWon (filesOf case start) rounds number → answerText number r reply trace ≡ runText (filesOf case start) number rounds
   unfolding runText runGuide cellWords
   answer-is e = ap₂ (λ (r : ℕ) (d : GuideDone). answerText number r (d .reply) (d .trace)) e is
 

@@ -12,8 +12,8 @@ use Rattle.replies.specs.Numbers.{countsOf}
 use Rattle.walks.specs.Guide.{Walk, counts, walkedBy, noRun, guided}
 use Rattle.guidance.specs.Run.{by-next}
 use Rattle.files.specs.Start.{startsOf}
-use Rattle.services.specs.Guide.{GuideInput, GuideDone, guideFiles, guideLeft, refused, guideService}
-use Rattle.services.specs.Guide.Laws.{Started, GuideCase, case-refused, start-refused, start-missing, size-exceeded, no-run, cells-short, walked, guide-cases}
+use Rattle.services.specs.Guide.{GuideInput, GuideDone, guideFiles, openStart, guideLeft, refused, guideService}
+use Rattle.services.specs.Guide.Laws.{Started, GuideCase, case-refused, start-refused, start-missing, size-exceeded, no-run, is-open, cells-short, walked, guide-cases}
 use Rattle.sound_files.specs.Sound.Laws.{starts-few}
 use Rattle.answer_text.specs.Bounds.{Bounded}
 
@@ -41,12 +41,13 @@ module _ (x : GuideInput) where
       omega arith
 
   case-bounded : {d : GuideDone} → GuideCase x d → Bounded (x .number) (x .trace) (d .reply)
-  unfolding guideLeft refused walkedBy noRun Bounded countsOf
+  unfolding guideLeft refused walkedBy noRun openStart Bounded countsOf
   case-bounded (case-refused h) = tt
   case-bounded (start-refused c h) = tt
   case-bounded (start-missing c s h) = tt
   case-bounded (size-exceeded c s h e) = tt
-  case-bounded (no-run T s a) = number-few s
+  case-bounded (no-run T s a m) = number-few s
+  case-bounded (is-open T s a m) = number-few s
   case-bounded (cells-short T s a l) = (number-few s, omega arith)
   case-bounded (walked T s a l) = guided-bounded (x .number) (number-few s) _ T _ (x .trace) [] _ (x .trace) (omega arith)
 
