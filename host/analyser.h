@@ -1,6 +1,6 @@
 /*
  * The script analyser for the bench host: target/staticlib/libexports.a, which
- * `rt staticlib exports` writes. Documents 01 and 02 (requests 1 to 7) say what
+ * `rt staticlib exports` writes. Documents 01 and 02 (requests 1 to 8) say what
  * the five services do; this page says the same for a caller in C. crates/exports
  * proves each call equal to its definition; what this page says of numbers, words,
  * counts, rounds, runs and texts are the theorems of crates/demands about these definitions
@@ -22,8 +22,8 @@
  * is lent after the last whole record is written too, with zero.
  *
  *   moves    5 words a move: order-1 state, symbol, annotation order, annotation
- *            set, rest set. A saturated table with more than 1,024 moves is
- *            refused with 9 whatever is lent; every other fits 5,120 words.
+ *            set, rest set. A table with more than 1,024 moves is refused with 9
+ *            whatever is lent; every other fits 5,120 words.
  *   entries  3 words an entry: control, set of order-2 states, and the number of
  *            the table's moves whose order-1 state is that entry. A table with more
  *            than 64 order-1 states is refused with 9; every other fits 192 words.
@@ -36,6 +36,13 @@
  *
  * Files, and the trace that replay reads, are only read. A set is a word with bit n
  * for state n. A missing file is one of length 0.
+ *
+ * Rounds. Round 0 is the case's own table; each round adds moves to it, until one adds
+ * none. Judge and guide take a number of rounds and work on the table after at most as
+ * many; saturate and the listing run all. 1,025 rounds and more are all rounds, since a
+ * table of at most 1,024 moves has at most 1,024 rounds that add one; where the case
+ * has a move of its own, 1,024 are all too. Refusal 9 is about the table of the rounds
+ * run: whether a round after them would fit is not asked.
  *
  * A case whose first byte is 5 carries a record of eight bytes, its tool's codes
  * for our operations 1 to 8; its rules are read by these codes alone. Unless it is
@@ -68,9 +75,15 @@ extern "C" {
 /* Bytes of a listing. */
 #define ANALYSER_LISTING_BYTES 4306
 
+/* A number of rounds by which all are run. */
+#define ANALYSER_ALL_ROUNDS UINT64_MAX
+
+/* The word that judge writes for an open start. */
+#define ANALYSER_OPEN_WORD 65535
+
 /* The documents' sentence for each refusal; 3 is for a code that is not in the
-   record too, 4 for a second entry, 7 for replay and brackets, and 8 counts words,
-   as document 02 asks: REFUSAL(number, sentence). */
+   record too, 4 for a second entry, 7 for replay and brackets, 8 counts words, and 9
+   is about the rounds run, as document 02 asks: REFUSAL(number, sentence). */
 #define ANALYSER_REFUSALS(REFUSAL) \
     REFUSAL(1, "the case's first byte, contents table, a count or the length is wrong") \
     REFUSAL(2, "a field of case body 1 is out of range") \
@@ -80,7 +93,7 @@ extern "C" {
     REFUSAL(6, "a start or cell is out of range, refers to a cell of the wrong order, or fills an unused field") \
     REFUSAL(7, "guide, replay, brackets: the start named is not in the file") \
     REFUSAL(8, "judge: fewer answer words than starts") \
-    REFUSAL(9, "the saturated table has more moves than lent or than 1,024, more entries than lent, or more than 64 order-1 states") \
+    REFUSAL(9, "the saturated table, or the table of the rounds run, has more moves than lent or than 1,024, more entries than lent, or more than 64 order-1 states") \
     REFUSAL(10, "the trace has an odd number of bytes") \
     REFUSAL(11, "the replay needs more cells than lent or than 4,096") \
     REFUSAL(12, "the eight bytes of the record of operation codes are not all different, or one is zero") \
@@ -91,6 +104,7 @@ extern "C" {
 #define ANALYSER_TRACE_FULL 256
 #define ANALYSER_CELLS_SHORT 257
 #define ANALYSER_NO_RUN 258
+#define ANALYSER_OPEN 259
 
 /* Answers of replay that are no refusals. */
 #define ANALYSER_ACCEPTED 0
@@ -114,27 +128,40 @@ uint64_t analyser_saturate(
     uint64_t *moves_used, uint64_t *entries_used);
 
 /*
- * Judge: marks each start of the start file.
+ * Judge: marks each start of the start file by the table after at most so many rounds.
  *
  * Returns 0, or the refusal 1 to 6, 8, 9 or 12. After 0, answers begins with a word
- * for each start, in file order: 0 if no finite run of the case's rules leads
- * from the start into the target, otherwise 1 more than the least round whose
- * table accepts the start; the words after them are zero. Round 0 is the case's
- * own table, and a word is at most 1,025. The word of a start whose stack is empty,
- * or whose top order-1 stack is, is 1 if it lies in the target and otherwise 0.
- * After a refusal answers is zero. moves and entries are working memory, zero after
- * every call.
+ * for each start, in file order; the words after them are zero.
+ *
+ *   1 to 1,025          yes: one more than the least round whose table accepts the
+ *                       start, which is at most rounds. A finite run of the case's
+ *                       rules leads from the start into the target.
+ *   0                   no: not accepted, and nothing is left to add. No finite run
+ *                       leads from the start into the target.
+ *   ANALYSER_OPEN_WORD  open: not accepted, while one round more would add a move,
+ *                       whichever. There may be a run or none.
+ *
+ * *rounds_used is the number of the rounds run that added something; a last one that
+ * added nothing does not count. Raising rounds never changes a word other than
+ * ANALYSER_OPEN_WORD while the call is not refused. The word of a start whose stack is
+ * empty, or whose top order-1 stack is, is 1 if it lies in the target and otherwise 0
+ * or ANALYSER_OPEN_WORD.
+ *
+ * After a refusal answers is zero, and *rounds_used is 0. moves and entries are working
+ * memory, zero after every call.
  */
 uint64_t analyser_judge(
     const uint8_t *case_file, size_t case_length,
     const uint8_t *start_file, size_t start_length,
+    uint64_t rounds,
     uint64_t *moves, size_t moves_length,
     uint64_t *entries, size_t entries_length,
-    uint16_t *answers, size_t answers_length);
+    uint16_t *answers, size_t answers_length,
+    uint64_t *rounds_used);
 
 /*
- * Guide: writes the rules of a run from one start into the target. Starts are
- * numbered from 0 in file order, rules likewise.
+ * Guide: writes the rules of a run from one start into the target, by the table after
+ * at most so many rounds. Starts are numbered from 0 in file order, rules likewise.
  *
  * Returns the refusal 1 to 7, 9 or 12, or one of these:
  *
@@ -143,26 +170,30 @@ uint64_t analyser_judge(
  *   ANALYSER_CELLS_SHORT  the start file's cells, or those used and the next
  *                         step's together, are more than lent
  *   ANALYSER_NO_RUN       no run leads from the start into the target: judge,
- *                         with the same files and tables, marks it 0
+ *                         with the same files, rounds and tables, marks it 0
+ *   ANALYSER_OPEN         the start is open: judge, with the same, marks it
+ *                         ANALYSER_OPEN_WORD. This and no run are tested before the
+ *                         cells lent
  *
  * After the first three, trace begins with the numbers of the *steps rules that
  * the run applies first, one a step, and *cells_used is the number of the start
  * file's cells and of the new cells of those steps; if not even the start file's
- * cells are lent, both counts are 0. After ANALYSER_NO_RUN and after a refusal
- * both counts are 0. All trace words from *steps on are zero. moves, entries and
- * cells are working memory, zero after every call.
+ * cells are lent, both counts are 0. After ANALYSER_NO_RUN, ANALYSER_OPEN and a
+ * refusal both counts are 0. All trace words from *steps on are zero. moves, entries
+ * and cells are working memory, zero after every call.
  *
  * No step leaves an empty stack or an empty top order-1 stack: a run that comes
  * there has arrived, and a start that is there and marked yes has a run of no step.
  *
- * The run of a start is always the same one, whatever tables, cells and trace are
- * lent: with more cells or a longer trace the guide writes no fewer of its steps,
- * and it arrives exactly when they suffice.
+ * The run is a function of the case, the start file, the start's number and rounds,
+ * whatever tables, cells and trace are lent: with more cells or a longer trace the guide
+ * writes no fewer of its steps, and it arrives exactly when they suffice. With another
+ * number of rounds it may be another run.
  */
 uint64_t analyser_guide(
     const uint8_t *case_file, size_t case_length,
     const uint8_t *start_file, size_t start_length,
-    uint64_t number,
+    uint64_t number, uint64_t rounds,
     uint64_t *moves, size_t moves_length,
     uint64_t *entries, size_t entries_length,
     uint16_t *cells, size_t cells_length,
@@ -194,8 +225,8 @@ uint64_t analyser_guide(
  *
  * A trace is accepted exactly if it is a run of the case's rules from the start
  * that ends in the target, and its cells suffice. What the guide wrote for the same
- * files and start, if it arrived, is accepted if at least as many cells are lent as
- * the guide says it used.
+ * files and start, if it arrived, after whichever number of rounds, is accepted if at
+ * least as many cells are lent as the guide says it used.
  */
 uint64_t analyser_replay(
     const uint8_t *case_file, size_t case_length,
@@ -241,8 +272,8 @@ uint64_t analyser_brackets(
 /*
  * Listing: the text that the printing program prints for two files, with the
  * memory that document 01 lends to it. text points to ANALYSER_LISTING_BYTES
- * bytes; no listing is longer. The second line is `most` and the largest third word
- * of the table's entries, 0 without entries; a refusal is one line.
+ * bytes; no listing is longer. All rounds are run. The second line is `most` and the
+ * largest third word of the table's entries, 0 without entries; a refusal is one line.
  *
  * Returns the length of the text. The bytes after it are zero.
  */

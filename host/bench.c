@@ -1,8 +1,10 @@
 /*
- * A small bench host: reads a case file and a start file, saturates, judges, prints
- * the stack of each start as brackets, and guides from each that is marked yes. A
- * run that arrived is replayed, as the guide wrote it and with a rule number behind
- * it that no case has. Prints what it gets.
+ * A small bench host: reads a case file and a start file, saturates, judges by all
+ * rounds and up to each of the first few, prints the stack of each start as brackets,
+ * and guides from each that is marked yes: by all rounds, up to the round in which it is
+ * won, and up to the one before, where it is open. A run by all rounds that arrived is
+ * replayed, as the guide wrote it and with a rule number behind it that no case has.
+ * Prints what it gets.
  *
  * usage: bench CASE START
  *
@@ -25,6 +27,9 @@
 #define CELLS 512
 #define STEPS 1024
 #define TEXT_BYTES 65536
+
+/* The last of the first few rounds. */
+#define FEW 4
 
 struct file {
     uint8_t bytes[MOST_BYTES];
@@ -69,6 +74,7 @@ static const char *words_for(uint64_t answer)
     case ANALYSER_TRACE_FULL: return "trace full";
     case ANALYSER_CELLS_SHORT: return "cells short";
     case ANALYSER_NO_RUN: return "no run";
+    case ANALYSER_OPEN: return "open";
     default: return "an answer that no service gives";
     }
 #undef REFUSAL
@@ -129,18 +135,64 @@ static uint64_t saturate(void)
     return answer;
 }
 
-static uint64_t judge(void)
+/* The number of starts of a start file that judge has not refused. */
+static size_t starts(void)
 {
-    uint64_t answer = analyser_judge(
+    return start_file.bytes[3] + 256 * (size_t)start_file.bytes[4];
+}
+
+static uint64_t judge(uint64_t rounds, uint64_t *rounds_used)
+{
+    return analyser_judge(
         case_file.bytes, case_file.length,
         start_file.bytes, start_file.length,
+        rounds,
         moves, MOVES * ANALYSER_MOVE_WORDS,
         entries, ENTRIES * ANALYSER_ENTRY_WORDS,
-        answers, STARTS);
+        answers, STARTS,
+        rounds_used);
+}
+
+static void print_mark(uint16_t word)
+{
+    switch (word) {
+    case 0: printf("no"); break;
+    case ANALYSER_OPEN_WORD: printf("open"); break;
+    default: printf("yes, round %d", word - 1);
+    }
+}
+
+/* Judges by the rounds up to this one, and prints the marks. */
+static void judge_up_to(uint64_t round)
+{
+    uint64_t rounds_used;
+    uint64_t answer = judge(round, &rounds_used);
+    printf("judge up to round %" PRIu64 ":", round);
+    if (answer != 0) {
+        printf(" %s", words_for(answer));
+    } else {
+        for (size_t i = 0; i < starts(); i++) {
+            printf("%s ", i == 0 ? "" : ";");
+            print_mark(answers[i]);
+        }
+    }
+    printf("\n");
+}
+
+/* Judges by all rounds, last, so that answers holds their marks. */
+static uint64_t judge_all(void)
+{
+    uint64_t rounds_used;
+    uint64_t answer = judge(ANALYSER_ALL_ROUNDS, &rounds_used);
     if (answer != 0) {
         printf("judge: %s\n", words_for(answer));
+        return answer;
     }
-    return answer;
+    printf("judge: %" PRIu64 " rounds added moves\n", rounds_used);
+    for (uint64_t round = 0; round <= rounds_used && round <= FEW; round++) {
+        judge_up_to(round);
+    }
+    return judge(ANALYSER_ALL_ROUNDS, &rounds_used);
 }
 
 static void brackets(uint64_t number)
@@ -190,48 +242,59 @@ static void replay_run(uint64_t number, size_t steps, uint64_t cells_used)
     replay("replay with rule 65535 behind it", number, steps + 1, cells_used);
 }
 
-static void guide(uint64_t number)
+/* Guides by at most so many rounds, and prints the steps. */
+static uint64_t guide(uint64_t number, uint64_t rounds, uint64_t *steps, uint64_t *cells_used)
 {
-    uint64_t steps, cells_used;
     uint64_t answer = analyser_guide(
         case_file.bytes, case_file.length,
         start_file.bytes, start_file.length,
-        number,
+        number, rounds,
         moves, MOVES * ANALYSER_MOVE_WORDS,
         entries, ENTRIES * ANALYSER_ENTRY_WORDS,
         cells, CELLS * ANALYSER_CELL_WORDS,
         trace, STEPS,
-        &steps, &cells_used);
-    printf("guide: %s, %" PRIu64 " steps, %" PRIu64 " cells, rules",
-           words_for(answer), steps, cells_used);
-    for (size_t i = 0; i < steps; i++) {
+        steps, cells_used);
+    printf(": %s, %" PRIu64 " steps, %" PRIu64 " cells, rules",
+           words_for(answer), *steps, *cells_used);
+    for (size_t i = 0; i < *steps; i++) {
         printf(" %u", (unsigned)trace[i]);
     }
     printf("\n");
-    if (answer == ANALYSER_ARRIVED) {
+    return answer;
+}
+
+static void guide_up_to(uint64_t number, uint64_t round)
+{
+    uint64_t steps, cells_used;
+    printf("guide up to round %" PRIu64, round);
+    guide(number, round, &steps, &cells_used);
+}
+
+static void guide_all(uint64_t number)
+{
+    uint64_t steps, cells_used;
+    printf("guide");
+    if (guide(number, ANALYSER_ALL_ROUNDS, &steps, &cells_used) == ANALYSER_ARRIVED) {
         replay_run(number, steps, cells_used);
     }
 }
 
-/* The number of starts of a start file that judge has not refused. */
-static size_t starts(void)
-{
-    return start_file.bytes[3] + 256 * (size_t)start_file.bytes[4];
-}
-
 static int bench(void)
 {
-    if (saturate() != 0 || judge() != 0) {
+    if (saturate() != 0 || judge_all() != 0) {
         return 3;
     }
     for (size_t i = 0; i < starts(); i++) {
-        if (answers[i] == 0) {
-            printf("start %zu: no\n", i);
-            brackets(i);
-        } else {
-            printf("start %zu: yes, round %d\n", i, answers[i] - 1);
-            brackets(i);
-            guide(i);
+        printf("start %zu: ", i);
+        print_mark(answers[i]);
+        printf("\n");
+        brackets(i);
+        if (answers[i] > 0) {
+            guide_all(i);
+            guide_up_to(i, answers[i] - 1);
+        }
+        if (answers[i] > 1) {
+            guide_up_to(i, answers[i] - 2);
         }
     }
     return 0;

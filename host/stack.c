@@ -2,8 +2,9 @@
  * Measures the stack that calls take: each call runs in a thread whose stack is
  * painted before, and the deepest byte that has lost its paint is looked up
  * after. Prints for each function the most bytes that a call took, over all
- * pairs of files. Brackets is called for a start file of 256 cells too, in which
- * annotations nest as deep as they can.
+ * pairs of files. Judge and guide are called with few rounds and with all. Brackets is
+ * called for a start file of 256 cells too, in which annotations nest as deep as they
+ * can.
  *
  * usage: stack CASE START [CASE START]..
  *
@@ -31,6 +32,10 @@
 #define CELLS_LENGTH (4096 * ANALYSER_CELL_WORDS)
 #define REPLAY_CELLS_LENGTH (4096 * ANALYSER_REPLAY_CELL_BYTES)
 #define STEPS 65536
+
+/* Numbers of rounds with which judge and guide are called. */
+static const uint64_t rounds[] = {0, 1, 2, ANALYSER_ALL_ROUNDS};
+#define NUMBERS (sizeof rounds / sizeof rounds[0])
 
 /* Long enough for a listing and for the deepest stack as brackets. */
 #define TEXT_BYTES 65536
@@ -91,8 +96,12 @@ static void saturate(void)
 
 static void judge(void)
 {
-    analyser_judge(case_file, case_length, start_file, start_length, moves, MOVES_LENGTH,
-                   entries, ENTRIES_LENGTH, answers, STARTS);
+    uint64_t rounds_used;
+    for (size_t i = 0; i < NUMBERS; i++) {
+        analyser_judge(case_file, case_length, start_file, start_length, rounds[i], moves,
+                       MOVES_LENGTH, entries, ENTRIES_LENGTH, answers, STARTS,
+                       &rounds_used);
+    }
 }
 
 static void record(size_t steps)
@@ -104,17 +113,24 @@ static void record(size_t steps)
     }
 }
 
-static void guide(void)
+static void guide_from(uint64_t number)
 {
     uint64_t steps, cells_used;
-    recorded_length = 0;
-    for (uint64_t number = 0; number < STARTS; number++) {
-        analyser_guide(case_file, case_length, start_file, start_length, number, moves,
-                       MOVES_LENGTH, entries, ENTRIES_LENGTH, cells, CELLS_LENGTH, trace,
-                       STEPS, &steps, &cells_used);
+    for (size_t i = 0; i < NUMBERS; i++) {
+        analyser_guide(case_file, case_length, start_file, start_length, number, rounds[i],
+                       moves, MOVES_LENGTH, entries, ENTRIES_LENGTH, cells, CELLS_LENGTH,
+                       trace, STEPS, &steps, &cells_used);
         if (2 * steps > recorded_length) {
             record(steps);
         }
+    }
+}
+
+static void guide(void)
+{
+    recorded_length = 0;
+    for (uint64_t number = 0; number < STARTS; number++) {
+        guide_from(number);
     }
 }
 

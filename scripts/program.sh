@@ -218,15 +218,22 @@ run_program() { # CASE START [WORD..]
     [ "$first" != refused ] || leave "$REFUSED" "refused: $(sentence "$number")"
 }
 
-# A call of a script that takes the number of a start too: runs the program on two files, the number being its argument.
-run_on_start() { # CASE START NUMBER
+need_decimal() { # TEXT WHAT
+    case $1 in '' | *[!0-9]*) wrong_use "'$1' is no decimal number of $2" ;; esac
+}
+
+# A call of a script that takes the number of a start too, and a number of rounds if it takes four arguments: runs the program on two files,
+# the numbers that are given being its arguments.
+run_on_start() { # MOST-ARGUMENTS CASE START NUMBER [ROUNDS]
+    local most=$1
+    shift
     case $# in
     0) wrong_use "a case file, a start file and the number of a start are missing" ;;
     1) wrong_use "a start file and the number of a start are missing" ;;
     2) wrong_use "the number of a start is missing" ;;
-    3) ;;
-    *) wrong_use "there are $# arguments" ;;
+    *) [ $# -le "$most" ] || wrong_use "there are $# arguments" ;;
     esac
-    case $3 in '' | *[!0-9]*) wrong_use "'$3' is no decimal number of a start" ;; esac
-    run_program "$1" "$2" "$3"
+    need_decimal "$3" "a start"
+    [ $# -eq 3 ] || need_decimal "$4" "rounds"
+    run_program "$@"
 }

@@ -31,10 +31,17 @@ fresh_clone() {
     ! grep -q 'words' "$room/err" || fail "a crate that was proved before is named"
 }
 
-# Each script has a program of its own.
+# Each script has a program of its own, and hands on the numbers that it is given.
 own_programs() {
-    gives 0 $'moves 1 entries 1\n' ./guide "$model/case.bin" "$model/start.bin" 0
-    gives 0 $'moves 1 entries 1\n' ./brackets "$model/case.bin" "$model/start.bin" 0
+    local case=$model/case.bin start=$model/start.bin
+    gives 0 $'moves 1 entries 1\n' ./analyse "$case" "$start"
+    same "words of the listing" "" "$(cat "$STAND_IN/words")"
+    gives 0 $'moves 1 entries 1\n' ./guide "$case" "$start" 3
+    same "words of the run by all rounds" "<3>" "$(cat "$STAND_IN/words")"
+    gives 0 $'moves 1 entries 1\n' ./guide "$case" "$start" 3 007
+    same "words of the run by some rounds" "<3><007>" "$(cat "$STAND_IN/words")"
+    gives 0 $'moves 1 entries 1\n' ./brackets "$case" "$start" 4
+    same "words of the stack" "<4>" "$(cat "$STAND_IN/words")"
     same "what rt was asked" $'check listing\ncheck run\ncheck show' "$(cat "$STAND_IN/asked")"
 }
 

@@ -29,10 +29,35 @@ guided_runs() {
     is_clear
 }
 
-# Writes the two files of an example of document 02, §6.
-put_example() { # NAME
-    printf '%b' "$(example 06 case "$1")" >"$room/case.bin"
-    printf '%b' "$(example 06 start "$1")" >"$room/start.bin"
+# Writes the two files of an example of a request of document 02.
+put_example() { # REQUEST NAME
+    printf '%b' "$(example "$1" case "$2")" >"$room/case.bin"
+    printf '%b' "$(example "$1" start "$2")" >"$room/start.bin"
+}
+
+# Document 02, §8: the first start of model A is won in round 2, and the third is not accepted when nothing is left to add.
+guided_by_rounds() {
+    local case=$model/case.bin start=$model/start.bin rounds
+    for rounds in 0 1; do
+        gives 0 $'start 0 open\n' ./guide "$case" "$start" 0 "$rounds"
+        gives 0 $'start 1 yes 0 0 6\n\n' ./guide "$case" "$start" 1 "$rounds"
+        gives 0 $'start 2 open\n' ./guide "$case" "$start" 2 "$rounds"
+        is_silent
+    done
+    for rounds in 2 3 1024 65536 4294967296 18446744073709551615 18446744073709551616; do
+        gives 0 $'start 0 yes 2 2 9\n0 1\n' ./guide "$case" "$start" 0 "$rounds"
+        gives 0 $'start 2 no\n' ./guide "$case" "$start" 2 "$rounds"
+        is_silent
+    done
+    gives 3 $'refused 7\n' ./guide "$case" "$start" 3 0
+    gives 3 $'refused 1\n' ./guide /dev/null "$start" 0 0
+    # A walk that is another one after round 3, in which the entry that the pop leads to gains a move.
+    put_example 08 'a walk that differs with n, n = 2'
+    gives 0 $'start 0 yes 2 2 13\n1 0\n' ./guide "$room/case.bin" "$room/start.bin" 0 2
+    gives 0 $'start 0 yes 2 4 17\n0 2 1 0\n' ./guide "$room/case.bin" "$room/start.bin" 0
+    gives 0 $'start 4 open\n' ./guide "$room/case.bin" "$room/start.bin" 4 3
+    gives 0 $'start 4 no\n' ./guide "$room/case.bin" "$room/start.bin" 4 4
+    is_clear
 }
 
 printed_stacks() {
@@ -45,7 +70,7 @@ printed_stacks() {
     says "guide, replay, brackets: the start named is not in the file"
     gives 3 $'refused 7\n' ./brackets "$case" "$start" 18446744073709551616
     # Symbols of two digits, annotations of order 2, an empty order-1 stack.
-    put_example 'text 3 of empty stacks, order-2 annotations and shared cells'
+    put_example 06 'text 3 of empty stacks, order-2 annotations and shared cells'
     gives 0 $'[[10 2{[[31 2{[]}]]} 31 2{[]}][][31 2{[]}]]\n' ./brackets "$room/case.bin" "$room/start.bin" 3
     is_clear
 }
@@ -60,7 +85,7 @@ wide_text() {
 
 long_stacks() {
     local case=$room/case.bin start=$room/start.bin text
-    put_example 'a text of about 2^243 bytes'
+    put_example 06 'a text of about 2^243 bytes'
     gives 3 $'refused 13\n' timeout 20 ./brackets "$case" "$start" 0
     says "the text is longer than the bytes lent"
     gives 3 $'refused 7\n' ./brackets "$case" "$start" 1
@@ -108,7 +133,7 @@ suppliers_codes() {
 }
 
 wrong_use() {
-    local script case=$model/case.bin start=$model/start.bin
+    local script rounds case=$model/case.bin start=$model/start.bin
     gives 2 '' ./analyse
     gives 2 '' ./analyse "$case"
     gives 2 '' ./analyse "$case" "$start" 0
@@ -119,14 +144,23 @@ wrong_use() {
         gives 2 '' "$script"
         gives 2 '' "$script" "$case"
         gives 2 '' "$script" "$case" "$start"
-        gives 2 '' "$script" "$case" "$start" 0 0
+        gives 2 '' "$script" "$case" "$start" 0 0 0
+        says "there are 5 arguments"
         gives 2 '' "$script" "$room/none" "$start" 0
         gives 2 '' "$script" "$case" "$room" 0
         gives 2 '' "$script" "$case" "$start" ''
         gives 2 '' "$script" "$case" "$start" -1
         gives 2 '' "$script" "$case" "$start" 0x1
-        says "usage: $script CASE START NUMBER"
+        says "'0x1' is no decimal number of a start; usage: $script CASE START NUMBER"
     done
+    gives 2 '' ./brackets "$case" "$start" 0 0
+    says "there are 4 arguments; usage: ./brackets CASE START NUMBER"
+    for rounds in '' -1 0x1 1.5 all; do
+        gives 2 '' ./guide "$case" "$start" 0 "$rounds"
+        says "'$rounds' is no decimal number of rounds; usage: ./guide CASE START NUMBER [ROUNDS]"
+    done
+    gives 2 '' ./guide "$case" "$start" x 1
+    says "'x' is no decimal number of a start"
     is_clear
 }
 
@@ -140,6 +174,11 @@ options() {
         same "status of $script --version" 0 "$status"
         grep -qE "^$script: .* sources [0-9a-f]{16}\$" "$room/out" || fail "$script --version says no sources"
     done
+    try ./guide --help
+    grep -qxF 'usage: ./guide CASE START NUMBER [ROUNDS]' "$room/out" || fail "guide --help names no rounds"
+    grep -qF "'open'" "$room/out" || fail "guide --help does not say what open is"
+    try ./brackets --help
+    grep -qxF 'usage: ./brackets CASE START NUMBER' "$room/out" || fail "brackets --help names other arguments"
 }
 
 # Runs a command whose standard output is a pipe that nobody reads.
@@ -185,6 +224,7 @@ ended_while_it_reads() {
 this_repository() {
     model_a
     guided_runs
+    guided_by_rounds
     printed_stacks
     long_stacks
     refusals

@@ -4,13 +4,14 @@
 use crate::file::Refusal;
 use crate::lent::Lent;
 use crate::replay::{self, ReplayReply};
+use crate::saturation::ALL_ROUNDS;
 use crate::services::{self, GuideReply};
 use crate::{brackets, proved};
 
 pub type Saturate = fn(&[u8], &mut [u64], &mut [u64]) -> (u64, u64, u64);
-pub type Judge = fn(&[u8], &[u8], &mut [u64], &mut [u64], &mut [u16]) -> u64;
+pub type Judge = fn(&[u8], &[u8], u64, &mut [u64], &mut [u64], &mut [u16]) -> (u64, u64);
 pub type Guide =
-    fn(&[u8], &[u8], u64, &mut [u64], &mut [u64], &mut [u16], &mut [u16]) -> GuideReply;
+    fn(&[u8], &[u8], u64, u64, &mut [u64], &mut [u64], &mut [u16], &mut [u16]) -> GuideReply;
 pub type Listing = fn(&[u8], &[u8]) -> String;
 pub type Replay = fn(&[u8], &[u8], u64, &[u8], &mut [u8]) -> ReplayReply;
 pub type Brackets = fn(&[u8], &[u8], u64, &mut [u8]) -> (u64, usize);
@@ -50,7 +51,7 @@ pub const PROVED: Services = Services {
 #[derive(PartialEq, Eq)]
 pub struct Answers {
     pub saturate: ((u64, u64, u64), Lent),
-    pub judge: (u64, Lent),
+    pub judge: ((u64, u64), Lent),
     pub guide: (GuideReply, Lent),
     pub replays: Vec<(ReplayReply, Lent)>,
     pub brackets: ((u64, usize), Lent),
@@ -58,8 +59,8 @@ pub struct Answers {
 }
 
 impl Services {
-    /// All that the services answer, guide, replay and brackets from one start,
-    /// replay to each of the traces.
+    /// All that the services answer, judge and guide by all rounds, guide, replay and
+    /// brackets from one start, replay to each of the traces.
     pub fn answers(
         &self,
         lent: &Lent,
@@ -86,14 +87,14 @@ impl Services {
         }
     }
 
-    fn judge_with(&self, lent: &mut Lent, case: &[u8], start: &[u8]) -> u64 {
+    fn judge_with(&self, lent: &mut Lent, case: &[u8], start: &[u8]) -> (u64, u64) {
         let Lent {
             moves,
             entries,
             answers,
             ..
         } = lent;
-        (self.judge)(case, start, moves, entries, answers)
+        (self.judge)(case, start, ALL_ROUNDS, moves, entries, answers)
     }
 
     fn guide_with(&self, lent: &mut Lent, case: &[u8], start: &[u8], number: u64) -> GuideReply {
@@ -104,7 +105,9 @@ impl Services {
             trace,
             ..
         } = lent;
-        (self.guide)(case, start, number, moves, entries, cells, trace)
+        (self.guide)(
+            case, start, number, ALL_ROUNDS, moves, entries, cells, trace,
+        )
     }
 }
 
@@ -137,7 +140,7 @@ impl Answers {
         let replayed = |(reply, lent): &(ReplayReply, Lent)| {
             *reply == ReplayReply::Refused(refusal) && lent.replay_cells_are_zero()
         };
-        judge.0 == refusal
+        judge.0 == (refusal, 0)
             && judge.1.tables_are_zero()
             && judge.1.answers_are_zero()
             && guide.0 == GuideReply::Refused(refusal)
@@ -154,7 +157,7 @@ impl Answers {
     pub fn in_short(&self) -> String {
         let replays: Vec<ReplayReply> = self.replays.iter().map(|replay| replay.0).collect();
         format!(
-            "saturate {:?} judge {} guide {:?} replays {replays:?} brackets {:?} listing {:?}",
+            "saturate {:?} judge {:?} guide {:?} replays {replays:?} brackets {:?} listing {:?}",
             self.saturate.0, self.judge.0, self.guide.0, self.brackets.0, self.listing
         )
     }

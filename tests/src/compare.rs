@@ -10,6 +10,7 @@ use crate::lent::Lent;
 use crate::proved;
 use crate::random::Random;
 use crate::replay::{REPLAY_CELL_BYTES, ReplayReply};
+use crate::saturation::ALL_ROUNDS;
 use crate::services::GuideReply;
 
 /// Words on both sides of a lent slice that must stay as they are.
@@ -85,22 +86,47 @@ impl Both {
         self.answer(service, second, proved, &[("tables", tables)], (case, &[]))
     }
 
+    /// Judge's reply by all rounds.
     pub fn judge(&mut self, case: &[u8], start: &[u8]) -> u64 {
-        let second = self.lent.judge(case, start);
+        self.judge_after(case, start, ALL_ROUNDS).0
+    }
+
+    /// Judge's reply after at most so many rounds, and the rounds that added something.
+    pub fn judge_after(&mut self, case: &[u8], start: &[u8], rounds: u64) -> (u64, u64) {
+        let second = self.lent.judge_after(case, start, rounds);
         let mut moves = self.words(self.lent.moves.len());
         let mut entries = self.words(self.lent.entries.len());
         let mut answers = self.halves(self.lent.answers.len());
-        let proved = proved::judge(case, start, moves.lent(), entries.lent(), answers.lent());
+        let proved = proved::judge(
+            case,
+            start,
+            rounds,
+            moves.lent(),
+            entries.lent(),
+            answers.lent(),
+        );
         let agree = [
             ("tables", self.tables_agree(&moves, &entries)),
             ("answers", answers.holds(&self.lent.answers)),
         ];
-        let service = || "judge".to_string();
+        let service = || format!("judge after {rounds} rounds");
         self.answer(service, second, proved, &agree, (case, start))
     }
 
+    /// Guide's reply by all rounds.
     pub fn guide(&mut self, case: &[u8], start: &[u8], number: u64) -> GuideReply {
-        let second = self.lent.guide(case, start, number);
+        self.guide_after(case, start, number, ALL_ROUNDS)
+    }
+
+    /// Guide's reply after at most so many rounds.
+    pub fn guide_after(
+        &mut self,
+        case: &[u8],
+        start: &[u8],
+        number: u64,
+        rounds: u64,
+    ) -> GuideReply {
+        let second = self.lent.guide_after(case, start, number, rounds);
         let mut moves = self.words(self.lent.moves.len());
         let mut entries = self.words(self.lent.entries.len());
         let mut cells = self.halves(self.lent.cells.len());
@@ -109,6 +135,7 @@ impl Both {
             case,
             start,
             number,
+            rounds,
             moves.lent(),
             entries.lent(),
             cells.lent(),
@@ -119,7 +146,7 @@ impl Both {
             ("cells", cells.holds(&self.lent.cells)),
             ("trace", trace.holds(&self.lent.trace)),
         ];
-        let service = || format!("guide {number}");
+        let service = || format!("guide {number} after {rounds} rounds");
         self.answer(service, second, proved, &agree, (case, start))
     }
 

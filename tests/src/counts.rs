@@ -111,7 +111,7 @@ fn are_too_large(answers: &Answers) -> bool {
     } = answers;
     saturate.0 == (9, 0, 0)
         && saturate.1.tables_are_zero()
-        && judge.0 == 9
+        && judge.0 == (9, 0)
         && judge.1.tables_are_zero()
         && judge.1.answers_are_zero()
         && guide.0 == GuideReply::Refused(9)

@@ -4,6 +4,7 @@
 use crate::callers::{Judge, Saturate};
 use crate::encode::{encode_case, encode_start};
 use crate::file::{Case, Cell, FileEntry, StartFile};
+use crate::saturation::ALL_ROUNDS;
 use crate::services::{ENTRY_WORDS, MOVE_WORDS};
 use crate::sets::{Set, is_part};
 use crate::sound::{pair, rule, start};
@@ -72,6 +73,14 @@ pub fn check_members(judge: Judge) {
 fn judged(judge: Judge, case: &[u8], starts: &[u8]) -> Vec<u16> {
     let mut entries = vec![u64::MAX; 64 * ENTRY_WORDS];
     let mut answers = vec![u16::MAX; 8];
-    assert_eq!(judge(case, starts, &mut [], &mut entries, &mut answers), 0);
+    let reply = judge(
+        case,
+        starts,
+        ALL_ROUNDS,
+        &mut [],
+        &mut entries,
+        &mut answers,
+    );
+    assert_eq!(reply, (0, 0));
     answers
 }

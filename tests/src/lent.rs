@@ -4,9 +4,10 @@
 use crate::brackets::brackets;
 use crate::file::Refusal;
 use crate::replay::{REPLAY_CELL_BYTES, ReplayReply, replay};
+use crate::saturation::ALL_ROUNDS;
 use crate::services::{
     CELL_WORDS, ENTRY_WORDS, GuideReply, LISTING_CELLS, LISTING_ENTRIES, LISTING_MOVES,
-    LISTING_TRACE, MOVE_WORDS, guide, judge, round_of_answer, saturate,
+    LISTING_TRACE, MOVE_WORDS, Mark, guide, judge, saturate,
 };
 use crate::traces::recorded;
 
@@ -62,23 +63,43 @@ impl Lent {
         saturate(case, &mut self.moves, &mut self.entries)
     }
 
+    /// Judge's reply by all rounds.
     pub fn judge(&mut self, case: &[u8], start: &[u8]) -> u64 {
+        self.judge_after(case, start, ALL_ROUNDS).0
+    }
+
+    /// Judge's reply after at most so many rounds, and the rounds that added something.
+    pub fn judge_after(&mut self, case: &[u8], start: &[u8], rounds: u64) -> (u64, u64) {
         self.fill();
         judge(
             case,
             start,
+            rounds,
             &mut self.moves,
             &mut self.entries,
             &mut self.answers,
         )
     }
 
+    /// Guide's reply by all rounds.
     pub fn guide(&mut self, case: &[u8], start: &[u8], number: u64) -> GuideReply {
+        self.guide_after(case, start, number, ALL_ROUNDS)
+    }
+
+    /// Guide's reply after at most so many rounds.
+    pub fn guide_after(
+        &mut self,
+        case: &[u8],
+        start: &[u8],
+        number: u64,
+        rounds: u64,
+    ) -> GuideReply {
         self.fill();
         guide(
             case,
             start,
             number,
+            rounds,
             &mut self.moves,
             &mut self.entries,
             &mut self.cells,
@@ -96,12 +117,22 @@ impl Lent {
         brackets(case, start, number, &mut self.text)
     }
 
-    /// The rounds that judge's words of the first starts name; the words after
+    /// The marks that judge's words of the first starts stand for; the words after
     /// them must be zero.
-    pub fn rounds(&self, starts: usize) -> Vec<Option<usize>> {
+    pub fn marks(&self, starts: usize) -> Vec<Mark> {
         let (words, after) = self.answers.split_at(starts);
         assert!(after.iter().all(|&word| word == 0));
-        words.iter().copied().map(round_of_answer).collect()
+        words.iter().copied().map(Mark::of_word).collect()
+    }
+
+    /// The rounds that those words name after all rounds, where no start is open.
+    pub fn rounds(&self, starts: usize) -> Vec<Option<usize>> {
+        let round = |mark: Mark| match mark {
+            Mark::Yes { round } => Some(round),
+            Mark::No => None,
+            Mark::Open => panic!("a start is open after all rounds"),
+        };
+        self.marks(starts).into_iter().map(round).collect()
     }
 
     /// The numbers of moves of the first entries, which are their third words.

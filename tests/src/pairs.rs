@@ -2,11 +2,13 @@
 //! nested stacks, cells counted, the guide's answer by document 01's sentence,
 //! replay's by document 02's.
 
+use crate::early::early;
 use crate::gather::gathered;
 use crate::generate::{Pair, pair};
 use crate::lent::Lent;
 use crate::random::seeds;
 use crate::replay::{ReplayReply, Run};
+use crate::saturation::ALL_ROUNDS;
 use crate::search::{Bounds, Outcome, search};
 use crate::services::GuideReply::{self, Arrived, CellsShort, TraceFull};
 use crate::services::MOST_CELLS;
@@ -37,6 +39,11 @@ pub fn gathered_pairs(count: u64) -> impl Iterator<Item = (String, Pair)> {
 /// Generated pairs from which parts are left out.
 pub fn sparse_pairs(count: u64) -> impl Iterator<Item = (String, Pair)> {
     seeds(count).map(|seed| (format!("sparse {seed}"), sparse(seed)))
+}
+
+/// Generated pairs whose guided walks differ with the number of rounds.
+pub fn early_pairs(count: u64) -> impl Iterator<Item = (String, Pair)> {
+    seeds(count).map(|seed| (format!("early {seed}"), early(seed)))
 }
 
 impl Pair {
@@ -109,7 +116,13 @@ impl Pair {
 
     /// What the guide writes for a start, if it arrives with the memory lent.
     pub fn guided(&self, lent: &mut Lent, number: usize) -> Option<Vec<u16>> {
-        let reply = lent.guide(&self.case_file, &self.start_file, number as u64);
+        self.guided_after(lent, number, ALL_ROUNDS)
+    }
+
+    /// The same after at most so many rounds.
+    pub fn guided_after(&self, lent: &mut Lent, number: usize, rounds: u64) -> Option<Vec<u16>> {
+        let (case, start) = (&self.case_file, &self.start_file);
+        let reply = lent.guide_after(case, start, number as u64, rounds);
         let arrived = matches!(reply, Arrived { .. });
         arrived.then(|| lent.trace[..reply.steps()].to_vec())
     }

@@ -23,12 +23,14 @@ unsafe extern "C" {
         case_length: usize,
         start: *const u8,
         start_length: usize,
+        rounds: u64,
         moves: *mut u64,
         moves_length: usize,
         entries: *mut u64,
         entries_length: usize,
         answers: *mut u16,
         answers_length: usize,
+        rounds_used: *mut u64,
     ) -> u64;
 
     fn analyser_guide(
@@ -37,6 +39,7 @@ unsafe extern "C" {
         start: *const u8,
         start_length: usize,
         number: u64,
+        rounds: u64,
         moves: *mut u64,
         moves_length: usize,
         entries: *mut u64,
@@ -127,32 +130,39 @@ pub fn saturate(case: &[u8], moves: &mut [u64], entries: &mut [u64]) -> (u64, u6
 pub fn judge(
     case: &[u8],
     start: &[u8],
+    rounds: u64,
     moves: &mut [u64],
     entries: &mut [u64],
     answers: &mut [u16],
-) -> u64 {
+) -> (u64, u64) {
+    let mut rounds_used = u64::MAX;
     // Safety: as above.
-    unsafe {
+    let code = unsafe {
         analyser_judge(
             case.as_ptr(),
             case.len(),
             start.as_ptr(),
             start.len(),
+            rounds,
             moves.as_mut_ptr(),
             moves.len(),
             entries.as_mut_ptr(),
             entries.len(),
             answers.as_mut_ptr(),
             answers.len(),
+            &mut rounds_used,
         )
-    }
+    };
+    (code, rounds_used)
 }
 
 /// As `services::guide`.
+#[expect(clippy::too_many_arguments, reason = "those of the call from C")]
 pub fn guide(
     case: &[u8],
     start: &[u8],
     number: u64,
+    rounds: u64,
     moves: &mut [u64],
     entries: &mut [u64],
     cells: &mut [u16],
@@ -167,6 +177,7 @@ pub fn guide(
             start.as_ptr(),
             start.len(),
             number,
+            rounds,
             moves.as_mut_ptr(),
             moves.len(),
             entries.as_mut_ptr(),
@@ -192,6 +203,7 @@ fn reply(number: u64, steps: u64, cells: u64) -> GuideReply {
             assert_eq!((steps, cells), (0, 0), "counts of answer {number}");
             match number {
                 258 => GuideReply::NoRun,
+                259 => GuideReply::Open,
                 1..=255 => GuideReply::Refused(number),
                 _ => panic!("guide answers {number}"),
             }

@@ -1,29 +1,32 @@
 //! The examples of document 02's requests, in `tests/data/vectors02`.
 
-use self::Form::{Now, WithoutCounts};
+use self::Form::{Now, WithoutCounts, WithoutRounds};
 use crate::callers::{SECOND, Services};
 use crate::data::{bytes, bytes_of, hex, without_most};
 use crate::replay::{REPLAY_CELL_BYTES, ReplayReply};
+use crate::saturation::ALL_ROUNDS;
 use crate::services::{
     CELL_WORDS, ENTRY_WORDS, GuideReply, LISTING_ENTRIES, LISTING_MOVES, MOVE_WORDS,
 };
 
 /// The last request that has landed.
-const LANDED: u64 = 7;
+const LANDED: u64 = 8;
 
-/// The request that adds a word to each entry and a line to listings.
+/// The request that adds a word to each entry and a line to listings, and the one that
+/// adds a number of rounds to judge's reply.
 const COUNTS: u64 = 7;
+const ROUNDS: u64 = 8;
 
-/// The requests whose files are here, how many lines of each hold now, and how many
-/// hold but for the counts.
-const FILES: [(u64, usize, usize); 7] = [
-    (1, 9, 11),
-    (2, 28, 0),
-    (3, 18, 5),
-    (4, 0, 15),
-    (5, 20, 6),
-    (6, 23, 0),
-    (7, 17, 0),
+/// The requests whose files are here, and how many lines of each have each form.
+const FILES: [(u64, [usize; 3]); 8] = [
+    (1, [1, 8, 11]),
+    (2, [28, 0, 0]),
+    (3, [13, 5, 5]),
+    (4, [0, 0, 15]),
+    (5, [13, 7, 6]),
+    (6, [23, 0, 0]),
+    (7, [17, 0, 0]),
+    (8, [25, 0, 0]),
 ];
 
 /// The form of a line's reply.
@@ -31,7 +34,9 @@ const FILES: [(u64, usize, usize); 7] = [
 enum Form {
     /// As the services reply now.
     Now,
-    /// Without the third word of entries and the second line of a listing.
+    /// Without the number of rounds that judge returns.
+    WithoutRounds,
+    /// Without that, the third word of entries and the second line of a listing.
     WithoutCounts,
 }
 
@@ -45,16 +50,16 @@ struct Example {
     reply: String,
 }
 
-/// The services reply as every line says whose reply holds now, or held until
-/// counts were added.
+/// The services reply as every line says whose reply holds now, or held until rounds
+/// or counts were added.
 pub fn check_examples(services: Services) {
-    for (request, now, without_counts) in FILES {
+    for (request, lines) in FILES {
         let file = format!("vectors02/{request:02}.txt");
         let text = String::from_utf8(bytes(&file)).expect("text");
         let examples: Vec<Example> = text.lines().filter_map(example).collect();
         let count = |form: Form| examples.iter().filter(|e| e.form == form).count();
-        let counted = (count(Now), count(WithoutCounts));
-        assert_eq!(counted, (now, without_counts), "lines of {file}");
+        let counted = [Now, WithoutRounds, WithoutCounts].map(count);
+        assert_eq!(counted, lines, "lines of {file}");
         examples.iter().for_each(|e| e.check(services));
     }
 }
@@ -79,13 +84,15 @@ fn example(line: &str) -> Option<Example> {
 }
 
 /// How a reply holds that was right from one request to another: as it is, or, if it
-/// was right until counts were added, without these; nothing if another reply is
-/// right now.
+/// was right until rounds or counts were added, without these; nothing if another
+/// reply is right now.
 fn form_now(from: u64, to: u64) -> Option<Form> {
     if from > LANDED {
         None
     } else if to >= LANDED {
         Some(Now)
+    } else if to == ROUNDS - 1 {
+        Some(WithoutRounds)
     } else {
         (to == COUNTS - 1).then_some(WithoutCounts)
     }
@@ -98,16 +105,16 @@ fn named(argument: &str) -> (String, String) {
 }
 
 impl Example {
-    /// The services reply as the line says. Counts that it lacks are the second
-    /// implementation's.
+    /// The services reply as the line says. Rounds and counts that it lacks are the
+    /// second implementation's.
     fn check(&self, services: Services) {
-        if self.form == WithoutCounts {
+        if self.form != Now {
             let whole = Example {
                 form: Now,
                 ..self.clone()
             };
             let second = whole.clone().answer(SECOND);
-            assert_eq!(whole.answer(services), second, "{}: counts", self.name);
+            assert_eq!(whole.answer(services), second, "{}: the rest", self.name);
         }
         let reply = self.clone().answer(services);
         assert_eq!(reply, self.reply, "{}", self.name);
@@ -150,7 +157,7 @@ impl Example {
     fn listing(&self, services: Services, case: &[u8], start: &[u8]) -> String {
         let text = (services.listing)(case, start);
         match self.form {
-            Now => in_one_line(&text),
+            Now | WithoutRounds => in_one_line(&text),
             WithoutCounts => in_one_line(&without_most(&text).0),
         }
     }
@@ -174,12 +181,18 @@ impl Example {
     /// line's reply, so the tables are zero.
     fn judge(&mut self, services: Services, case: &[u8], start: &[u8]) -> String {
         let [mut moves, mut entries] = self.tables();
+        let rounds = self.rounds();
         let answers = self.number("answers").expect("answer words");
         let mut answers = vec![u16::MAX; answers];
-        let code = (services.judge)(case, start, &mut moves, &mut entries, &mut answers);
+        let (code, count) =
+            (services.judge)(case, start, rounds, &mut moves, &mut entries, &mut answers);
         let tables = [moves, entries].concat();
         assert!(tables.iter().all(|&word| word == 0), "{}", self.name);
-        format!("code={code} answers={}", list(&answers))
+        let reply = format!("code={code} answers={}", list(&answers));
+        match self.form {
+            Now => format!("{reply} rounds={count}"),
+            WithoutRounds | WithoutCounts => reply,
+        }
     }
 
     /// Guide's reply. No line's reply has tables or cells of the walk, so they are
@@ -187,6 +200,7 @@ impl Example {
     fn guide(&mut self, services: Services, case: &[u8], start: &[u8]) -> String {
         let [mut moves, mut entries] = self.tables();
         let number = self.number("number").expect("a start number") as u64;
+        let rounds = self.rounds();
         let cells = self.number("cells").expect("cells");
         let trace = self.number("trace_words").expect("trace words");
         let mut cells = vec![u16::MAX; cells * CELL_WORDS];
@@ -195,6 +209,7 @@ impl Example {
             case,
             start,
             number,
+            rounds,
             &mut moves,
             &mut entries,
             &mut cells,
@@ -212,6 +227,7 @@ impl Example {
         match reply {
             GuideReply::Refused(number) => format!("kind=refused number={number}"),
             GuideReply::NoRun => format!("kind=no_run trace={}", list(&trace)),
+            GuideReply::Open => format!("kind=open trace={}", list(&trace)),
             GuideReply::Arrived { steps, cells } => walked("arrived", steps, cells),
             GuideReply::TraceFull { steps, cells } => walked("trace", steps, cells),
             GuideReply::CellsShort { steps, cells } => walked("cells", steps, cells),
@@ -246,6 +262,14 @@ impl Example {
     fn take(&mut self, name: &str) -> Option<String> {
         let at = self.arguments.iter().position(|(n, _)| n == name)?;
         Some(self.arguments.remove(at).1)
+    }
+
+    /// "`rounds=none` or no `rounds`: all rounds."
+    fn rounds(&mut self) -> u64 {
+        match self.take("rounds").as_deref() {
+            None | Some("none") => ALL_ROUNDS,
+            Some(rounds) => rounds.parse().expect("a number of rounds"),
+        }
     }
 
     fn number(&mut self, name: &str) -> Option<usize> {

@@ -1,4 +1,4 @@
-//! The rounds (document 01, "Saturation").
+//! The rounds (document 01, "Saturation"; document 02, §8).
 
 use std::collections::{BTreeSet, HashSet};
 
@@ -7,8 +7,12 @@ use crate::lines::{Joined, Reading, first_choices};
 use crate::sets::{Set, least, only};
 use crate::table::{Size, Table, View};
 
-/// The largest number of moves of a saturated table.
+/// The largest number of moves of a table.
 pub const MOST_MOVES: usize = 1024;
+
+/// All rounds, as a number of rounds: each that adds something adds a move, so a
+/// table that fits has fewer.
+pub const ALL_ROUNDS: u64 = u64::MAX;
 
 /// A result that is not yet held. The derived order is the one in which new
 /// moves are appended: "by (p, S, symbol, order, B, R)".
@@ -21,9 +25,24 @@ struct Found {
     rest: Set,
 }
 
-/// The saturated table, or nothing where refusal 9 is due: "more moves than
-/// lent or than 1,024, more entries than lent, or more than 64 order-1 states".
+/// The table of the rounds run, and whether there is something left to add.
+#[derive(Clone, Debug)]
+pub struct Stopped {
+    pub table: Table,
+    /// "Round n + 1 would add a move" (document 02, §8).
+    pub goes_on: bool,
+}
+
+/// The saturated table, or nothing where refusal 9 is due. "The work ends when a
+/// round adds none."
 pub fn saturate(case: &Case, lent: Size) -> Option<Table> {
+    stop_after(case, lent, ALL_ROUNDS).map(|stopped| stopped.table)
+}
+
+/// The table of at most so many rounds (document 02, §8), or nothing where refusal 9
+/// is due: "more moves than lent or than 1,024, more entries than lent, or more than
+/// 64 order-1 states". "9 concerns the rounds run": a round after them need not fit.
+pub fn stop_after(case: &Case, lent: Size, rounds: u64) -> Option<Stopped> {
     let limit = Size {
         moves: lent.moves.min(MOST_MOVES),
         entries: lent
@@ -34,10 +53,11 @@ pub fn saturate(case: &Case, lent: Size) -> Option<Table> {
     if table.moves().len() > limit.moves || table.entries().len() > limit.entries {
         return None;
     }
-    loop {
+    for _ in 0..rounds {
         let found = new_results(case, &table, limit.moves)?;
         if found.is_empty() {
-            return Some(table);
+            let goes_on = false;
+            return Some(Stopped { table, goes_on });
         }
         if !add_entries(&mut table, &found, limit.entries) {
             return None;
@@ -45,6 +65,14 @@ pub fn saturate(case: &Case, lent: Size) -> Option<Table> {
         add_moves(&mut table, &found);
         table.end_round();
     }
+    let goes_on = adds_a_move(case, &table);
+    Some(Stopped { table, goes_on })
+}
+
+/// Whether the next round would add a move, whatever limit it would pass: the search
+/// for its results ends with the first by which the table would grow.
+fn adds_a_move(case: &Case, table: &Table) -> bool {
+    new_results(case, table, table.moves().len()).is_none()
 }
 
 /// "A round adds every result of the earlier rounds that is not yet held."

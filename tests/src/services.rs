@@ -1,10 +1,10 @@
 //! The three services and the listing (document 01, "Three services and their
-//! halts"; document 02, §1 and §7).
+//! halts"; document 02, §1, §7 and §8).
 
 use crate::automaton::accepting;
 use crate::file::{Case, Refusal, StartFile, decode_case};
 use crate::guide::Walk;
-use crate::saturation::saturate as saturated_table;
+use crate::saturation::{ALL_ROUNDS, Stopped, saturate as saturated_table, stop_after};
 use crate::sets::has;
 use crate::start_file::decode_start;
 use crate::table::{Size, Table, View};
@@ -30,21 +30,58 @@ pub const LISTING_SIZE: Size = Size {
     entries: LISTING_ENTRIES,
 };
 
+/// What judge says of a start: "yes, no or open" (document 02, §8).
+#[derive(Clone, Copy, Debug, PartialEq, Eq)]
+pub enum Mark {
+    /// "Accepted after at most n rounds", and first by the table of this round.
+    Yes { round: usize },
+    /// "Not accepted and nothing left to add."
+    No,
+    /// "Not accepted while round n + 1 would add a move."
+    Open,
+}
+
+/// "Open (65535)."
+pub const OPEN_WORD: u16 = 65535;
+
+impl Mark {
+    /// Judge's word: "0 for no, otherwise that round plus 1" (document 02, §1).
+    fn word(self) -> u16 {
+        match self {
+            Mark::Yes { round } => round as u16 + 1,
+            Mark::No => 0,
+            Mark::Open => OPEN_WORD,
+        }
+    }
+
+    /// The mark that a word of judge stands for.
+    pub fn of_word(word: u16) -> Mark {
+        match word {
+            0 => Mark::No,
+            OPEN_WORD => Mark::Open,
+            word => Mark::Yes {
+                round: usize::from(word) - 1,
+            },
+        }
+    }
+}
+
 /// The answer of the guide.
 #[derive(Clone, Copy, Debug, PartialEq, Eq)]
 pub enum GuideReply {
     Refused(Refusal),
     NoRun,
+    Open,
     Arrived { steps: u64, cells: u64 },
     TraceFull { steps: u64, cells: u64 },
     CellsShort { steps: u64, cells: u64 },
 }
 
 impl GuideReply {
-    /// The steps that the reply counts, 0 for a refusal and for no run.
+    /// The steps that the reply counts, 0 for a refusal, for no run and for open.
     pub fn steps(self) -> usize {
         match self {
-            GuideReply::Refused(_) | GuideReply::NoRun => 0,
+            GuideReply::Refused(_) | GuideReply::NoRun | GuideReply::Open => 0,
             GuideReply::Arrived { steps, .. }
             | GuideReply::TraceFull { steps, .. }
             | GuideReply::CellsShort { steps, .. } => steps as usize,
@@ -99,50 +136,65 @@ fn write_entries(table: &Table, lent: &mut [u64]) {
     }
 }
 
-/// "Judge then writes 16 bits per start: 0 for no, otherwise that round plus 1."
-/// Answers 0 or the refusal.
+/// "Judge takes a number of rounds n and marks each start yes, no or open", 16 bits
+/// per start. Answers 0 with "the rounds that added something", or the refusal
+/// with 0.
 pub fn judge(
     case: &[u8],
     start: &[u8],
+    rounds: u64,
     moves: &mut [u64],
     entries: &mut [u64],
     answers: &mut [u16],
-) -> u64 {
+) -> (u64, u64) {
     moves.fill(0);
     entries.fill(0);
     answers.fill(0);
-    match won(case, start, lent_size(moves, entries), answers.len()) {
-        Ok(rounds) => {
-            for (answer, round) in answers.iter_mut().zip(rounds) {
-                *answer = round.map_or(0, |round| round as u16 + 1);
+    let lent = lent_size(moves, entries);
+    match judged(case, start, rounds, lent, answers.len()) {
+        Ok((marks, count)) => {
+            for (answer, mark) in answers.iter_mut().zip(marks) {
+                *answer = mark.word();
             }
-            0
+            (0, count as u64)
         }
-        Err(refusal) => refusal,
+        Err(refusal) => (refusal, 0),
     }
 }
 
-/// The round that a word of judge names, if it is a yes.
-pub fn round_of_answer(answer: u16) -> Option<usize> {
-    answer.checked_sub(1).map(usize::from)
-}
-
-/// The round in which each start was won, or the refusal: 1 to 6 and 12, as the
-/// files are read, then 8, which counts answer words, then 9.
-fn won(case: &[u8], start: &[u8], lent: Size, answers: usize) -> Result<Won, Refusal> {
+/// The mark of each start and the rounds that added something, or the refusal: 1 to
+/// 6 and 12, as the files are read, then 8, which counts answer words, then 9, which
+/// "concerns the rounds run".
+fn judged(
+    case: &[u8],
+    start: &[u8],
+    rounds: u64,
+    lent: Size,
+    answers: usize,
+) -> Result<(Vec<Mark>, usize), Refusal> {
     let case = decode_case(case)?;
     let file = decode_start(start, &case)?;
     if answers < file.starts.len() {
         return Err(8);
     }
-    let table = saturated_table(&case, lent).ok_or(9u64)?;
-    Ok(won_by(&table, &file))
+    let stopped = stop_after(&case, lent, rounds).ok_or(9u64)?;
+    Ok((marks(&stopped, &file), stopped.table.rounds()))
 }
 
-/// For each start the round in which it was won, if it is marked yes.
+/// The mark of each start by the rounds run.
+pub fn marks(stopped: &Stopped, file: &StartFile) -> Vec<Mark> {
+    let mark = |round: Option<usize>| match round {
+        Some(round) => Mark::Yes { round },
+        None if stopped.goes_on => Mark::Open,
+        None => Mark::No,
+    };
+    won_by(&stopped.table, file).into_iter().map(mark).collect()
+}
+
+/// For each start the round in which it was won, if it was.
 type Won = Vec<Option<usize>>;
 
-/// "The least round whose table already accepts it": the tables of all rounds
+/// "The least round whose table already accepts it": the tables of all rounds run
 /// are asked, each by itself.
 fn won_by(table: &Table, file: &StartFile) -> Won {
     let marks: Vec<Vec<bool>> = (0..=table.rounds())
@@ -163,11 +215,14 @@ fn marks_by(view: View, file: &StartFile) -> Vec<bool> {
         .collect()
 }
 
-/// Writes the rule numbers of the guided run of one start into the trace.
+/// Writes the rule numbers of the guided run of one start into the trace. "Guide
+/// takes n too and works on the table of those rounds alone."
+#[expect(clippy::too_many_arguments, reason = "those of the call from C")]
 pub fn guide(
     case: &[u8],
     start: &[u8],
     number: u64,
+    rounds: u64,
     moves: &mut [u64],
     entries: &mut [u64],
     cells: &mut [u16],
@@ -179,22 +234,23 @@ pub fn guide(
     trace.fill(0);
     let lent = lent_size(moves, entries);
     let lent_cells = cells.len() / CELL_WORDS;
-    match prepare(case, start, number, lent) {
-        Ok((case, file, table)) => walk_start(&case, &table, &file, number, lent_cells, trace),
+    match prepare(case, start, number, rounds, lent) {
+        Ok((case, file, stopped)) => walk_start(&case, &stopped, &file, number, lent_cells, trace),
         Err(refusal) => GuideReply::Refused(refusal),
     }
 }
 
-/// What the guide works on, or the refusal: 1 to 7 and 12, then 9.
+/// What the guide works on, or the refusal: 1 to 7 and 12, then "the same 9".
 fn prepare(
     case: &[u8],
     start: &[u8],
     number: u64,
+    rounds: u64,
     lent: Size,
-) -> Result<(Case, StartFile, Table), Refusal> {
+) -> Result<(Case, StartFile, Stopped), Refusal> {
     let (case, file) = with_start(case, start, number)?;
-    let table = saturated_table(&case, lent).ok_or(9u64)?;
-    Ok((case, file, table))
+    let stopped = stop_after(&case, lent, rounds).ok_or(9u64)?;
+    Ok((case, file, stopped))
 }
 
 /// The files of a call that names a start, or the refusal 1 to 7 or 12.
@@ -207,24 +263,28 @@ pub fn with_start(case: &[u8], start: &[u8], number: u64) -> Result<(Case, Start
     Ok((case, file))
 }
 
-/// No run, then cells short for the start file, then the walk.
-fn walk_start(
+/// No run or open, then cells short for the start file, then the walk. "An open
+/// start it answers with open, tested where no run is, with no step and no cell."
+pub fn walk_start(
     case: &Case,
-    table: &Table,
+    stopped: &Stopped,
     file: &StartFile,
     number: u64,
     lent_cells: usize,
     trace: &mut [u16],
 ) -> GuideReply {
     let number = number as usize;
-    if !marks_by(table.whole(), file)[number] {
-        return GuideReply::NoRun;
+    let accepted = marks_by(stopped.table.whole(), file)[number];
+    match (accepted, stopped.goes_on) {
+        (true, _) => {}
+        (false, true) => return GuideReply::Open,
+        (false, false) => return GuideReply::NoRun,
     }
     let lent_cells = lent_cells.min(MOST_CELLS);
     if lent_cells < file.cells.len() {
         return GuideReply::CellsShort { steps: 0, cells: 0 };
     }
-    let walk = Walk::new(case, table, file, &file.starts[number]);
+    let walk = Walk::new(case, &stopped.table, file, &file.starts[number]);
     follow(walk, lent_cells, trace)
 }
 
@@ -258,19 +318,20 @@ pub fn listing(case: &[u8], start: &[u8]) -> String {
 }
 
 /// The lines of a listing that is no refusal. It lends an answer word for each
-/// start, so the refusals are those of judge without 8.
+/// start, so the refusals are those of judge without 8. "The listing runs all
+/// rounds" (document 02, §8), so no start is open.
 fn listing_lines(case: &[u8], start: &[u8]) -> Result<String, Refusal> {
     let case = decode_case(case)?;
     let file = decode_start(start, &case)?;
-    let lent = LISTING_SIZE;
-    let table = saturated_table(&case, lent).ok_or(9u64)?;
+    let stopped = stop_after(&case, LISTING_SIZE, ALL_ROUNDS).ok_or(9u64)?;
+    let table = &stopped.table;
     let (moves, entries) = (table.moves().len(), table.entries().len());
     // "`most` and the largest such count, 0 without entries" (document 02, §7).
     let most = table.move_counts().into_iter().max().unwrap_or(0);
     let mut text = format!("moves {moves} entries {entries}\nmost {most}\n");
-    for (number, round) in (0..).zip(won_by(&table, &file)) {
+    for (number, round) in (0..).zip(won_by(table, &file)) {
         let mut trace = [0; LISTING_TRACE];
-        let reply = walk_start(&case, &table, &file, number, LISTING_CELLS, &mut trace);
+        let reply = walk_start(&case, &stopped, &file, number, LISTING_CELLS, &mut trace);
         text += &format!("start {number} {}\n", listing_answer(round, reply));
     }
     Ok(text)

@@ -180,6 +180,22 @@ pub const GATHERED: Shape = Shape {
     ..SMALL
 };
 
+/// The numbers of the pairs that `src/early.rs` makes, and the codes of their short ways;
+/// their cells are not chosen by the shape.
+pub const EARLY: Shape = Shape {
+    name: "early",
+    controls: 4,
+    inner_two: 0,
+    inner_one: 1,
+    symbols: 7,
+    codes: &[2, 3, 4, 5, 6, 6, 6, 6, 6, 8, 8],
+    members: 20,
+    finished: 10,
+    starts: 16,
+    cells: 40,
+    ..SMALL
+};
+
 /// The numbers of the pairs that `src/sparse.rs` makes, before parts are left out.
 pub const SPARSE: Shape = Shape {
     name: "sparse",

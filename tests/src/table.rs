@@ -197,6 +197,10 @@ impl<'a> View<'a> {
         self.table
     }
 
+    pub fn size(self) -> Size {
+        self.size
+    }
+
     /// The number of order-1 states.
     pub fn order_one_states(self) -> u8 {
         self.table.inner_one + self.size.entries as u8

@@ -7,6 +7,7 @@
 use std::env;
 use std::ffi::c_long;
 
+use second::callers::{Guide, Judge, Listing, Replay, Saturate};
 use second::coded::coded;
 use second::codes::Record;
 use second::data::{Larger, larger_files, one_start};
@@ -15,6 +16,7 @@ use second::file::decode_case;
 use second::flat::{FLAT, Flat};
 use second::lent::Lent;
 use second::replay::{self, ReplayReply};
+use second::saturation::ALL_ROUNDS;
 use second::services::{self, GuideReply, LISTING_SIZE};
 use second::traces::recorded;
 use second::{proved, saturation};
@@ -33,12 +35,6 @@ const CODES: Record = [20, 10, 30, 40, 50, 60, 70, 80];
 
 /// The name that stands for the family.
 const FAMILY: &str = "family";
-
-type Saturate = fn(&[u8], &mut [u64], &mut [u64]) -> (u64, u64, u64);
-type Judge = fn(&[u8], &[u8], &mut [u64], &mut [u64], &mut [u16]) -> u64;
-type Guide = fn(&[u8], &[u8], u64, &mut [u64], &mut [u64], &mut [u16], &mut [u16]) -> GuideReply;
-type Listing = fn(&[u8], &[u8]) -> String;
-type Replay = fn(&[u8], &[u8], u64, &[u8], &mut [u8]) -> ReplayReply;
 
 /// The services of one of the two.
 struct Services {
@@ -73,6 +69,7 @@ impl Services {
         })
     }
 
+    /// Judges by all rounds.
     fn judge(&self, case: &[u8], start: &[u8]) -> f64 {
         let mut lent = Lent::as_listing();
         timed(|| {
@@ -82,11 +79,11 @@ impl Services {
                 answers,
                 ..
             } = &mut lent;
-            (self.judge)(case, start, moves, entries, answers);
+            (self.judge)(case, start, ALL_ROUNDS, moves, entries, answers);
         })
     }
 
-    /// Guides from every start.
+    /// Guides from every start, by all rounds.
     fn guide(&self, case: &[u8], start: &[u8]) -> f64 {
         let mut lent = Lent::as_listing();
         timed(|| {
@@ -98,7 +95,9 @@ impl Services {
                     trace,
                     ..
                 } = &mut lent;
-                (self.guide)(case, start, number, moves, entries, cells, trace);
+                (self.guide)(
+                    case, start, number, ALL_ROUNDS, moves, entries, cells, trace,
+                );
             }
         })
     }
@@ -136,6 +135,7 @@ fn runs(case: &[u8], start: &[u8]) -> Vec<(u64, Vec<u8>)> {
             case,
             start,
             number,
+            ALL_ROUNDS,
             &mut moves,
             &mut entries,
             &mut cells,

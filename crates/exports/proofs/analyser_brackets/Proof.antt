@@ -18,7 +18,7 @@ same-length : tie.Need-same-length
 same-length c = search needs
 
 returns : tie.Need-returns
-returns c = brackets-answered _ _ _ (@brackets .ensures .0) _ (@brackets-number .ensures) _ (@brackets-length .ensures)
+returns c = brackets-answered _ _ _ (c .before .before .before .before .brackets .ensures .0) _ (c .brackets-number .ensures) _ (c .before .brackets-length .ensures)
 
 pub analyser-brackets-spec : {M : Type 1} → statement M
 analyser-brackets-spec =

@@ -27,7 +27,7 @@ same-length-4 : tie.Need-same-length-4
 same-length-4 c = search needs
 
 returns : tie.Need-returns
-returns c = answered _ _ _ _ _ _ (@guide .ensures .0) _ (@number-of .ensures) _ (@counts-of .ensures)
+returns c = answered _ _ _ _ _ _ (c .before .before .before .before .before .before .before .before .before .before .guide .ensures .0) _ (c .number-of .ensures) _ (c .before .counts-of .ensures)
 
 pub analyser-guide-spec : {M : Type 1} → statement M
 analyser-guide-spec =

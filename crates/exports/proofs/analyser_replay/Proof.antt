@@ -18,7 +18,7 @@ same-length : tie.Need-same-length
 same-length c = search needs
 
 returns : tie.Need-returns
-returns c = replay-answered _ _ _ (@replay .ensures .0) _ (@replay-number .ensures) _ (@replay-step .ensures)
+returns c = replay-answered _ _ _ (c .before .before .before .before .replay .ensures .0) _ (c .replay-number .ensures) _ (c .before .replay-step .ensures)
 
 pub analyser-replay-spec : {M : Type 1} → statement M
 analyser-replay-spec =
