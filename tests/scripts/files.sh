@@ -46,6 +46,16 @@ longest_case() {
     record 8 11 12 13 14 15 16 17 18
 }
 
+# A case of 64 order-1 states, all of them entries, to which round 1 adds one more: for each control one for each set of the inner order-2
+# states 8, 9 and 10, and a pop 2.
+full_case() {
+    local number
+    contents 4 1 14 1 5 64 4 0 19
+    record 14 8 3 0 2
+    record 5 0 0 6 0 1
+    for ((number = 0; number < 64; number++)); do record 4 $((number / 8)) 255 0 $((number % 8)); done
+}
+
 # A start file whose stack has 62 order-1 stacks of 132 symbols each: the top one as named, all others 0, all annotated by the empty order-1
 # stack. The symbols are cells 2 to 133, the top one 134; the order-1 stacks are 133 and, on top, 134; the order-2 stacks are 135 to 196.
 wide_start() { # SYMBOL

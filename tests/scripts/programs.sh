@@ -51,6 +51,13 @@ guided_by_rounds() {
     done
     gives 3 $'refused 7\n' ./guide "$case" "$start" 3 0
     gives 3 $'refused 1\n' ./guide /dev/null "$start" 0 0
+    # 9 is about the rounds run.
+    printf '%b' "$(full_case)" >"$room/case.bin"
+    gives 0 $'start 0 open\n' ./guide "$room/case.bin" "$start" 0 0
+    gives 3 $'refused 9\n' ./guide "$room/case.bin" "$start" 0 1
+    says "the saturated table, or the table of the rounds run, has more moves than lent"
+    gives 3 $'refused 9\n' ./guide "$room/case.bin" "$start" 0
+    gives 3 $'refused 9\n' ./analyse "$room/case.bin" "$start"
     # A walk that is another one after round 3, in which the entry that the pop leads to gains a move.
     put_example 08 'a walk that differs with n, n = 2'
     gives 0 $'start 0 yes 2 2 13\n1 0\n' ./guide "$room/case.bin" "$room/start.bin" 0 2
