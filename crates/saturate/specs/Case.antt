@@ -18,7 +18,7 @@ use Rattle.tables.specs.Held.{automatonOf}
 use Rattle.tables.specs.Laws.Filled.{Filled}
 use Rattle.saturation.specs.Running.{mostMoves, mostEntries, ended}
 use Rattle.saturation.specs.Layout.{sizeRow}
-use Rattle.saturation.specs.Rounding.{Standing}
+use Rattle.one_round.specs.Rounding.{Standing}
 
 -- What is asked of the memory: the tables are all zero, and there is room for 64 inner edges, 1,024 results and 1,025 sizes.
 pub record Working (inner entries moves pending sizes : List ℕ) : Type 0 where

@@ -1,5 +1,4 @@
 pub mod Prepared
-pub mod Rounding
 pub mod Running
 pub mod Layout
 pub mod Held

@@ -18,7 +18,7 @@ use Rattle.tables.specs.Held.{automatonOf, EdgesStand, EntriesStand, MovesStand
 use Rattle.tables.specs.Counts.{CountsStand}
 use Rattle.tables.specs.Laws.Filled.{Filled}
 use Rattle.added_results.specs.Adding.{StatesExist}
-use Rattle.saturation.specs.Rounding.{Standing}
+use Rattle.one_round.specs.Rounding.{Standing}
 use Rattle.saturation.specs.Layout.{sizeRow}
 
 -- ---- limits

@@ -1,108 +1,18 @@
-// Rounds of saturation on lent tables, as many as are asked for: the results of a round are collected first, and then added; the numbers of moves
-// and entries after each round are reported, and whether a round more would add a move.
+// Rounds of saturation on lent tables, as many as are asked for; the numbers of moves and entries after each round are reported, and whether a round
+// more would add a move.
 ghost use mathlib.Core.Path.{_≡_};
-ghost use Prim.Native.Nat.{_<_, _≤_, _+_, _*_};
+ghost use Prim.Native.Nat.{_≤_, _+_, _*_};
 ghost use lib.ListN.{length};
 ghost use Rattle.tables.specs.Rows.{rowAt, putRow};
-ghost use Rattle.automata.specs.Saturation.{results, addsMove};
-ghost use Rattle.tables.specs.Held.{automatonOf};
 ghost use Rattle.move_index.specs.Keys.{ByState, ByWords};
-ghost use Rattle.readings.specs.Memo.{MemoBefore, MemoUpTo};
-ghost use Rattle.premises.specs.Before.{tableBefore, SettledBy};
+ghost use Rattle.readings.specs.Memo.{MemoBefore};
 ghost use Rattle.results.specs.Collecting.{RulesStand, rulesIn};
-ghost use Rattle.added_results.specs.Adding.{StatesExist};
-ghost use Rattle.saturation.specs.Rounding.{Standing, Rounded};
 ghost use Rattle.saturation.specs.Running.{mostMoves, mostEntries, Given, Ends};
 ghost use Rattle.saturation.specs.Sizes.{theSize, asSize};
 ghost use Rattle.saturation.specs.Layout.{sizeRow};
-use added_results::Grown;
 use limits::Limits;
+use one_round::Capacity;
 use premises::Before;
-
-// The most moves and entries that there may be.
-pub struct Capacity {
-    pub moves: usize,
-    pub entries: usize,
-}
-
-// One round: the results of the first `count` rules of a body that are not yet held are added. `fits` is false where that passes a limit. The
-// index of the moves, the table of the round before and the memo table are those of `results::collect`.
-fn add_round(
-    z: tables::Table,
-    inner: &[u64],
-    entries: &mut [u64],
-    moves: &mut [u64],
-    states: &[u16],
-    words: &[u16],
-    t: Before,
-    body: &[u8],
-    count: usize,
-    memo: &mut [u64],
-    pending: &mut [u64],
-    most: Capacity,
-) -> Grown
-    requires { ⌜ Standing z (most .moves) (most .entries) (now inner) (now entries) (now moves) × RulesStand count (now body) × (most .moves * 6 ≤ length (now pending)) × ByState (z .moves) (now moves) (now states) × ByWords (z .moves) (now moves) (now words) × SettledBy (automatonOf z (now inner) (now entries) (now moves)) t (results (rulesIn count (now body)) (tableBefore t (automatonOf z (now inner) (now entries) (now moves)))) × MemoBefore (z .moves) (now memo) × StatesExist (automatonOf z (now inner) (now entries) (now moves)) ⌝ }
-    ensures { λ g. ⌜ Rounded (rulesIn count (now (body .entry))) (now (inner .entry)) z (most .moves) (most .entries) (now (entries .entry)) (now (moves .entry)) (g .fits) (g .table) (now (entries .exit)) (now (moves .exit)) ⌝ }
-    ensures memo { λ g. ⌜ MemoUpTo (z .moves) (now (memo .exit)) ⌝ }
-{
-    let room = most.moves - z.moves;
-    let n = results::collect(
-        z,
-        inner,
-        entries,
-        moves,
-        states,
-        words,
-        t,
-        body,
-        count,
-        memo,
-        pending,
-        room,
-    );
-    if room < n {
-        return Grown {
-            fits: false,
-            table: z,
-        };
-    }
-    added_results::add_results(z, entries, moves, most.entries, pending, n)
-}
-
-// Whether a round would add a move: its results are collected with no room for any. What is asked of the tables is what `add_round` asks.
-fn would_add(
-    z: tables::Table,
-    inner: &[u64],
-    entries: &[u64],
-    moves: &[u64],
-    states: &[u16],
-    words: &[u16],
-    t: Before,
-    body: &[u8],
-    count: usize,
-    memo: &mut [u64],
-    pending: &mut [u64],
-    most: Capacity,
-) -> bool
-    requires { ⌜ Standing z (most .moves) (most .entries) (now inner) (now entries) (now moves) × RulesStand count (now body) × ByState (z .moves) (now moves) (now states) × ByWords (z .moves) (now moves) (now words) × SettledBy (automatonOf z (now inner) (now entries) (now moves)) t (results (rulesIn count (now body)) (tableBefore t (automatonOf z (now inner) (now entries) (now moves)))) × MemoBefore (z .moves) (now memo) ⌝ }
-    ensures { λ r. ⌜ r ≡ addsMove (rulesIn count (now (body .entry))) (automatonOf z (now (inner .entry)) (now (entries .entry)) (now (moves .entry))) ⌝ }
-{
-    let n = results::collect(
-        z,
-        inner,
-        entries,
-        moves,
-        states,
-        words,
-        t,
-        body,
-        count,
-        memo,
-        pending,
-        0,
-    );
-    0 < n
-}
 
 // The limits of tables of so many words, where there are so many inner order-1 states: only whole records count, there are at most 1,024 moves
 // and at most 64 order-1 states.
@@ -186,7 +96,7 @@ fn run_rounds(
         put_sizes(sizes, k, table.moves, table.entries);
         move_index::extend(moves, before.moves, table.moves, states, words);
         if k as u64 == rounds {
-            let more = would_add(
+            let more = one_round::would_add(
                 table,
                 inner,
                 entries,
@@ -207,7 +117,7 @@ fn run_rounds(
                 more: more,
             };
         }
-        let g = add_round(
+        let g = one_round::add_round(
             table,
             inner,
             entries,

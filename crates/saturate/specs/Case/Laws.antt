@@ -39,7 +39,7 @@ use Rattle.tables.specs.Laws.Filled.{Filled, filled-zeros, filled-put}
 use Rattle.case_tables.specs.WrittenRows.{written}
 use Rattle.case_tables.specs.Own.{RoomForOwn}
 use Rattle.results.specs.Collecting.{ruleIn, rulesIn, RulesStand}
-use Rattle.saturation.specs.Rounding.{Standing}
+use Rattle.one_round.specs.Rounding.{Standing}
 use Rattle.added_results.specs.Adding.{StatesExist}
 use Rattle.saturation.specs.Running.{mostMoves, mostEntries, Given, ended, Ends}
 use Rattle.saturation.specs.Layout.{sizeRow}

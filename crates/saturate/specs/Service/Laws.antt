@@ -24,8 +24,8 @@ use Rattle.tables.specs.Counts.{CountsStand}
 use Rattle.tables.specs.Counts.Laws.{counted-rows, filled-counted}
 use Rattle.tables.specs.Laws.Exact.{move-exact, counted-exact}
 use Rattle.tables.specs.Laws.Filled.{Filled, filled-whole}
-use Rattle.saturation.specs.Rounding.{Standing}
-use Rattle.saturation.specs.Rounding.Laws.{standing-entries, standing-moves}
+use Rattle.one_round.specs.Rounding.{Standing}
+use Rattle.one_round.specs.Rounding.Laws.{standing-entries, standing-moves}
 use Rattle.saturation.specs.Running.{mostMoves, mostEntries, ended}
 use Rattle.saturation.specs.Layout.{sizeRow}
 use Rattle.saturate.specs.Case.{CaseSaturated}

@@ -23,8 +23,8 @@ use Rattle.tables.specs.Layouts.{entryRow, moveRow}
 use Rattle.tables.specs.Held.{automatonOf}
 use Rattle.results.specs.Collecting.{newResults}
 use Rattle.added_results.specs.Adding.{Grows}
-use Rattle.saturation.specs.Rounding.{Standing, Rounded}
-use Rattle.saturation.specs.Rounding.Laws.{round-is}
+use Rattle.one_round.specs.Rounding.{Standing, Rounded}
+use Rattle.one_round.specs.Rounding.Laws.{round-is}
 use Rattle.saturation.specs.Running.{mostMoves, mostEntries, Given, ended, Ends, RunsRounds}
 use Rattle.saturation.specs.Sizes.{theSize}
 use Rattle.saturation.specs.Layout.{sizeRow}

@@ -13,7 +13,7 @@ use Rattle.tables.specs.Rows.{rowsIn}
 use Rattle.tables.specs.Held.{automatonOf}
 use Rattle.saturation.specs.Running.{ended}
 use Rattle.saturation.specs.Layout.{sizeRow}
-use Rattle.saturation.specs.Rounding.Laws.{standing-entries, standing-moves}
+use Rattle.one_round.specs.Rounding.Laws.{standing-entries, standing-moves}
 use Rattle.saturate.specs.Case.{CaseSaturated}
 use Rattle.acceptance.specs.Named.{TablesNamed}
 use Rattle.acceptance.specs.Table.Laws.{stands, table-small}

@@ -27,7 +27,7 @@ use Rattle.tables.specs.Held.{automatonOf, EntriesStand, MovesStand}
 use Rattle.tables.specs.Counts.{CountsStand}
 use Rattle.results.specs.Collecting.{newResults}
 use Rattle.added_results.specs.Adding.{Grows, Added}
-use Rattle.saturation.specs.Rounding.{Standing, Rounded}
+use Rattle.one_round.specs.Rounding.{Standing, Rounded}
 
 pub standing-entries : (z : Table) (mostMoves mostEntries : ℕ) (inner entries moves : List ℕ) → Standing z mostMoves mostEntries inner entries moves → EntriesStand z entries
 standing-entries z mostMoves mostEntries inner entries moves s =

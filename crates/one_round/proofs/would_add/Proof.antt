@@ -1,10 +1,10 @@
--- `saturation::would_add` meets its contract.
+-- `one_round::would_add` meets its contract.
 -- Assumes nothing.
 use native.Mathlib.Omega.{arith}
-use Rattle.saturation.specs.Rounding.Laws.{standing-entries, standing-moves, counted-adds}
+use Rattle.one_round.specs.Rounding.Laws.{standing-entries, standing-moves, counted-adds}
 use borrow.Author.Needs.{needs}
-use Rattle.saturation.proofs.would_add.Statement.{statement}
-use Rattle.saturation.proofs.would_add.Tie as tie
+use Rattle.one_round.proofs.would_add.Statement.{statement}
+use Rattle.one_round.proofs.would_add.Tie as tie
 
 collect-requires : tie.Need-collect-requires
 collect-requires c κs = (

@@ -1,12 +1,12 @@
--- `saturation::add_round` meets its contract.
+-- `one_round::add_round` meets its contract.
 -- Assumes nothing.
 use native.Mathlib.Omega.{arith}
 use mathlib.Core.List.{[]}
 use Rattle.added_results.specs.Adding.Exist.{exist-any}
-use Rattle.saturation.specs.Rounding.Laws.{standing-entries, standing-moves, rounded-over, rounded-added}
+use Rattle.one_round.specs.Rounding.Laws.{standing-entries, standing-moves, rounded-over, rounded-added}
 use borrow.Author.Needs.{needs}
-use Rattle.saturation.proofs.add_round.Statement.{statement}
-use Rattle.saturation.proofs.add_round.Tie as tie
+use Rattle.one_round.proofs.add_round.Statement.{statement}
+use Rattle.one_round.proofs.add_round.Tie as tie
 
 sub-room : tie.Need-sub-room
 sub-room c = omega (arith, c .before .before .before .before .before .before .before .before .before .before .pre .0 .moves-few)
