@@ -48,9 +48,9 @@ pub extern "C" fn analyser_judge(
 ) -> u64
     ensures { λ r. ⌜ judgeDone (theJudged r (now («rounds_used» .exit))) (now (moves .exit)) (now (entries .exit)) (now (answers .exit)) ≡ judgeService (judgeInput (now (case .entry)) (now (start .entry)) rounds (length (now (moves .entry))) (length (now (entries .entry))) (length (now (answers .entry)))) ⌝ }
 {
-    let r = judge::judge(case, start, rounds, moves, entries, answers);
-    *rounds_used = r.rounds;
-    r.code
+    let reply = judge::judge(case, start, rounds, moves, entries, answers);
+    *rounds_used = reply.rounds;
+    reply.code
 }
 
 // The service guide from start `number`, in at most `rounds` rounds: the number of its answer, with the steps taken and the cells used, 0 and 0 where it counts none.
