@@ -6,6 +6,7 @@ ghost use Rattle.automata.specs.Saturation.{results, addsMove};
 ghost use Rattle.tables.specs.Held.{automatonOf};
 ghost use Rattle.move_index.specs.Keys.{ByState, ByWords};
 ghost use Rattle.readings.specs.Memo.{MemoBefore, MemoUpTo};
+ghost use Rattle.readings.specs.Indexed.{Indexed};
 ghost use Rattle.premises.specs.Before.{tableBefore, SettledBy};
 ghost use Rattle.results.specs.Collecting.{RulesStand, rulesIn};
 ghost use Rattle.added_results.specs.Adding.{StatesExist};
@@ -63,7 +64,8 @@ pub fn add_round(
     added_results::add_results(z, entries, moves, most.entries, pending, n)
 }
 
-// Whether a round would add a move: its results are collected with no room for any. What is asked of the tables is what `add_round` asks.
+// Whether a round would add a move: its results are collected with no room for any. The index of the moves, the table of the round before and the memo
+// table are those of `results::collect`.
 pub fn would_add(
     z: tables::Table,
     inner: &[u64],
@@ -76,9 +78,8 @@ pub fn would_add(
     count: usize,
     memo: &mut [u64],
     pending: &mut [u64],
-    most: Capacity,
 ) -> bool
-    requires { ⌜ Standing z (most .moves) (most .entries) (now inner) (now entries) (now moves) × RulesStand count (now body) × ByState (z .moves) (now moves) (now states) × ByWords (z .moves) (now moves) (now words) × SettledBy (automatonOf z (now inner) (now entries) (now moves)) t (results (rulesIn count (now body)) (tableBefore t (automatonOf z (now inner) (now entries) (now moves)))) × MemoBefore (z .moves) (now memo) ⌝ }
+    requires { ⌜ Indexed z (now inner) (now entries) (now moves) (now states) (now words) × RulesStand count (now body) × SettledBy (automatonOf z (now inner) (now entries) (now moves)) t (results (rulesIn count (now body)) (tableBefore t (automatonOf z (now inner) (now entries) (now moves)))) × MemoBefore (z .moves) (now memo) ⌝ }
     ensures { λ r. ⌜ r ≡ addsMove (rulesIn count (now (body .entry))) (automatonOf z (now (inner .entry)) (now (entries .entry)) (now (moves .entry))) ⌝ }
 {
     let n = results::collect(

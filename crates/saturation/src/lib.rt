@@ -108,7 +108,6 @@ fn run_rounds(
                 count,
                 memo,
                 pending,
-                most,
             );
             return Saturated {
                 fits: true,

@@ -1,25 +1,13 @@
 -- `one_round::would_add` meets its contract.
 -- Assumes nothing.
 use native.Mathlib.Omega.{arith}
-use Rattle.one_round.specs.Rounding.Laws.{standing-entries, standing-moves, counted-adds}
+use Rattle.one_round.specs.Rounding.Laws.{counted-adds}
 use borrow.Author.Needs.{needs}
 use Rattle.one_round.proofs.would_add.Statement.{statement}
 use Rattle.one_round.proofs.would_add.Tie as tie
 
 collect-requires : tie.Need-collect-requires
-collect-requires c κs = (
-  record {
-    edges-stand = c .before .before .before .before .before .before .before .before .before .before .pre .0 .edges;
-    entries-stand = standing-entries (c .before .before .before .before .before .before .before .before .before .before .args .z) _ _ _ _ _ (c .before .before .before .before .before .before .before .before .before .before .pre .0);
-    moves-stand = standing-moves (c .before .before .before .before .before .before .before .before .before .before .args .z) _ _ _ _ _ (c .before .before .before .before .before .before .before .before .before .before .pre .0);
-    by-state = c .before .before .before .before .before .before .before .before .before .before .pre .2;
-    by-words = c .before .before .before .before .before .before .before .before .before .before .pre .3;
-  },
-  c .before .before .before .before .before .before .before .before .before .before .pre .1,
-  c .before .before .before .before .before .before .before .before .before .before .pre .4,
-  c .before .before .before .before .before .before .before .before .before .before .pre .5,
-  omega arith,
-)
+collect-requires c κs = let p = c .before .before .before .before .before .before .before .before .before .before .pre in (p .0, p .1, p .2, p .3, omega arith)
 
 same-length : tie.Need-same-length
 same-length c = search needs

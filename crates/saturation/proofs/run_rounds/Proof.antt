@@ -8,6 +8,7 @@ use lib.ListN.{length}
 use Rattle.tables.specs.Rows.Laws.{length-rowsIn}
 use Rattle.tables.specs.Layouts.{moveRow}
 use Rattle.results.specs.Collecting.{rulesIn}
+use Rattle.one_round.specs.Rounding.Laws.{standing-entries, standing-moves}
 use Rattle.saturation.specs.Prepared.{Prepared}
 use Rattle.saturation.specs.Prepared.Laws.{prepared-first, prepared-next}
 use Rattle.saturation.specs.Running.{RunsRounds}
@@ -46,11 +47,15 @@ extend-requires c κs =
 would-add-requires : tie.Need-would-add-requires Inv-loop μ-loop
 would-add-requires c κs =
     let turn = c .before .before .before .before .before .before .before .before .before .before .before .before .before .before .before .before .before .before .before .loop in
-    let most = c .before .before .before .before .before .before .before .before .before .before .before .before .before .before .before .before .before .before .before .before .limits-of in (
-      standing-limits _ _ _ _ _ _ _ _ (most .ensures .0) (most .ensures .1) (turn .inv .0 .standing),
+    let stands = turn .inv .0 .standing in (
+      record {
+        edges-stand = stands .edges;
+        entries-stand = standing-entries (turn .table) _ _ _ _ _ stands;
+        moves-stand = standing-moves (turn .table) _ _ _ _ _ stands;
+        by-state = c .before .before .before .before .before .before .before .before .before .before .before .extend .ensures .0;
+        by-words = c .before .before .before .before .before .before .before .before .before .before .before .extend .ensures .1;
+      },
       c .before .before .before .before .before .before .before .before .before .before .before .before .before .before .before .before .before .before .before .before .before .before .before .before .before .before .before .before .before .before .pre .1,
-      c .before .before .before .before .before .before .before .before .before .before .before .extend .ensures .0,
-      c .before .before .before .before .before .before .before .before .before .before .before .extend .ensures .1,
       turn .inv .3 .settled,
       turn .inv .3 .memo-before,
     )
