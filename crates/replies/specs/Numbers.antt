@@ -16,15 +16,16 @@ use Rattle.replies.specs.declared.Replayed.the-variants as Replayed
 use Rattle.replies.specs.declared.Brackets.{Brackets}
 use Rattle.replies.specs.declared.Brackets.the-variants as Brackets
 
--- "0 for no, otherwise that round plus 1."
+-- The word for since when a stack is accepted: 0 for never, "otherwise that round plus 1". Working memory keeps it for the cells.
 unfoldable pub answerWord : Acceptance → ℕ
 answerWord Never = 0
 answerWord (Since r) = suc r
 
--- "Judge .. marks each start yes, no or open (65535)": open is the word of a start that is not accepted while a round more would add a move.
+-- "Judge .. marks each start yes, no or open (65535)."
 abbrev pub openWord : ℕ
 openWord = 65535
 
+-- "0 for no, otherwise that round plus 1", by whether a round more would add a move: while it would, a start that is not accepted is open.
 unfoldable pub markWord : Bool → Acceptance → ℕ
 markWord more Never = elim more [ true ↦ openWord | false ↦ 0 ]
 markWord more (Since r) = suc r

@@ -8,6 +8,7 @@ use mathlib.Core.List.{List, [], _∷_}
 use lib.ListN.{getD}
 use lib.Dec.{lit<}
 use borrow.Author.Tests.{eqb-false}
+use Rattle.automata.specs.Saturation.{allRounds}
 use Rattle.replies.specs.declared.Reply.{Reply}
 use Rattle.replies.specs.declared.Reply.the-variants.{Refused, NoRun}
 use Rattle.replies.specs.Numbers.{openWord}
@@ -103,11 +104,15 @@ runs-on d e m =
     let (z, _) = judge-marks inputOne unrefused-one .each-mark 0 (lit< tt) .is-open .0 refl in
     false≢true (sym z ∙ t)
 
--- ---- the count of rounds run, the last and empty one included, and the number of rounds asked for in its place
+-- ---- the count of rounds run, the last and empty one included; the number of rounds asked for in its place; and no count
 
 pub counts-the-empty-round : (d : JudgeDone) → d .rounds ≡ 3 → JudgeStates inputA d → ⊥
 unfolding computed inputA
 counts-the-empty-round d e s = eqb-false 3 2 refl (sym e ∙ ap (λ (x : JudgeDone). x .rounds) (judge-only inputA d s))
+
+pub counts-the-asked : (d : JudgeDone) → d .rounds ≡ allRounds → JudgeStates inputA d → ⊥
+unfolding computed inputA
+counts-the-asked d e s = eqb-false allRounds 2 refl (sym e ∙ ap (λ (x : JudgeDone). x .rounds) (judge-only inputA d s))
 
 pub counts-none : (d : JudgeDone) → d .rounds ≡ 0 → JudgeStates inputOne d → ⊥
 unfolding computed inputOne
