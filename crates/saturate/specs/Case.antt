@@ -2,7 +2,7 @@
 -- Assumes nothing.
 pub mod Laws
 use Prim.Native.Nat.{ℕ, _≤_, _+_}
-use mathlib.Core.Bool.{Bool, true}
+use mathlib.Core.Bool.{Bool, true, false}
 use mathlib.Core.Path.{_≡_}
 use mathlib.Core.Option.{some}
 use mathlib.Core.List.{List}
@@ -38,3 +38,4 @@ pub record CaseSaturated (file : List ℕ) (rounds m e : ℕ) (fits : Bool) (z :
   pub entries-filled : fits ≡ true → Filled entryRow (z .entries) entries
   pub moves-filled : fits ≡ true → Filled moveRow (z .moves) moves
   pub sizes-few : k ≤ 1024
+  pub none-counted : fits ≡ false → (k ≡ 0) × (more ≡ false)

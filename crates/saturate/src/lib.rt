@@ -63,7 +63,7 @@ pub fn saturate_case(
 
 // No table: a limit is passed.
 fn nothing() -> Saturated
-    ensures { λ r. ⌜ (r .fits ≡ false) × (r .rounds ≡ 0) ⌝ }
+    ensures { λ r. ⌜ (r .fits ≡ false) × (r .rounds ≡ 0) × (r .more ≡ false) ⌝ }
 {
     let table = tables::Table {
         inner1: 0,

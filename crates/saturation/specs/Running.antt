@@ -9,7 +9,7 @@ use mathlib.Core.List.{List}
 use lib.ListN.{length}
 use Rattle.stacks.specs.System.{Rule}
 use Rattle.automata.specs.Automaton.{Automaton}
-use Rattle.automata.specs.Saturation.{Size, Saturated, addsMove, saturate, saturateFrom, roundsAdded}
+use Rattle.automata.specs.Saturation.{Size, Saturated, addsMove, saturate, roundsAdded}
 use Rattle.services.specs.Memory.{lent, entryWidth}
 use Rattle.tables.specs.declared.Table.{Table}
 use Rattle.tables.specs.Rows.{rowsIn}
@@ -45,28 +45,20 @@ unfoldable pub ended : Bool → Automaton → List Size → Option Saturated
 ended true A sizes = some (record { table = A; sizes = sizes })
 ended false A sizes = none
 
-module _ (rules : List Rule) (rounds : ℕ) (inner : List ℕ) (z : Table) (entries moves : List ℕ) where
-  -- The tables at the end: those of at most so many rounds, with their sizes, zeros behind the last rows staying there; or a limit is passed. The
+module _ (rules : List Rule) (inner : List ℕ) where
+  -- The tables at the end of rounds on z that give `whole`: its table with its sizes, zeros behind the last rows staying there; or a limit is passed. The
   -- number k of rounds is that of the definition's table, and `more` says whether a round more would add a move.
-  pub record Ends (fits : Bool) (z′ : Table) (k : ℕ) (more : Bool) (entries′ moves′ sizes : List ℕ) : Type 0 where
-    pub saturated : saturate rules (lent (length moves) (length entries)) rounds (automatonOf z inner entries moves)
-        ≡ ended fits (automatonOf z′ inner entries′ moves′) (rowsIn sizeRow (k + 1) sizes)
-    pub count : (T : Saturated) → saturate rules (lent (length moves) (length entries)) rounds (automatonOf z inner entries moves) ≡ some T → k ≡ roundsAdded T
+  pub record EndsWith (whole : Option Saturated) (z : Table) (entries moves : List ℕ) (fits : Bool) (z′ : Table) (k : ℕ) (more : Bool) (entries′ moves′ sizes : List ℕ) : Type 0 where
+    pub saturated : whole ≡ ended fits (automatonOf z′ inner entries′ moves′) (rowsIn sizeRow (k + 1) sizes)
+    pub count : (T : Saturated) → whole ≡ some T → k ≡ roundsAdded T
     pub more-is : fits ≡ true → more ≡ addsMove rules (automatonOf z′ inner entries′ moves′)
     pub standing : fits ≡ true → Standing z′ (mostMoves (length moves)) (mostEntries (length entries) (z .inner1)) inner entries′ moves′
     pub entries-filled : fits ≡ true → Filled entryRow (z .entries) entries → Filled entryRow (z′ .entries) entries′
     pub moves-filled : fits ≡ true → Filled moveRow (z .moves) moves → Filled moveRow (z′ .moves) moves′
     pub few : k ≤ 1024
+    pub none-counted : fits ≡ false → (k ≡ 0) × (more ≡ false)
 
-  -- After k rounds: what is left to do from here gives the whole.
-  pub record RunsRounds (z′ : Table) (k : ℕ) (entries′ moves′ sizes : List ℕ) : Type 0 where
-    pub standing : Standing z′ (mostMoves (length moves)) (mostEntries (length entries) (z .inner1)) inner entries′ moves′
-    pub left : saturate rules (lent (length moves) (length entries)) rounds (automatonOf z inner entries moves)
-        ≡ saturateFrom rules (lent (length moves) (length entries)) (rounds - k) (rowsIn sizeRow k sizes) (automatonOf z′ inner entries′ moves′)
-    pub asked : k ≤ rounds
-    pub count : k ≤ z′ .moves
-    pub same-states : z′ .inner1 ≡ z .inner1
-    pub entries-filled : Filled entryRow (z .entries) entries → Filled entryRow (z′ .entries) entries′
-    pub moves-filled : Filled moveRow (z .moves) moves → Filled moveRow (z′ .moves) moves′
-    pub entries-long : length entries′ ≡ length entries
-    pub moves-long : length moves′ ≡ length moves
+-- the end of at most so many rounds
+abbrev pub Ends : List Rule → ℕ → List ℕ → Table → List ℕ → List ℕ → Bool → Table → ℕ → Bool → List ℕ → List ℕ → List ℕ → Type 0
+Ends rules rounds inner z entries moves =
+    EndsWith rules inner (saturate rules (lent (length moves) (length entries)) rounds (automatonOf z inner entries moves)) z entries moves

@@ -8,8 +8,11 @@ ghost use Rattle.move_index.specs.Keys.{ByState, ByWords};
 ghost use Rattle.readings.specs.Memo.{MemoBefore};
 ghost use Rattle.results.specs.Collecting.{RulesStand, rulesIn};
 ghost use Rattle.saturation.specs.Running.{mostMoves, mostEntries, Given, Ends};
+ghost use Rattle.saturation.specs.Prepared.{Prepared};
+ghost use Rattle.saturation.specs.Turns.{theStopped, thePassed, afterRound, Underway, TurnLeaves};
 ghost use Rattle.saturation.specs.Sizes.{theSize, asSize};
 ghost use Rattle.saturation.specs.Layout.{sizeRow};
+use added_results::Grown;
 use limits::Limits;
 use one_round::Capacity;
 use premises::Before;
@@ -65,8 +68,109 @@ pub struct Saturated {
     pub more: bool,
 }
 
+// The end of the rounds: k of them added a move, and a round more would add one or not.
+fn stopped(z: tables::Table, k: usize, more: bool) -> Saturated
+    ensures { λ r. ⌜ r ≡ theStopped z k more ⌝ }
+{
+    Saturated {
+        fits: true,
+        table: z,
+        rounds: k,
+        more: more,
+    }
+}
+
+// A limit is passed: there are no rounds.
+fn passed(z: tables::Table) -> Saturated
+    ensures { λ r. ⌜ r ≡ thePassed z ⌝ }
+{
+    Saturated {
+        fits: false,
+        table: z,
+        rounds: 0,
+        more: false,
+    }
+}
+
+// What a turn answers: the rounds are done, or go on with the table of one more.
+pub enum Turn {
+    Done(Saturated),
+    On(tables::Table),
+}
+
+// What follows the round that was run on table z, that after k rounds.
+fn after_round(z: tables::Table, k: usize, g: Grown) -> Turn
+    ensures { λ r. ⌜ r ≡ afterRound z k g ⌝ }
+{
+    let next = g.table;
+    if !g.fits {
+        return Turn::Done(passed(next));
+    }
+    if next.moves == z.moves {
+        return Turn::Done(stopped(next, k, false));
+    }
+    Turn::On(next)
+}
+
+// The turn after k rounds, which left table z: its size is written and its moves are indexed; then one round more is run, or, where as many are run as are
+// asked for, only asked whether it would add a move. `states` and `words` index the moves of the table of the round before.
+fn take_turn(
+    rounds: u64,
+    k: usize,
+    z: tables::Table,
+    before: Before,
+    inner: &[u64],
+    entries: &mut [u64],
+    moves: &mut [u64],
+    body: &[u8],
+    count: usize,
+    pending: &mut [u64],
+    sizes: &mut [u64],
+    states: &mut [u16],
+    words: &mut [u16],
+    memo: &mut [u64],
+    most: Capacity,
+) -> Turn
+    requires { ⌜ Underway (now inner) rounds z k (now entries) (now moves) × Prepared (rulesIn count (now body)) (now inner) z (now entries) (now moves) before (now states) (now words) (now memo) × RulesStand count (now body) × (6144 ≤ length (now pending)) × (2050 ≤ length (now sizes)) × (most .moves ≡ mostMoves (length (now moves))) × (most .entries ≡ mostEntries (length (now entries)) (z .inner1)) ⌝ }
+    ensures { λ r. ⌜ TurnLeaves (rulesIn count (now (body .entry))) (now (inner .entry)) rounds z k (now (entries .entry)) (now (moves .entry)) (now (sizes .entry)) r (now (entries .exit)) (now (moves .exit)) (now (sizes .exit)) (now (states .exit)) (now (words .exit)) (now (memo .exit)) ⌝ }
+{
+    put_sizes(sizes, k, z.moves, z.entries);
+    move_index::extend(moves, before.moves, z.moves, states, words);
+    if k as u64 == rounds {
+        let more = one_round::would_add(
+            z,
+            inner,
+            entries,
+            moves,
+            states,
+            words,
+            before,
+            body,
+            count,
+            memo,
+            pending,
+        );
+        return Turn::Done(stopped(z, k, more));
+    }
+    let g = one_round::add_round(
+        z,
+        inner,
+        entries,
+        moves,
+        states,
+        words,
+        before,
+        body,
+        count,
+        memo,
+        pending,
+        most,
+    );
+    after_round(z, k, g)
+}
+
 // At most `rounds` rounds, until one adds no move, by the first `count` rules of a body. The numbers of moves and entries after round 0, 1 and so on
-// are left in the first rows of `sizes`. `states` and `words` index the moves of the rounds before the last.
+// are left in the first rows of `sizes`.
 fn run_rounds(
     rounds: u64,
     z: tables::Table,
@@ -93,67 +197,35 @@ fn run_rounds(
     let mut table = z;
     let mut k: usize = 0;
     loop {
-        put_sizes(sizes, k, table.moves, table.entries);
-        move_index::extend(moves, before.moves, table.moves, states, words);
-        if k as u64 == rounds {
-            let more = one_round::would_add(
-                table,
-                inner,
-                entries,
-                moves,
-                states,
-                words,
-                before,
-                body,
-                count,
-                memo,
-                pending,
-            );
-            return Saturated {
-                fits: true,
-                table: table,
-                rounds: k,
-                more: more,
-            };
-        }
-        let g = one_round::add_round(
+        let turn = take_turn(
+            rounds,
+            k,
             table,
+            before,
             inner,
             entries,
             moves,
-            states,
-            words,
-            before,
             body,
             count,
-            memo,
             pending,
+            sizes,
+            states,
+            words,
+            memo,
             most,
         );
-        let next = g.table;
-        if !g.fits {
-            return Saturated {
-                fits: false,
-                table: next,
-                rounds: 0,
-                more: false,
-            };
+        match turn {
+            Turn::Done(r) => return r,
+            Turn::On(next) => {
+                before = Before {
+                    any: true,
+                    moves: table.moves,
+                    entries: table.entries,
+                };
+                table = next;
+                k += 1;
+            }
         }
-        if next.moves == table.moves {
-            return Saturated {
-                fits: true,
-                table: next,
-                rounds: k,
-                more: false,
-            };
-        }
-        before = Before {
-            any: true,
-            moves: table.moves,
-            entries: table.entries,
-        };
-        table = next;
-        k += 1;
     }
 }
 

@@ -9,8 +9,9 @@ use lib.ListN.{getD}
 use lib.Dec.{lit<}
 use borrow.Author.Tests.{eqb-false}
 use Rattle.automata.specs.Saturation.{allRounds}
+use Rattle.replies.specs.declared.Halt.{Halt}
 use Rattle.replies.specs.declared.Reply.{Reply}
-use Rattle.replies.specs.declared.Reply.the-variants.{Refused, NoRun}
+use Rattle.replies.specs.declared.Reply.the-variants.{Refused, NoRun, Open, Walked}
 use Rattle.replies.specs.Numbers.{openWord}
 use Rattle.services.specs.Judge.{JudgeInput, JudgeDone}
 use Rattle.services.specs.Guide.{GuideInput, GuideDone}
@@ -38,6 +39,9 @@ inputTwo = record { case = caseA; start = startA; rounds = 2; moves = 17; entrie
 
 unfoldable pub guideOne : ℕ → GuideInput
 guideOne n = record { case = caseA; start = startA; number = n; rounds = 1; moves = 14; entries = 8; cells = 10 * 68; trace = 3 }
+
+unfoldable pub guideTwo : GuideInput
+guideTwo = record { case = caseA; start = startA; number = 2; rounds = 2; moves = 17; entries = 11; cells = 10 * 68; trace = 3 }
 
 -- the model whose start 0 has another least choice after round 2, in one round
 unfoldable pub guideWays : GuideInput
@@ -95,6 +99,13 @@ open-for-no d e m =
     let (_, still) = judge-marks inputTwo unrefused-two .each-mark 2 (lit< tt) .no-left .0 refl in
     adds-not caseA 2 adds still
 
+pub guide-open-for-no : (d : GuideDone) → d .reply ≡ Open → GuideStates guideTwo d → ⊥
+unfolding computed guideTwo
+guide-open-for-no d e s =
+    let (_, _, adds, _) = subst (λ (r : Reply). Answered guideTwo r (d .trace)) e (s .answered) in
+    let (_, _, still, _, _) = demand1-guide guideTwo .answered in
+    adds-not caseA 2 adds still
+
 -- ---- all rounds run whatever is asked: start 0 is won in round 2
 
 pub runs-on : (d : JudgeDone) → getD (d .answers) 0 0 ≡ 3 → JudgeMarks inputOne d → ⊥
@@ -102,6 +113,13 @@ unfolding computed inputOne
 runs-on d e m =
     let t = m unrefused-one .each-mark 0 (lit< tt) .yes .0 (subst Yes (sym e) (eqb-false 3 0 refl, eqb-false 3 openWord refl)) in
     let (z, _) = judge-marks inputOne unrefused-one .each-mark 0 (lit< tt) .is-open .0 refl in
+    false≢true (sym z ∙ t)
+
+pub guide-runs-on : (d : GuideDone) (h : Halt) → d .reply ≡ Walked h → GuideStates (guideOne 0) d → ⊥
+unfolding computed guideOne
+guide-runs-on d h e s =
+    let (_, t, _, _) = subst (λ (r : Reply). Answered (guideOne 0) r (d .trace)) e (s .answered) in
+    let (_, z, _, _) = demand1-guide (guideOne 0) .answered in
     false≢true (sym z ∙ t)
 
 -- ---- the count of rounds run, the last and empty one included; the number of rounds asked for in its place; and no count

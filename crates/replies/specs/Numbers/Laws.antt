@@ -1,6 +1,6 @@
 -- An answer's number tells whether it is a refusal, and a word its round.
 -- Assumes nothing.
-use Prim.Native.Nat.{_≤_, ℕ, suc, _-_, _<_}
+use Prim.Native.Nat.{suc, _-_, _≤_, _<_}
 use mathlib.Core.Bool.{Bool, true, false}
 use mathlib.Core.Path.{_≡_, refl}
 use native.Mathlib.Omega.{arith}

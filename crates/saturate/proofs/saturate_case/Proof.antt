@@ -21,7 +21,7 @@ nothing-requires : tie.Need-nothing-requires
 nothing-requires c κs = search needs
 
 returns : tie.Need-returns
-returns c = case-over _ (c .before .before .before .before .before .before .before .before .before .pre .0) _ _ (sym (c .before .before .own-fits .ensures) ∙ not-true (c .before .before .own-fits .result) (c .before .if1 .taken)) _ _ _ _ _ _ _ _ _ (c .nothing .ensures .0) (omega (arith, (c .nothing .ensures .1)))
+returns c = case-over _ (c .before .before .before .before .before .before .before .before .before .pre .0) _ _ (sym (c .before .before .own-fits .ensures) ∙ not-true (c .before .before .own-fits .result) (c .before .if1 .taken)) _ _ _ _ _ _ _ _ _ (c .nothing .ensures .0) (c .nothing .ensures .1) (c .nothing .ensures .2)
 
 load-case-requires : tie.Need-load-case-requires
 load-case-requires c κs = (case-in-place _ (c .before .before .before .before .before .before .before .before .before .before .before .pre .0), own-room _ (c .before .before .before .before .before .before .before .before .before .before .before .pre .0) _ _ _ _ _ (c .before .before .before .before .before .before .before .before .before .before .before .pre .1 .inner-room) refl refl (sym (c .before .before .before .before .own-fits .ensures) ∙ not-false (c .before .before .before .before .own-fits .result) (c .before .before .before .if1 .left)))

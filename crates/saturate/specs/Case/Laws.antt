@@ -260,6 +260,7 @@ module _ (file : List ℕ) (sound : caseRefusal file ≡ 0) where
             entries-filled = λ f. h .entries-filled f fe;
             moves-filled = λ f. h .moves-filled f fm;
             sizes-few = h .few;
+            none-counted = h .none-counted;
           }
         where
           limits-same : (z′ : Table) (entries′ moves′ : List ℕ) → length moves ≡ m → length entries ≡ e
@@ -270,9 +271,9 @@ module _ (file : List ℕ) (sound : caseRefusal file ≡ 0) where
 
     -- the case's own table passes a limit
     pub case-over : within (lent m e) (ownOf file) ≡ false → (rounds : ℕ) (fits : Bool) (z : Table) (k : ℕ) (more : Bool) (inner entries moves sizes : List ℕ)
-        → fits ≡ false → k ≤ 1024 → CaseSaturated file rounds m e fits z k more inner entries moves sizes
+        → fits ≡ false → k ≡ 0 → more ≡ false → CaseSaturated file rounds m e fits z k more inner entries moves sizes
     unfolding saturate ended
-    case-over w rounds fits z k more inner entries moves sizes f b =
+    case-over w rounds fits z k more inner entries moves sizes f none-run no-more =
         let none-left = saturateFrom-exceeds (rulesOf file) (lent m e) rounds [] (ownOf file) w in
         record {
           saturated = none-left ∙ sym (ap (λ (x : Bool). ended x (automatonOf z inner entries moves) (rowsIn sizeRow (k + 1) sizes)) f);
@@ -281,5 +282,6 @@ module _ (file : List ℕ) (sound : caseRefusal file ≡ 0) where
           standing = λ g. absurd (false≢true (sym f ∙ g));
           entries-filled = λ g. absurd (false≢true (sym f ∙ g));
           moves-filled = λ g. absurd (false≢true (sym f ∙ g));
-          sizes-few = b;
+          sizes-few = omega arith;
+          none-counted = λ _. (none-run, no-more);
         }

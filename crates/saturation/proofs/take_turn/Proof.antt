@@ -1,0 +1,146 @@
+-- `saturation::take_turn` meets its contract.
+-- Assumes nothing.
+use native.Mathlib.Omega.{arith}
+use Rattle.tables.specs.Rows.Laws.{length-rowsIn}
+use Rattle.tables.specs.Layouts.{moveRow}
+use Rattle.one_round.specs.Rounding.Laws.{standing-entries, standing-moves}
+use Rattle.saturation.specs.Running.Laws.{standing-limits, rounded-limits, pending-room}
+use Rattle.saturation.specs.Turns.Laws.{moves-small, row-left, turn-stopped, turn-rounds}
+use borrow.Author.Needs.{needs}
+use Rattle.saturation.proofs.take_turn.Statement.{statement}
+use Rattle.saturation.proofs.take_turn.Tie as tie
+
+put-sizes-requires : tie.Need-put-sizes-requires
+put-sizes-requires c κs = omega (arith, row-left _ _ (c .before .before .before .before .before .before .before .before .before .before .args .z) _ _ _ (c .before .before .before .before .before .before .before .before .before .before .pre .0), c .before .before .before .before .before .before .before .before .before .before .pre .4)
+
+extend-requires : tie.Need-extend-requires
+extend-requires c κs =
+    let asked = c .before .before .before .before .before .before .before .before .before .before .before .before .before .before .before .before .pre in
+    let z = c .before .before .before .before .before .before .before .before .before .before .before .before .before .before .before .before .args .z in
+    let rows = length-rowsIn moveRow (z .moves) (c .before .before .before .before .before .before .before .before .before .before .before .before .before .before .before .before .args .moves .now) in (
+      omega (arith, asked .1 .settled .moves-before, rows),
+      omega (arith, moves-small _ _ z _ _ _ (asked .0)),
+      omega (arith, asked .0 .standing .moves-few, asked .0 .standing .moves-lent),
+      asked .1 .by-state,
+      asked .1 .by-words,
+    )
+
+would-add-requires : tie.Need-would-add-requires
+would-add-requires c κs =
+    let asked = c .before .before .before .before .before .before .before .before .before .before .before .before .before .before .before .before .before .before .before .before .before .before .before .before .before .before .before .before .pre in
+    let stands = asked .0 .standing in
+    let indexed = c .before .before .before .before .before .before .before .before .before .before .before .extend .ensures in (
+      record {
+        edges-stand = stands .edges;
+        entries-stand = standing-entries (c .before .before .before .before .before .before .before .before .before .before .before .before .before .before .before .before .before .before .before .before .before .before .before .before .before .before .before .before .args .z) _ _ _ _ _ stands;
+        moves-stand = standing-moves (c .before .before .before .before .before .before .before .before .before .before .before .before .before .before .before .before .before .before .before .before .before .before .before .before .before .before .before .before .args .z) _ _ _ _ _ stands;
+        by-state = indexed .0;
+        by-words = indexed .1;
+      },
+      asked .2,
+      asked .1 .settled,
+      asked .1 .memo-before,
+    )
+
+stopped-requires : tie.Need-stopped-requires
+stopped-requires c κs = search needs
+
+same-length : tie.Need-same-length
+same-length c = search needs
+
+same-length-2 : tie.Need-same-length-2
+same-length-2 c = search needs
+
+same-length-3 : tie.Need-same-length-3
+same-length-3 c = search needs
+
+same-length-4 : tie.Need-same-length-4
+same-length-4 c = c .before .before .before .before .before .before .before .before .before .before .before .before .before .before .before .before .before .before .before .before .before .before .before .put-sizes .kept .0
+
+same-length-5 : tie.Need-same-length-5
+same-length-5 c = search needs
+
+same-length-6 : tie.Need-same-length-6
+same-length-6 c = search needs
+
+same-length-7 : tie.Need-same-length-7
+same-length-7 c = search needs
+
+returns : tie.Need-returns
+returns c =
+    let asked = c .before .before .before .before .before .before .before .before .before .before .before .before .before .before .before .before .before .before .before .before .before .before .before .before .before .before .before .before .before .before .before .before .before .before .pre in
+    turn-stopped _ _ _ (c .before .before .before .before .before .before .before .before .before .before .before .before .before .before .before .before .before .before .before .before .before .before .before .before .before .before .before .before .before .before .before .before .before .before .args .z) _ _ _ (asked .0) _ _ (asked .4) (c .before .before .before .before .before .before .before .before .before .before .before .before .before .before .before .before .before .before .before .before .before .before .before .put-sizes .ensures) (c .before .before .before .before .before .before .before .before .before .before .before .before .if1 .taken) _ (c .before .before .before .before .before .would-add .ensures) _ (c .stopped .ensures)
+
+add-round-requires : tie.Need-add-round-requires
+add-round-requires c κs =
+    let asked = c .before .before .before .before .before .before .before .before .before .before .before .before .before .before .before .before .before .before .before .before .before .before .before .before .before .before .before .before .pre in
+    let indexed = c .before .before .before .before .before .before .before .before .before .before .before .extend .ensures in (
+      standing-limits (c .before .before .before .before .before .before .before .before .before .before .before .before .before .before .before .before .before .before .before .before .before .before .before .before .before .before .before .before .args .z) _ _ _ _ _ _ _ (asked .5) (asked .6) (asked .0 .standing),
+      asked .2,
+      pending-room _ _ _ (asked .5) (asked .3),
+      indexed .0,
+      indexed .1,
+      asked .1 .settled,
+      asked .1 .memo-before,
+      asked .1 .states-exist,
+    )
+
+after-round-requires : tie.Need-after-round-requires
+after-round-requires c κs = search needs
+
+same-length-8 : tie.Need-same-length-8
+same-length-8 c = search needs
+
+same-length-9 : tie.Need-same-length-9
+same-length-9 c = search needs
+
+same-length-10 : tie.Need-same-length-10
+same-length-10 c = search needs
+
+same-length-11 : tie.Need-same-length-11
+same-length-11 c = c .before .before .before .before .before .before .before .before .before .before .before .before .before .before .before .before .before .before .before .before .before .before .before .before .before .before .before .put-sizes .kept .0
+
+same-length-12 : tie.Need-same-length-12
+same-length-12 c = search needs
+
+same-length-13 : tie.Need-same-length-13
+same-length-13 c = search needs
+
+same-length-14 : tie.Need-same-length-14
+same-length-14 c = search needs
+
+returns-2 : tie.Need-returns-2
+returns-2 c =
+    let asked = c .before .before .before .before .before .before .before .before .before .before .before .before .before .before .before .before .before .before .before .before .before .before .before .before .before .before .before .before .before .before .before .before .before .before .before .before .before .before .pre in
+    let indexed = c .before .before .before .before .before .before .before .before .before .before .before .before .before .before .before .before .before .before .before .before .before .extend .ensures in
+    let round = c .before .before .before .before .before .before .before .before .before .add-round in
+    let rounded = rounded-limits _ _ (c .before .before .before .before .before .before .before .before .before .before .before .before .before .before .before .before .before .before .before .before .before .before .before .before .before .before .before .before .before .before .before .before .before .before .before .before .before .before .args .z) _ _ _ _ _ _ _ _ _ _ (asked .5) (asked .6) (round .ensures .0) in
+    turn-rounds _ _ _ (c .before .before .before .before .before .before .before .before .before .before .before .before .before .before .before .before .before .before .before .before .before .before .before .before .before .before .before .before .before .before .before .before .before .before .before .before .before .before .args .z) _ _ _ (asked .0) _ _ (asked .4) (c .before .before .before .before .before .before .before .before .before .before .before .before .before .before .before .before .before .before .before .before .before .before .before .before .before .before .before .put-sizes .ensures) (c .before .before .before .before .before .before .before .before .before .before .before .before .before .before .before .before .if1 .left) (round .result) _ _ rounded _ _ _
+    (asked .1 .states-exist) (indexed .0) (indexed .1) (round .ensures .1) _ (c .after-round .ensures)
+
+pub take-turn-spec : {M : Type 1} → statement M
+take-turn-spec =
+    tie.close
+    (tie.spec
+    put-sizes-requires
+    extend-requires
+    would-add-requires
+    stopped-requires
+    same-length
+    same-length-2
+    same-length-3
+    same-length-4
+    same-length-5
+    same-length-6
+    same-length-7
+    returns
+    add-round-requires
+    after-round-requires
+    same-length-8
+    same-length-9
+    same-length-10
+    same-length-11
+    same-length-12
+    same-length-13
+    same-length-14
+    returns-2)
