@@ -1,5 +1,6 @@
 -- `saturation::take_turn` meets its contract.
 -- Assumes nothing.
+use mathlib.Core.Path.{_≡_}
 use native.Mathlib.Omega.{arith}
 use Rattle.tables.specs.Rows.Laws.{length-rowsIn}
 use Rattle.tables.specs.Layouts.{moveRow}
@@ -68,8 +69,10 @@ same-length-7 c = search needs
 
 returns : tie.Need-returns
 returns c =
+    let x = c .before .before .before .before .before .before .before .before .before .before .before .before .before .before .before .before .before .before .before .before .before .before .before .before .before .before .before .before .before .before .before .before .before .before .args in
     let asked = c .before .before .before .before .before .before .before .before .before .before .before .before .before .before .before .before .before .before .before .before .before .before .before .before .before .before .before .before .before .before .before .before .before .before .pre in
-    turn-stopped _ _ _ (c .before .before .before .before .before .before .before .before .before .before .before .before .before .before .before .before .before .before .before .before .before .before .before .before .before .before .before .before .before .before .before .before .before .before .args .z) _ _ _ (asked .0) _ _ (asked .4) (c .before .before .before .before .before .before .before .before .before .before .before .before .before .before .before .before .before .before .before .before .before .before .before .put-sizes .ensures) (c .before .before .before .before .before .before .before .before .before .before .before .before .if1 .taken) _ (c .before .before .before .before .before .would-add .ensures) _ (c .stopped .ensures)
+    let all-run : x .k ≡ x .rounds = omega (arith, c .before .before .before .before .before .before .before .before .before .before .before .before .if1 .taken) in
+    turn-stopped _ _ _ (x .z) _ _ _ (asked .0) _ _ (asked .4) (c .before .before .before .before .before .before .before .before .before .before .before .before .before .before .before .before .before .before .before .before .before .before .before .put-sizes .ensures) all-run _ (c .before .before .before .before .before .would-add .ensures) _ (c .stopped .ensures)
 
 add-round-requires : tie.Need-add-round-requires
 add-round-requires c κs =
@@ -111,11 +114,13 @@ same-length-14 c = search needs
 
 returns-2 : tie.Need-returns-2
 returns-2 c =
+    let x = c .before .before .before .before .before .before .before .before .before .before .before .before .before .before .before .before .before .before .before .before .before .before .before .before .before .before .before .before .before .before .before .before .before .before .before .before .before .before .args in
     let asked = c .before .before .before .before .before .before .before .before .before .before .before .before .before .before .before .before .before .before .before .before .before .before .before .before .before .before .before .before .before .before .before .before .before .before .before .before .before .before .pre in
+    let not-all : x .k ≡ x .rounds → ⊥ = λ e. omega (arith, c .before .before .before .before .before .before .before .before .before .before .before .before .before .before .before .before .if1 .left) in
     let indexed = c .before .before .before .before .before .before .before .before .before .before .before .before .before .before .before .before .before .before .before .before .before .extend .ensures in
     let round = c .before .before .before .before .before .before .before .before .before .add-round in
-    let rounded = rounded-limits _ _ (c .before .before .before .before .before .before .before .before .before .before .before .before .before .before .before .before .before .before .before .before .before .before .before .before .before .before .before .before .before .before .before .before .before .before .before .before .before .before .args .z) _ _ _ _ _ _ _ _ _ _ (asked .5) (asked .6) (round .ensures .0) in
-    turn-rounds _ _ _ (c .before .before .before .before .before .before .before .before .before .before .before .before .before .before .before .before .before .before .before .before .before .before .before .before .before .before .before .before .before .before .before .before .before .before .before .before .before .before .args .z) _ _ _ (asked .0) _ _ (asked .4) (c .before .before .before .before .before .before .before .before .before .before .before .before .before .before .before .before .before .before .before .before .before .before .before .before .before .before .before .put-sizes .ensures) (c .before .before .before .before .before .before .before .before .before .before .before .before .before .before .before .before .if1 .left) (round .result) _ _ rounded _ _ _
+    let rounded = rounded-limits _ _ (x .z) _ _ _ _ _ _ _ _ _ _ (asked .5) (asked .6) (round .ensures .0) in
+    turn-rounds _ _ _ (x .z) _ _ _ (asked .0) _ _ (asked .4) (c .before .before .before .before .before .before .before .before .before .before .before .before .before .before .before .before .before .before .before .before .before .before .before .before .before .before .before .put-sizes .ensures) not-all (round .result) _ _ rounded _ _ _
     (asked .1 .states-exist) (indexed .0) (indexed .1) (round .ensures .1) _ (c .after-round .ensures)
 
 pub take-turn-spec : {M : Type 1} → statement M
