@@ -73,12 +73,7 @@ fn nothing() -> Saturated
         entries: 0,
         moves: 0,
     };
-    Saturated {
-        fits: false,
-        table: table,
-        rounds: 0,
-        more: false,
-    }
+    saturation::passed(table)
 }
 
 // The reply of a refusal.

@@ -81,7 +81,7 @@ fn stopped(z: tables::Table, k: usize, more: bool) -> Saturated
 }
 
 // A limit is passed: there are no rounds.
-fn passed(z: tables::Table) -> Saturated
+pub fn passed(z: tables::Table) -> Saturated
     ensures { λ r. ⌜ r ≡ thePassed z ⌝ }
 {
     Saturated {
