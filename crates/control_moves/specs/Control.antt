@@ -12,7 +12,9 @@ use Rattle.automata.specs.Automaton.{Automaton, Move, Entry, noEntry, moveAt}
 use Rattle.automata.specs.Derivation.{Result}
 use Rattle.move_index.specs.Keys.{stateKey}
 use Rattle.offers.specs.Offers.Alike.{Gathered}
+use Rattle.readings.specs.declared.Goal.{Goal}
 use Rattle.premises.specs.declared.MoveUse.{MoveUse}
+use Rattle.premises.specs.declared.Source.{Source}
 use Rattle.premises.specs.Steps.{moveStep}
 
 -- a move on the chain of state r and symbol b
@@ -43,3 +45,7 @@ module _ (A : Automaton) (p a : ℕ) (k : MoveUse) (b q : ℕ) where
   -- What the moves from number c on that are on the chain give was offered.
   abbrev pub ChainDownTo : ℕ → ℕ → ℕ → List ℕ → ℕ → ℕ → List ℕ → Type 0
   ChainDownTo e room n t c r t′ = Gathered A room n t (chainResults e) (OnFrom (A .J + e) c) r t′
+
+-- in the code: what the moves of entry e give, where they come from this source
+abbrev pub entryGives : Goal → Source → ℕ → Automaton → List Result
+entryGives to from e A = entryMoves A (to .control) (to .symbol) (from .kind) (from .symbol) (from .control) e

@@ -4,21 +4,22 @@ ghost use Prim.Native.Nat.{_<_, _%_};
 ghost use lib.Dec.{ltb};
 ghost use Rattle.words.specs.Sets.{member};
 ghost use Rattle.tables.specs.Held.{automatonOf, MovesStand};
-ghost use Rattle.offers.specs.Offers.{Collects, Room};
 ghost use Rattle.readings.specs.Indexed.{Indexed};
-ghost use Rattle.readings.specs.Earlier.{Settles};
-ghost use Rattle.readings.specs.Memo.{MemoHolds};
+ghost use Rattle.readings.specs.Before.{tableBefore};
+ghost use Rattle.readings.specs.Gathering.{CanCollect, CollectsAll};
 ghost use Rattle.round_news.specs.News.{HasSymbols, NoneHas};
-ghost use Rattle.premises.specs.Premises.{movesResults};
-ghost use Rattle.premises.specs.Before.{tableBefore, SettledBy};
-ghost use Rattle.control_moves.specs.First.{readsNew, firstMove};
-ghost use Rattle.control_moves.specs.Control.{entryMoves};
-use premises::Before;
+ghost use Rattle.premises.specs.Premises.{sourceGives};
+ghost use Rattle.premises.specs.Settled.{SettledBy, SourceHeld};
+ghost use Rattle.control_moves.specs.First.{readsNew, firstMove, HeldBelow};
+ghost use Rattle.control_moves.specs.Control.{entryGives};
+use offers::Pending;
 use premises::MoveUse;
-use readings::Earlier;
+use premises::Source;
+use readings::Before;
+use readings::Goal;
 
-// Collects what the moves on b of entry number e give, where its control is q. They are found along a chain; w, the index and `memo` are those of
-// `readings::read_from`, here and in the functions that follow, and t is the table of the round before.
+// Collects what the moves of entry number e give, where they come from this source. They are found along a chain; the table of the round
+// before, t, the index and `memo` are those of `readings::read_from`, here and in the functions that follow.
 fn by_entry_moves(
     z: tables::Table,
     inner: &[u64],
@@ -26,28 +27,29 @@ fn by_entry_moves(
     moves: &[u64],
     states: &[u16],
     words: &[u16],
-    to: readings::Goal,
-    w: Earlier,
+    to: Goal,
     t: Before,
-    kind: MoveUse,
-    b: u64,
-    q: u64,
+    from: Source,
     e: usize,
     memo: &mut [u64],
     out: &mut [u64],
-    n: usize,
-    room: usize,
-) -> usize
-    requires { ⌜ Indexed z (now inner) (now entries) (now moves) (now states) (now words) × Settles (automatonOf z (now inner) (now entries) (now moves)) w (to .symbol) × SettledBy (automatonOf z (now inner) (now entries) (now moves)) t (movesResults (tableBefore t (automatonOf z (now inner) (now entries) (now moves))) (to .control) (to .symbol) kind b q) × Room room n (now out) × MemoHolds (automatonOf z (now inner) (now entries) (now moves)) room n (now out) (now memo) × (e < z .entries) × (w .moves ≡ t .moves) × (w .entries ≡ t .entries) ⌝ }
-    ensures { λ r. ⌜ Collects (automatonOf z (now (inner .entry)) (now (entries .entry)) (now (moves .entry))) room n (now (out .entry)) (entryMoves (automatonOf z (now (inner .entry)) (now (entries .entry)) (now (moves .entry))) (to .control) (to .symbol) kind b q e) r (now (out .exit)) ⌝ }
-    ensures { λ r. ⌜ MemoHolds (automatonOf z (now (inner .entry)) (now (entries .entry)) (now (moves .entry))) room r (now (out .exit)) (now (memo .exit)) ⌝ }
+    n: Pending,
+) -> Pending
+    requires { ⌜ Indexed z (now inner) (now entries) (now moves) (now states) (now words)
+        × CanCollect (automatonOf z (now inner) (now entries) (now moves)) n (now out) (now memo)
+        × SourceHeld (automatonOf z (now inner) (now entries) (now moves)) t to from × (e < z .entries) ⌝ }
+    ensures { λ k. ⌜ CollectsAll (automatonOf z (now (inner .entry)) (now (entries .entry)) (now (moves .entry))) n (now (out .entry))
+        (entryGives to from e) k (now (out .exit)) (now (memo .exit)) ⌝ }
 {
     let x = tables::entry_at(entries, e);
-    if x.control != q {
+    if x.control != from.control {
         return n;
     }
     let mut k = n;
-    let mut c = chains::last(states, move_index::state_key(z.inner1 + e as u64, b));
+    let mut c = chains::last(
+        states,
+        move_index::state_key(z.inner1 + e as u64, from.symbol),
+    );
     while 0 < c {
         let i = c - 1;
         k = premises::by_move(
@@ -58,23 +60,19 @@ fn by_entry_moves(
             states,
             words,
             to,
-            w,
             t,
-            kind,
-            b,
-            q,
+            from,
             i,
             memo,
             out,
             k,
-            room,
         );
         c = chains::before(states, i);
     }
     k
 }
 
-// Collects what all moves on b of the entries of control q give, entry by entry.
+// Collects what all moves from this source give, entry by entry.
 fn by_control(
     z: tables::Table,
     inner: &[u64],
@@ -82,20 +80,18 @@ fn by_control(
     moves: &[u64],
     states: &[u16],
     words: &[u16],
-    to: readings::Goal,
-    w: Earlier,
+    to: Goal,
     t: Before,
-    kind: MoveUse,
-    b: u64,
-    q: u64,
+    from: Source,
     memo: &mut [u64],
     out: &mut [u64],
-    n: usize,
-    room: usize,
-) -> usize
-    requires { ⌜ Indexed z (now inner) (now entries) (now moves) (now states) (now words) × Settles (automatonOf z (now inner) (now entries) (now moves)) w (to .symbol) × SettledBy (automatonOf z (now inner) (now entries) (now moves)) t (movesResults (tableBefore t (automatonOf z (now inner) (now entries) (now moves))) (to .control) (to .symbol) kind b q) × Room room n (now out) × MemoHolds (automatonOf z (now inner) (now entries) (now moves)) room n (now out) (now memo) × (w .moves ≡ t .moves) × (w .entries ≡ t .entries) ⌝ }
-    ensures { λ r. ⌜ Collects (automatonOf z (now (inner .entry)) (now (entries .entry)) (now (moves .entry))) room n (now (out .entry)) (movesResults (automatonOf z (now (inner .entry)) (now (entries .entry)) (now (moves .entry))) (to .control) (to .symbol) kind b q) r (now (out .exit)) ⌝ }
-    ensures { λ r. ⌜ MemoHolds (automatonOf z (now (inner .entry)) (now (entries .entry)) (now (moves .entry))) room r (now (out .exit)) (now (memo .exit)) ⌝ }
+    n: Pending,
+) -> Pending
+    requires { ⌜ Indexed z (now inner) (now entries) (now moves) (now states) (now words)
+        × CanCollect (automatonOf z (now inner) (now entries) (now moves)) n (now out) (now memo)
+        × SourceHeld (automatonOf z (now inner) (now entries) (now moves)) t to from ⌝ }
+    ensures { λ k. ⌜ CollectsAll (automatonOf z (now (inner .entry)) (now (entries .entry)) (now (moves .entry))) n (now (out .entry))
+        (sourceGives to from) k (now (out .exit)) (now (memo .exit)) ⌝ }
 {
     let count = z.entries;
     let mut k = n;
@@ -109,18 +105,60 @@ fn by_control(
             states,
             words,
             to,
-            w,
             t,
-            kind,
-            b,
-            q,
+            from,
             e,
             memo,
             out,
             k,
-            room,
         );
         e += 1;
+    }
+    k
+}
+
+// Collects what all moves from this source give, where what those below number `first` give is held.
+fn by_newer(
+    z: tables::Table,
+    inner: &[u64],
+    entries: &[u64],
+    moves: &[u64],
+    states: &[u16],
+    words: &[u16],
+    to: Goal,
+    t: Before,
+    from: Source,
+    first: usize,
+    memo: &mut [u64],
+    out: &mut [u64],
+    n: Pending,
+) -> Pending
+    requires { ⌜ Indexed z (now inner) (now entries) (now moves) (now states) (now words)
+        × CanCollect (automatonOf z (now inner) (now entries) (now moves)) n (now out) (now memo)
+        × SourceHeld (automatonOf z (now inner) (now entries) (now moves)) t to from × HeldBelow (automatonOf z (now inner) (now entries) (now moves)) to from first ⌝ }
+    ensures { λ k. ⌜ CollectsAll (automatonOf z (now (inner .entry)) (now (entries .entry)) (now (moves .entry))) n (now (out .entry))
+        (sourceGives to from) k (now (out .exit)) (now (memo .exit)) ⌝ }
+{
+    let count = z.moves;
+    let mut k = n;
+    let mut i = first;
+    while i < count {
+        k = premises::by_move(
+            z,
+            inner,
+            entries,
+            moves,
+            states,
+            words,
+            to,
+            t,
+            from,
+            i,
+            memo,
+            out,
+            k,
+        );
+        i += 1;
     }
     k
 }
@@ -163,8 +201,8 @@ fn settled(z: tables::Table, moves: &[u64], t: Before, reads: bool, a: u64) -> u
     round_news::settled_states(moves, t.moves, z.moves, a)
 }
 
-// Collects what the moves on b of the entries of control q give: of all where an old premise can give something new, otherwise of the newer
-// ones. The symbols of the newer moves are given.
+// Collects what the moves from this source give: all are looked at where an old premise can give something new, otherwise the newer ones. The
+// symbols of the newer moves are given.
 pub fn by_moves(
     z: tables::Table,
     inner: &[u64],
@@ -172,27 +210,25 @@ pub fn by_moves(
     moves: &[u64],
     states: &[u16],
     words: &[u16],
-    to: readings::Goal,
+    to: Goal,
     t: Before,
     symbols: u64,
-    kind: MoveUse,
-    b: u64,
-    q: u64,
+    from: Source,
     memo: &mut [u64],
     out: &mut [u64],
-    n: usize,
-    room: usize,
-) -> usize
-    requires { ⌜ Indexed z (now inner) (now entries) (now moves) (now states) (now words) × SettledBy (automatonOf z (now inner) (now entries) (now moves)) t (movesResults (tableBefore t (automatonOf z (now inner) (now entries) (now moves))) (to .control) (to .symbol) kind b q) × HasSymbols (now moves) (t .moves) (z .moves) symbols × Room room n (now out) × MemoHolds (automatonOf z (now inner) (now entries) (now moves)) room n (now out) (now memo) ⌝ }
-    ensures { λ r. ⌜ Collects (automatonOf z (now (inner .entry)) (now (entries .entry)) (now (moves .entry))) room n (now (out .entry)) (movesResults (automatonOf z (now (inner .entry)) (now (entries .entry)) (now (moves .entry))) (to .control) (to .symbol) kind b q) r (now (out .exit)) ⌝ }
-    ensures { λ r. ⌜ MemoHolds (automatonOf z (now (inner .entry)) (now (entries .entry)) (now (moves .entry))) room r (now (out .exit)) (now (memo .exit)) ⌝ }
+    n: Pending,
+) -> Pending
+    requires { ⌜ Indexed z (now inner) (now entries) (now moves) (now states) (now words)
+        × CanCollect (automatonOf z (now inner) (now entries) (now moves)) n (now out) (now memo)
+        × SettledBy (automatonOf z (now inner) (now entries) (now moves)) t (sourceGives to from (tableBefore t (automatonOf z (now inner) (now entries) (now moves))))
+        × HasSymbols (now moves) (t .moves) (z .moves) symbols ⌝ }
+    ensures { λ k. ⌜ CollectsAll (automatonOf z (now (inner .entry)) (now (entries .entry)) (now (moves .entry))) n (now (out .entry))
+        (sourceGives to from) k (now (out .exit)) (now (memo .exit)) ⌝ }
 {
+    let kind = from.kind;
     let reads = reads_new(kind, z, t, symbols, to.symbol);
-    let w = Earlier {
-        moves: t.moves,
-        entries: t.entries,
-        settled: settled(z, moves, t, reads, to.symbol),
-    };
+    let s = settled(z, moves, t, reads, to.symbol);
+    let by = readings::settled_before(t, s);
     if reads {
         return by_control(
             z,
@@ -202,41 +238,27 @@ pub fn by_moves(
             states,
             words,
             to,
-            w,
-            t,
-            kind,
-            b,
-            q,
+            by,
+            from,
             memo,
             out,
             n,
-            room,
         );
     }
-    let count = z.moves;
-    let mut k = n;
-    let mut i = first_move(z, t, symbols, b);
-    while i < count {
-        k = premises::by_move(
-            z,
-            inner,
-            entries,
-            moves,
-            states,
-            words,
-            to,
-            w,
-            t,
-            kind,
-            b,
-            q,
-            i,
-            memo,
-            out,
-            k,
-            room,
-        );
-        i += 1;
-    }
-    k
+    let first = first_move(z, t, symbols, from.symbol);
+    by_newer(
+        z,
+        inner,
+        entries,
+        moves,
+        states,
+        words,
+        to,
+        by,
+        from,
+        first,
+        memo,
+        out,
+        n,
+    )
 }

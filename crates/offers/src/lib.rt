@@ -5,10 +5,15 @@ ghost use mathlib.Core.List.{[], _∷_};
 ghost use Prim.Native.Nat.{_<_};
 ghost use Rattle.automata.specs.Saturation.{held};
 ghost use Rattle.tables.specs.Records.{asResult};
-ghost use Rattle.tables.specs.Held.{tableOf, EntriesStand, MovesStand};
-ghost use Rattle.move_index.specs.Keys.{ByWords};
-ghost use Rattle.offers.specs.Offers.{Collects, Room};
+ghost use Rattle.tables.specs.Held.{tableOf};
+ghost use Rattle.offers.specs.Offers.{WordsIndexed, Room, Collected};
 ghost use Rattle.offers.specs.Holding.{heldBy};
+
+// The results that are pending: how many, and for how many there is room. Where there are more than that, they are lost.
+pub struct Pending {
+    pub count: usize,
+    pub room: usize,
+}
 
 // Whether a move of entry number k is this result.
 fn held_by(
@@ -19,7 +24,7 @@ fn held_by(
     x: tables::Result,
     k: usize,
 ) -> bool
-    requires { ⌜ EntriesStand z (now entries) × MovesStand z (now moves) × ByWords (z .moves) (now moves) (now words) × (k < z .entries) ⌝ }
+    requires { ⌜ WordsIndexed z (now entries) (now moves) (now words) × (k < z .entries) ⌝ }
     ensures { λ r. ⌜ r ≡ heldBy (tableOf z (now (entries .entry)) (now (moves .entry))) (asResult x) k ⌝ }
 {
     let e = tables::entry_at(entries, k);
@@ -47,7 +52,7 @@ fn is_held(
     words: &[u16],
     x: tables::Result,
 ) -> bool
-    requires { ⌜ EntriesStand z (now entries) × MovesStand z (now moves) × ByWords (z .moves) (now moves) (now words) ⌝ }
+    requires { ⌜ WordsIndexed z (now entries) (now moves) (now words) ⌝ }
     ensures { λ r. ⌜ r ≡ held (tableOf z (now (entries .entry)) (now (moves .entry))) (asResult x) ⌝ }
 {
     let count = z.entries;
@@ -61,8 +66,8 @@ fn is_held(
     false
 }
 
-// Collects a result: unless it is held, it is inserted among the first n rows of `out`. Answers the number of rows then, as
-// `tables::insert_result` does.
+// Collects a result: unless it is held, it is inserted among the first rows of `out`, those that are pending. Answers those that are pending
+// then, as `tables::insert_result` counts them.
 pub fn offer(
     z: tables::Table,
     entries: &[u64],
@@ -70,17 +75,19 @@ pub fn offer(
     words: &[u16],
     x: tables::Result,
     out: &mut [u64],
-    n: usize,
-    room: usize,
-) -> usize
-    requires { ⌜ EntriesStand z (now entries) × MovesStand z (now moves) × ByWords (z .moves) (now moves) (now words) × Room room n (now out) ⌝ }
-    ensures { λ r. ⌜ Collects (tableOf z (now (entries .entry)) (now (moves .entry))) room n (now (out .entry)) (asResult x ∷ []) r (now (out .exit)) ⌝ }
+    n: Pending,
+) -> Pending
+    requires { ⌜ WordsIndexed z (now entries) (now moves) (now words) × Room n (now out) ⌝ }
+    ensures { λ r. ⌜ Collected (tableOf z (now (entries .entry)) (now (moves .entry))) n (now (out .entry)) (asResult x ∷ []) r (now (out .exit)) ⌝ }
 {
-    if room < n {
+    if n.room < n.count {
         return n;
     }
     if is_held(z, entries, moves, words, x) {
         return n;
     }
-    tables::insert_result(out, n, room, x)
+    Pending {
+        count: tables::insert_result(out, n.count, n.room, x),
+        room: n.room,
+    }
 }

@@ -1,3 +1,4 @@
 pub mod Premises
+pub mod Reads
 pub mod Steps
-pub mod Before
+pub mod Settled

@@ -9,8 +9,10 @@ use Rattle.words.specs.Lists.{each, when}
 use Rattle.automata.specs.Automaton.{Automaton, Move, moveAt, entrySet}
 use Rattle.automata.specs.Derivation.{Result, noJoins, joinsOf, controlMoves}
 use Rattle.readings.specs.Readings.{resultTo, readResults, edgeResults}
+use Rattle.readings.specs.declared.Goal.{Goal}
 use Rattle.premises.specs.declared.MoveUse.{MoveUse}
 use Rattle.premises.specs.declared.MoveUse.the-variants.{Rewritten, Pushed1, Pushed2, Copied}
+use Rattle.premises.specs.declared.Source.{Source}
 
 -- B is empty or of this order
 abbrev pub orderFits : ℕ → Move → Bool
@@ -27,3 +29,11 @@ module _ (A : Automaton) (p a : ℕ) where
   -- what the moves on b of the entries of control q give
   unfoldable pub movesResults : MoveUse → ℕ → ℕ → List Result
   movesResults k b q = each (controlMoves A q b) (λ i. premiseResults k (entrySet A (moveAt A i .state)) (moveAt A i))
+
+-- ---- in the code
+
+abbrev pub premiseGives : Goal → MoveUse → ℕ → Move → Automaton → List Result
+premiseGives to k S m A = premiseResults A (to .control) (to .symbol) k S m
+
+abbrev pub sourceGives : Goal → Source → Automaton → List Result
+sourceGives to from A = movesResults A (to .control) (to .symbol) (from .kind) (from .symbol) (from .control)

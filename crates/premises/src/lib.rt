@@ -3,22 +3,20 @@ ghost use mathlib.Core.Path.{_≡_};
 ghost use mathlib.Core.Bool.{_||_};
 ghost use Prim.Native.Nat.{_<_};
 ghost use lib.Dec.{eqb};
-ghost use Rattle.words.specs.Sets.{members};
-ghost use Rattle.words.specs.Lists.{when};
 ghost use Rattle.tables.specs.Rows.{rowAt};
 ghost use Rattle.tables.specs.Records.{asMove};
 ghost use Rattle.tables.specs.Layouts.{moveRow};
-ghost use Rattle.tables.specs.Held.{automatonOf};
-ghost use Rattle.joins.specs.Joining.{theJoins};
-ghost use Rattle.offers.specs.Offers.{Collects, Room};
-ghost use Rattle.readings.specs.Indexed.{Indexed};
-ghost use Rattle.readings.specs.Readings.{readResults};
-ghost use Rattle.readings.specs.Earlier.{earlierOf, Settles, Known};
-ghost use Rattle.readings.specs.Memo.{MemoHolds};
-ghost use Rattle.premises.specs.Premises.{orderFits, premiseResults, movesResults};
-ghost use Rattle.premises.specs.Steps.{moveStep};
-ghost use Rattle.premises.specs.Before.{tableBefore, SettledBy};
-use readings::Earlier;
+ghost use Rattle.tables.specs.Held.{automatonOf, tableOf};
+ghost use Rattle.readings.specs.Indexed.{MovesIndexed, Indexed};
+ghost use Rattle.readings.specs.Before.{HeldBefore};
+ghost use Rattle.readings.specs.Gathering.{CanRead, ReadsAll, CanCollect, CollectsAll};
+ghost use Rattle.premises.specs.Premises.{premiseGives};
+ghost use Rattle.premises.specs.Reads.{readsOf, pushGives, copyGives};
+ghost use Rattle.premises.specs.Steps.{moveGives};
+ghost use Rattle.premises.specs.Settled.{SourceHeld};
+use offers::Pending;
+use readings::Before;
+use readings::Goal;
 
 // How an operation uses a move of an entry.
 pub enum MoveUse {
@@ -28,11 +26,11 @@ pub enum MoveUse {
     Copied,
 }
 
-// The table of the round before, where there was one: so many moves and entries.
-pub struct Before {
-    pub any: bool,
-    pub moves: usize,
-    pub entries: usize,
+// Where an operation takes its premises from, and how it uses them: the moves on this symbol of the entries of this control.
+pub struct Source {
+    pub kind: MoveUse,
+    pub symbol: u64,
+    pub control: u64,
 }
 
 // Whether an annotation set of this order is empty or of order k.
@@ -46,60 +44,122 @@ pub fn order_fits(k: u64, order: u64) -> bool
 }
 
 // A push of this order for the set s, whose readings are joined to the rest set `rest`.
-pub struct Push {
-    pub order: u64,
-    pub s: u64,
-    pub rest: u64,
+struct Push {
+    order: u64,
+    s: u64,
+    rest: u64,
 }
 
-// Collects what a push gives by move m: the readings from the move's rest set. The index of the moves, in `states` and `words`, w, `new` and
-// `memo` are those of `readings::read_from`, here and in the functions that follow.
+// What is read for a premise: nothing, the move's rest set by a push, or the edges of its entry's set.
+enum Reads {
+    Nothing,
+    Rest(Push),
+    Edges,
+}
+
+// What is read where move m of an entry with the set s is used in this way.
+fn reads_of(kind: MoveUse, s: u64, m: tables::Move) -> Reads
+    ensures { λ r. ⌜ r ≡ readsOf kind s (asMove m) ⌝ }
+{
+    match kind {
+        MoveUse::Rewritten => Reads::Nothing,
+        MoveUse::Pushed1 => Reads::Rest(Push {
+            order: 1,
+            s: s,
+            rest: m.b,
+        }),
+        MoveUse::Pushed2 => Reads::Rest(Push {
+            order: 2,
+            s: sets::join(s, m.b),
+            rest: 0,
+        }),
+        MoveUse::Copied => Reads::Edges,
+    }
+}
+
+// Collects what a push gives by move m: the readings from the move's rest set. The index of the moves, in `states` and `words`, the table of
+// the round before, t, and `memo` are those of `readings::read_from`, here and in the functions that follow.
 fn by_push(
+    z: tables::Table,
+    entries: &[u64],
+    moves: &[u64],
+    states: &[u16],
+    words: &[u16],
+    to: Goal,
+    t: Before,
+    push: Push,
+    m: tables::Move,
+    memo: &mut [u64],
+    out: &mut [u64],
+    n: Pending,
+) -> Pending
+    requires { ⌜ MovesIndexed z (now entries) (now moves) (now states) (now words) × CanRead z (now entries) (now moves) n (now out) (now memo)
+        × HeldBefore (tableOf z (now entries) (now moves)) t (to .symbol) (pushGives to push (asMove m)) ⌝ }
+    ensures { λ k. ⌜ ReadsAll z (now (entries .entry)) (now (moves .entry)) n (now (out .entry)) (now (memo .entry))
+        (pushGives to push (asMove m)) k (now (out .exit)) (now (memo .exit)) ⌝ }
+{
+    if !order_fits(push.order, m.order) {
+        return n;
+    }
+    let at = readings::slot_of(to, push.s);
+    readings::read_from(
+        z,
+        entries,
+        moves,
+        states,
+        words,
+        at,
+        t,
+        m.r,
+        0,
+        0,
+        push.rest,
+        memo,
+        out,
+        n,
+    )
+}
+
+// Collects what a copy gives by move m of an entry with the set s: the readings from the set's order-2 states, joined to the move.
+fn by_copy(
     z: tables::Table,
     inner: &[u64],
     entries: &[u64],
     moves: &[u64],
     states: &[u16],
     words: &[u16],
-    to: readings::Goal,
-    w: Earlier,
-    push: Push,
+    to: Goal,
+    t: Before,
+    s: u64,
     m: tables::Move,
-    new: bool,
     memo: &mut [u64],
     out: &mut [u64],
-    n: usize,
-    room: usize,
-) -> usize
-    requires { ⌜ Indexed z (now inner) (now entries) (now moves) (now states) (now words) × Settles (automatonOf z (now inner) (now entries) (now moves)) w (to .symbol) × Known (automatonOf z (now inner) (now entries) (now moves)) new (when (orderFits (push .order) (asMove m)) (readResults (earlierOf w (automatonOf z (now inner) (now entries) (now moves))) (to .control) (to .symbol) (push .s) (members (m .r)) (theJoins 0 0 (push .rest)))) × Room room n (now out) × MemoHolds (automatonOf z (now inner) (now entries) (now moves)) room n (now out) (now memo) ⌝ }
-    ensures { λ r. ⌜ Collects (automatonOf z (now (inner .entry)) (now (entries .entry)) (now (moves .entry))) room n (now (out .entry)) (when (orderFits (push .order) (asMove m)) (readResults (automatonOf z (now (inner .entry)) (now (entries .entry)) (now (moves .entry))) (to .control) (to .symbol) (push .s) (members (m .r)) (theJoins 0 0 (push .rest)))) r (now (out .exit)) ⌝ }
-    ensures { λ r. ⌜ MemoHolds (automatonOf z (now (inner .entry)) (now (entries .entry)) (now (moves .entry))) room r (now (out .exit)) (now (memo .exit)) ⌝ }
+    n: Pending,
+) -> Pending
+    requires { ⌜ Indexed z (now inner) (now entries) (now moves) (now states) (now words)
+        × CanCollect (automatonOf z (now inner) (now entries) (now moves)) n (now out) (now memo)
+        × HeldBefore (automatonOf z (now inner) (now entries) (now moves)) t (to .symbol) (copyGives to s (asMove m)) ⌝ }
+    ensures { λ k. ⌜ CollectsAll (automatonOf z (now (inner .entry)) (now (entries .entry)) (now (moves .entry))) n (now (out .entry))
+        (copyGives to s (asMove m)) k (now (out .exit)) (now (memo .exit)) ⌝ }
 {
-    if !order_fits(push.order, m.order) {
-        return n;
-    }
-    let j = joins::Joins {
-        order: 0,
-        b: 0,
-        r: push.rest,
-    };
-    readings::read_from(
+    let at = readings::slot_of(to, 0);
+    readings::read_edges(
         z,
         inner,
         entries,
         moves,
         states,
         words,
-        to,
-        w,
-        push.s,
+        at,
+        t,
+        m.order,
+        m.b,
         m.r,
-        j,
-        new,
+        s,
+        0,
         memo,
         out,
         n,
-        room,
     )
 }
 
@@ -111,104 +171,60 @@ fn by_premise(
     moves: &[u64],
     states: &[u16],
     words: &[u16],
-    to: readings::Goal,
-    w: Earlier,
+    to: Goal,
+    t: Before,
     kind: MoveUse,
     s: u64,
     m: tables::Move,
-    new: bool,
     memo: &mut [u64],
     out: &mut [u64],
-    n: usize,
-    room: usize,
-) -> usize
-    requires { ⌜ Indexed z (now inner) (now entries) (now moves) (now states) (now words) × Settles (automatonOf z (now inner) (now entries) (now moves)) w (to .symbol) × Known (automatonOf z (now inner) (now entries) (now moves)) new (premiseResults (earlierOf w (automatonOf z (now inner) (now entries) (now moves))) (to .control) (to .symbol) kind s (asMove m)) × Room room n (now out) × MemoHolds (automatonOf z (now inner) (now entries) (now moves)) room n (now out) (now memo) ⌝ }
-    ensures { λ r. ⌜ Collects (automatonOf z (now (inner .entry)) (now (entries .entry)) (now (moves .entry))) room n (now (out .entry)) (premiseResults (automatonOf z (now (inner .entry)) (now (entries .entry)) (now (moves .entry))) (to .control) (to .symbol) kind s (asMove m)) r (now (out .exit)) ⌝ }
-    ensures { λ r. ⌜ MemoHolds (automatonOf z (now (inner .entry)) (now (entries .entry)) (now (moves .entry))) room r (now (out .exit)) (now (memo .exit)) ⌝ }
+    n: Pending,
+) -> Pending
+    requires { ⌜ Indexed z (now inner) (now entries) (now moves) (now states) (now words)
+        × CanCollect (automatonOf z (now inner) (now entries) (now moves)) n (now out) (now memo)
+        × HeldBefore (automatonOf z (now inner) (now entries) (now moves)) t (to .symbol) (premiseGives to kind s (asMove m)) ⌝ }
+    ensures { λ k. ⌜ CollectsAll (automatonOf z (now (inner .entry)) (now (entries .entry)) (now (moves .entry))) n (now (out .entry))
+        (premiseGives to kind s (asMove m)) k (now (out .exit)) (now (memo .exit)) ⌝ }
 {
-    match kind {
-        MoveUse::Rewritten => {
-            let x = readings::result(to, s, m.order, m.b, m.r);
-            offers::offer(z, entries, moves, words, x, out, n, room)
+    let read = reads_of(kind, s, m);
+    match read {
+        Reads::Nothing => {
+            let x = readings::result(readings::slot_of(to, s), m.order, m.b, m.r);
+            offers::offer(z, entries, moves, words, x, out, n)
         }
-        MoveUse::Pushed1 => {
-            let push = Push {
-                order: 1,
-                s: s,
-                rest: m.b,
-            };
-            by_push(
-                z,
-                inner,
-                entries,
-                moves,
-                states,
-                words,
-                to,
-                w,
-                push,
-                m,
-                new,
-                memo,
-                out,
-                n,
-                room,
-            )
-        }
-        MoveUse::Pushed2 => {
-            let push = Push {
-                order: 2,
-                s: sets::join(s, m.b),
-                rest: 0,
-            };
-            by_push(
-                z,
-                inner,
-                entries,
-                moves,
-                states,
-                words,
-                to,
-                w,
-                push,
-                m,
-                new,
-                memo,
-                out,
-                n,
-                room,
-            )
-        }
-        MoveUse::Copied => {
-            let j = joins::Joins {
-                order: m.order,
-                b: m.b,
-                r: m.r,
-            };
-            readings::read_edges(
-                z,
-                inner,
-                entries,
-                moves,
-                states,
-                words,
-                to,
-                w,
-                j,
-                s,
-                0,
-                0,
-                new,
-                memo,
-                out,
-                n,
-                room,
-            )
-        }
+        Reads::Rest(push) => by_push(
+            z,
+            entries,
+            moves,
+            states,
+            words,
+            to,
+            t,
+            push,
+            m,
+            memo,
+            out,
+            n,
+        ),
+        Reads::Edges => by_copy(
+            z,
+            inner,
+            entries,
+            moves,
+            states,
+            words,
+            to,
+            t,
+            s,
+            m,
+            memo,
+            out,
+            n,
+        ),
     }
 }
 
-// Collects what move number i gives, where it is one on b of an entry of control q.
+// Collects what move number i gives, where it comes from this source.
 pub fn by_move(
     z: tables::Table,
     inner: &[u64],
@@ -216,31 +232,30 @@ pub fn by_move(
     moves: &[u64],
     states: &[u16],
     words: &[u16],
-    to: readings::Goal,
-    w: Earlier,
+    to: Goal,
     t: Before,
-    kind: MoveUse,
-    b: u64,
-    q: u64,
+    from: Source,
     i: usize,
     memo: &mut [u64],
     out: &mut [u64],
-    n: usize,
-    room: usize,
-) -> usize
-    requires { ⌜ Indexed z (now inner) (now entries) (now moves) (now states) (now words) × Settles (automatonOf z (now inner) (now entries) (now moves)) w (to .symbol) × SettledBy (automatonOf z (now inner) (now entries) (now moves)) t (movesResults (tableBefore t (automatonOf z (now inner) (now entries) (now moves))) (to .control) (to .symbol) kind b q) × Room room n (now out) × MemoHolds (automatonOf z (now inner) (now entries) (now moves)) room n (now out) (now memo) × (i < z .moves) × (w .moves ≡ t .moves) × (w .entries ≡ t .entries) ⌝ }
-    ensures { λ r. ⌜ Collects (automatonOf z (now (inner .entry)) (now (entries .entry)) (now (moves .entry))) room n (now (out .entry)) (moveStep (automatonOf z (now (inner .entry)) (now (entries .entry)) (now (moves .entry))) (to .control) (to .symbol) kind b q (rowAt moveRow (now (moves .entry)) i)) r (now (out .exit)) ⌝ }
-    ensures { λ r. ⌜ MemoHolds (automatonOf z (now (inner .entry)) (now (entries .entry)) (now (moves .entry))) room r (now (out .exit)) (now (memo .exit)) ⌝ }
+    n: Pending,
+) -> Pending
+    requires { ⌜ Indexed z (now inner) (now entries) (now moves) (now states) (now words)
+        × CanCollect (automatonOf z (now inner) (now entries) (now moves)) n (now out) (now memo)
+        × SourceHeld (automatonOf z (now inner) (now entries) (now moves)) t to from × (i < z .moves) ⌝ }
+    ensures { λ k. ⌜ CollectsAll (automatonOf z (now (inner .entry)) (now (entries .entry)) (now (moves .entry))) n (now (out .entry))
+        (moveGives to from (rowAt moveRow (now (moves .entry)) i)) k (now (out .exit)) (now (memo .exit)) ⌝ }
 {
     let m = tables::move_at(moves, i);
-    if m.symbol != b {
+    if m.symbol != from.symbol {
         return n;
     }
-    if !tables::entry_of(z, entries, q, m.state) {
+    if !tables::entry_of(z, entries, from.control, m.state) {
         return n;
     }
     let s = tables::entry_set(z, entries, m.state);
-    let new = w.moves <= i;
+    let kind = from.kind;
+    let by = readings::used(t, t.moves, i);
     by_premise(
         z,
         inner,
@@ -249,14 +264,12 @@ pub fn by_move(
         states,
         words,
         to,
-        w,
+        by,
         kind,
         s,
         m,
-        new,
         memo,
         out,
         n,
-        room,
     )
 }

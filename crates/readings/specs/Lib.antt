@@ -1,7 +1,8 @@
 pub mod Readings
 pub mod Indexed
-pub mod Earlier
+pub mod Before
 pub mod Naming
 pub mod Turns
 pub mod Edges
 pub mod Memo
+pub mod Gathering

@@ -5,6 +5,7 @@ pub mod Laws
 pub mod Order
 pub mod Earlier
 use Prim.Native.Nat.{ℕ}
+use mathlib.Core.Path.{_≡_}
 use mathlib.Core.Option.{Option, none, some}
 use mathlib.Core.List.{List, [], _∷_}
 use Rattle.words.specs.Sets.{join, single, members}
@@ -12,6 +13,8 @@ use Rattle.words.specs.Lists.{each}
 use Rattle.automata.specs.Automaton.{Automaton, moveAt, edgeAt, movesOf, edgesOf}
 use Rattle.automata.specs.Derivation.{Result, Joins, joinMove}
 use Rattle.tables.specs.declared.Result.{Result as ResultWords}
+use Rattle.readings.specs.declared.Goal.{Goal}
+use Rattle.readings.specs.declared.Slot.{Slot}
 
 -- the result (joins) to symbol a of entry [p,S]
 abbrev pub resultTo : ℕ → ℕ → ℕ → Joins → Result
@@ -38,3 +41,24 @@ module _ (A : Automaton) (p a : ℕ) where
   edgeResults j [] N S = readResults S (members N) j
   edgeResults j (q ∷ qs) N S =
       each (edgesOf A q) (λ e. edgeResults j qs (join N (single (edgeAt A e .first))) (join S (edgeAt A e .S)))
+
+-- ---- in the code
+
+-- the symbol that is meant, of the entry with set S
+abbrev pub slotOf : Goal → ℕ → Slot
+slotOf to S = record { control = to .control; s = S; symbol = to .symbol }
+
+-- the same symbol of the entry whose set is joined with S
+abbrev pub slotJoined : Slot → ℕ → Slot
+slotJoined to S = record { control = to .control; s = join (to .s) S; symbol = to .symbol }
+
+-- the results of readings, to this symbol of this entry
+abbrev pub readsTo : Slot → List ℕ → Joins → Automaton → List Result
+readsTo to rs j A = readResults A (to .control) (to .symbol) (to .s) rs j
+
+abbrev pub edgesTo : Slot → Joins → List ℕ → ℕ → Automaton → List Result
+edgesTo to j qs N A = edgeResults A (to .control) (to .symbol) j qs N (to .s)
+
+-- What is given depends on the moves alone.
+abbrev pub ByMoves : (Automaton → List Result) → Type 0
+ByMoves gives = (A B : Automaton) → A .moves ≡ B .moves → gives A ≡ gives B

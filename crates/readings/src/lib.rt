@@ -6,16 +6,16 @@ ghost use mathlib.Core.List.{_∷_};
 ghost use Prim.Native.Nat.{_<_};
 ghost use lib.Dec.{leb};
 ghost use Rattle.words.specs.Sets.{partOf, members};
-ghost use Rattle.tables.specs.Held.{automatonOf};
-ghost use Rattle.joins.specs.Joining.{asJoins};
-ghost use Rattle.readings.specs.Indexed.{Indexed};
-ghost use Rattle.offers.specs.Offers.{Collects, Room};
-ghost use Rattle.readings.specs.Readings.{theResult, readResults, edgeResults};
+ghost use Rattle.tables.specs.Held.{automatonOf, tableOf};
+ghost use Rattle.joins.specs.Joining.{theJoins};
+ghost use Rattle.readings.specs.Indexed.{MovesIndexed, Indexed};
+ghost use Rattle.readings.specs.Readings.{theResult, slotOf, slotJoined, readsTo, edgesTo};
 ghost use Rattle.readings.specs.Naming.{namedWith};
-ghost use Rattle.readings.specs.Earlier.{earlierOf, Settles, Known};
-ghost use Rattle.readings.specs.Memo.{MemoHolds};
+ghost use Rattle.readings.specs.Before.{usedBy, settledOn, HeldBefore};
+ghost use Rattle.readings.specs.Gathering.{CanRead, ReadsAll, CanCollect, CollectsAll};
 use joins::Joined;
 use joins::Joins;
+use offers::Pending;
 
 // Where results go: to this symbol of entries of this control.
 pub struct Goal {
@@ -23,20 +23,52 @@ pub struct Goal {
     pub symbol: u64,
 }
 
-// The table of the round before: so many moves and entries. No move on the goal's symbol of a state of `settled` is newer.
-pub struct Earlier {
+// Where the results of a reading go: to this symbol of the entry of this control and set.
+pub struct Slot {
+    pub control: u64,
+    pub s: u64,
+    pub symbol: u64,
+}
+
+// The table of the round before: so many moves and entries. What it gives is held, so only what the last round added is looked at, as in
+// semi-naive evaluation. Of what is `new` nothing is known: of everything in round 1, and of what uses a newer move or entry. No move on the
+// goal's symbol of a state of `settled` is newer.
+pub struct Before {
+    pub new: bool,
     pub moves: usize,
     pub entries: usize,
     pub settled: u64,
 }
 
-// The result (order, b, r) to the goal's symbol of the goal's entry with the set s.
-pub fn result(to: Goal, s: u64, order: u64, b: u64, r: u64) -> tables::Result
-    ensures { λ x. ⌜ x ≡ theResult (to .control) s (to .symbol) order b r ⌝ }
+// The goal's symbol of its entry with the set s.
+pub fn slot_of(to: Goal, s: u64) -> Slot
+    ensures { λ x. ⌜ x ≡ slotOf to s ⌝ }
+{
+    Slot {
+        control: to.control,
+        s: s,
+        symbol: to.symbol,
+    }
+}
+
+// The same symbol of the entry whose set is joined with s.
+fn slot_joined(to: Slot, s: u64) -> Slot
+    ensures { λ x. ⌜ x ≡ slotJoined to s ⌝ }
+{
+    Slot {
+        control: to.control,
+        s: sets::join(to.s, s),
+        symbol: to.symbol,
+    }
+}
+
+// The result (order, b, r) to this symbol of this entry.
+pub fn result(to: Slot, order: u64, b: u64, r: u64) -> tables::Result
+    ensures { λ x. ⌜ x ≡ theResult (to .control) (to .s) (to .symbol) order b r ⌝ }
 {
     tables::Result {
         control: to.control,
-        s: s,
+        s: to.s,
         symbol: to.symbol,
         order: order,
         b: b,
@@ -44,16 +76,16 @@ pub fn result(to: Goal, s: u64, order: u64, b: u64, r: u64) -> tables::Result
     }
 }
 
-// ---- readings
+// ---- what is new
 
 // Whether nothing is new: nothing was so far, and none of the order-1 states left has a newer move.
-fn is_settled(new: bool, left: u64, w: Earlier) -> bool
-    ensures { λ r. ⌜ r ≡ not new && partOf left (w .settled) ⌝ }
+fn is_settled(left: u64, t: Before) -> bool
+    ensures { λ r. ⌜ r ≡ not (t .new) && partOf left (t .settled) ⌝ }
 {
-    if new {
+    if t.new {
         return false;
     }
-    sets::part_of(left, w.settled)
+    sets::part_of(left, t.settled)
 }
 
 // Whether something is new: it was so far, or number i is one of the newer ones, which begin with number `first`.
@@ -66,100 +98,165 @@ fn is_newer(new: bool, first: usize, i: usize) -> bool
     first <= i
 }
 
-// Collects the results of the readings of the goal's symbol from the order-1 states left, joined to j, for the set s: one choice of a move for
+// What is known of the round before where number i is used, of numbers whose newer ones begin with `first`.
+pub fn used(t: Before, first: usize, i: usize) -> Before
+    ensures { λ x. ⌜ x ≡ usedBy t first i ⌝ }
+{
+    Before {
+        new: is_newer(t.new, first, i),
+        moves: t.moves,
+        entries: t.entries,
+        settled: t.settled,
+    }
+}
+
+// The same, where the states of s have no newer move on the symbol that is read.
+pub fn settled_before(t: Before, s: u64) -> Before
+    ensures { λ x. ⌜ x ≡ settledOn t s ⌝ }
+{
+    Before {
+        new: t.new,
+        moves: t.moves,
+        entries: t.entries,
+        settled: s,
+    }
+}
+
+// ---- readings
+
+// Collects the results of the readings of the slot's symbol from the order-1 states left, joined to (order, b, r): one choice of a move for
 // each state, beginning with a state that has few. Where nothing new was used so far, what the earlier table gives is held, and readings
 // without a newer move are passed over. The rows of `memo` hold states of this recursion that were worked through: all their results are
-// held or collected, so such a state is passed over too. Which states stand there at the end is left open. `inner` serves the contract
-// alone: the states are those of the automaton with these edges.
+// held or collected, so such a state is passed over too. Which states stand there at the end is left open.
 pub fn read_from(
     z: tables::Table,
-    inner: &[u64],
     entries: &[u64],
     moves: &[u64],
     states: &[u16],
     words: &[u16],
-    to: Goal,
-    w: Earlier,
-    s: u64,
+    to: Slot,
+    t: Before,
     left: u64,
-    j: Joins,
-    new: bool,
+    order: u64,
+    b: u64,
+    r: u64,
     memo: &mut [u64],
     out: &mut [u64],
-    n: usize,
-    room: usize,
-) -> usize
-    requires { ⌜ Indexed z (now inner) (now entries) (now moves) (now states) (now words) × Settles (automatonOf z (now inner) (now entries) (now moves)) w (to .symbol) × Known (automatonOf z (now inner) (now entries) (now moves)) new (readResults (earlierOf w (automatonOf z (now inner) (now entries) (now moves))) (to .control) (to .symbol) s (members left) (asJoins j)) × Room room n (now out) × MemoHolds (automatonOf z (now inner) (now entries) (now moves)) room n (now out) (now memo) ⌝ }
-    ensures { λ k. ⌜ Collects (automatonOf z (now (inner .entry)) (now (entries .entry)) (now (moves .entry))) room n (now (out .entry)) (readResults (automatonOf z (now (inner .entry)) (now (entries .entry)) (now (moves .entry))) (to .control) (to .symbol) s (members left) (asJoins j)) k (now (out .exit)) ⌝ }
-    ensures { λ k. ⌜ MemoHolds (automatonOf z (now (inner .entry)) (now (entries .entry)) (now (moves .entry))) room k (now (out .exit)) (now (memo .exit)) ⌝ }
+    n: Pending,
+) -> Pending
+    requires { ⌜ MovesIndexed z (now entries) (now moves) (now states) (now words)
+        × CanRead z (now entries) (now moves) n (now out) (now memo)
+        × HeldBefore (tableOf z (now entries) (now moves)) t (to .symbol) (readsTo to (members left) (theJoins order b r)) ⌝ }
+    ensures { λ k. ⌜ ReadsAll z (now (entries .entry)) (now (moves .entry)) n (now (out .entry)) (now (memo .entry))
+        (readsTo to (members left) (theJoins order b r)) k (now (out .exit)) (now (memo .exit)) ⌝ }
 {
-    if room < n {
+    if n.room < n.count {
         return n;
     }
-    if is_settled(new, left, w) {
+    if is_settled(left, t) {
         return n;
     }
     if left == 0 {
-        let x = result(to, s, j.order, j.b, j.r);
-        return offers::offer(z, entries, moves, words, x, out, n, room);
+        let x = result(to, order, b, r);
+        return offers::offer(z, entries, moves, words, x, out, n);
     }
+    read_left(
+        z,
+        entries,
+        moves,
+        states,
+        words,
+        to,
+        t,
+        left,
+        order,
+        b,
+        r,
+        memo,
+        out,
+        n,
+    )
+}
+
+// The same where some state is left, unless it stands in `memo`: by the state that has the fewest choices.
+fn read_left(
+    z: tables::Table,
+    entries: &[u64],
+    moves: &[u64],
+    states: &[u16],
+    words: &[u16],
+    to: Slot,
+    t: Before,
+    left: u64,
+    order: u64,
+    b: u64,
+    r: u64,
+    memo: &mut [u64],
+    out: &mut [u64],
+    n: Pending,
+) -> Pending
+    requires { ⌜ MovesIndexed z (now entries) (now moves) (now states) (now words)
+        × CanRead z (now entries) (now moves) n (now out) (now memo) × (0 < left)
+        × HeldBefore (tableOf z (now entries) (now moves)) t (to .symbol) (readsTo to (members left) (theJoins order b r)) ⌝ }
+    ensures { λ k. ⌜ ReadsAll z (now (entries .entry)) (now (moves .entry)) n (now (out .entry)) (now (memo .entry))
+        (readsTo to (members left) (theJoins order b r)) k (now (out .exit)) (now (memo .exit)) ⌝ }
+{
     let count = z.moves as u64;
-    let x = memo_table::read_state(count, to.control, to.symbol, s, left, j.order, j.b, j.r);
+    let x = memo_table::read_state(count, to.control, to.symbol, to.s, left, order, b, r);
     let row = memo_table::place(memo, x);
     if memo_table::holds(memo, row, x) {
         return n;
     }
-    let q = choices::fewest(z, moves, states, left, to.symbol, j);
+    let q = choices::fewest(z, moves, states, left, to.symbol, Joins { order, b, r });
     let part = sets::Split {
         member: q,
         others: sets::without(left, q),
     };
     let k = read_moves(
         z,
-        inner,
         entries,
         moves,
         states,
         words,
         to,
-        w,
-        s,
+        t,
         part,
-        j,
-        new,
+        order,
+        b,
+        r,
         memo,
         out,
         n,
-        room,
     );
     memo_table::put(memo, row, x);
     k
 }
 
-// Collects the results of the readings of the goal's symbol from a state and the others, joined to j: by each move of the state the readings
-// from the others.
+// Collects the results of the readings of the slot's symbol from a state and the others, joined to (order, b, r): by each move of the state
+// the readings from the others.
 fn read_moves(
     z: tables::Table,
-    inner: &[u64],
     entries: &[u64],
     moves: &[u64],
     states: &[u16],
     words: &[u16],
-    to: Goal,
-    w: Earlier,
-    s: u64,
+    to: Slot,
+    t: Before,
     part: sets::Split,
-    j: Joins,
-    new: bool,
+    order: u64,
+    b: u64,
+    r: u64,
     memo: &mut [u64],
     out: &mut [u64],
-    n: usize,
-    room: usize,
-) -> usize
-    requires { ⌜ Indexed z (now inner) (now entries) (now moves) (now states) (now words) × Settles (automatonOf z (now inner) (now entries) (now moves)) w (to .symbol) × Known (automatonOf z (now inner) (now entries) (now moves)) new (readResults (earlierOf w (automatonOf z (now inner) (now entries) (now moves))) (to .control) (to .symbol) s (part .member ∷ members (part .others)) (asJoins j)) × Room room n (now out) × MemoHolds (automatonOf z (now inner) (now entries) (now moves)) room n (now out) (now memo) ⌝ }
-    ensures { λ k. ⌜ Collects (automatonOf z (now (inner .entry)) (now (entries .entry)) (now (moves .entry))) room n (now (out .entry)) (readResults (automatonOf z (now (inner .entry)) (now (entries .entry)) (now (moves .entry))) (to .control) (to .symbol) s (part .member ∷ members (part .others)) (asJoins j)) k (now (out .exit)) ⌝ }
-    ensures { λ k. ⌜ MemoHolds (automatonOf z (now (inner .entry)) (now (entries .entry)) (now (moves .entry))) room k (now (out .exit)) (now (memo .exit)) ⌝ }
+    n: Pending,
+) -> Pending
+    requires { ⌜ MovesIndexed z (now entries) (now moves) (now states) (now words)
+        × CanRead z (now entries) (now moves) n (now out) (now memo)
+        × HeldBefore (tableOf z (now entries) (now moves)) t (to .symbol) (readsTo to (part .member ∷ members (part .others)) (theJoins order b r)) ⌝ }
+    ensures { λ k. ⌜ ReadsAll z (now (entries .entry)) (now (moves .entry)) n (now (out .entry)) (now (memo .entry))
+        (readsTo to (part .member ∷ members (part .others)) (theJoins order b r)) k (now (out .exit)) (now (memo .exit)) ⌝ }
 {
+    let j = Joins { order, b, r };
     let mut k = n;
     let mut c = chains::last(states, move_index::state_key(part.member, to.symbol));
     while 0 < c {
@@ -168,21 +265,19 @@ fn read_moves(
         if let Joined::To(more) = joins::candidate(m, part.member, to.symbol, j) {
             k = read_from(
                 z,
-                inner,
                 entries,
                 moves,
                 states,
                 words,
                 to,
-                w,
-                s,
+                used(t, t.moves, i),
                 part.others,
-                more,
-                is_newer(new, w.moves, i),
+                more.order,
+                more.b,
+                more.r,
                 memo,
                 out,
                 k,
-                room,
             );
         }
         c = chains::before(states, i);
@@ -204,9 +299,9 @@ fn name(named: u64, first: u64, c: usize) -> u64
     sets::join(named, sets::one_bit(first))
 }
 
-// Collects the results of the readings of the goal's symbol from the order-2 states left, joined to j: one choice of an edge for each state,
-// then the readings from the order-1 states that these edges and `named` name, for the join of the edges' sets and s. States in `memo` are
-// passed over.
+// Collects the results of the readings of the slot's symbol from the order-2 states left, joined to (order, b, r): one choice of an edge for
+// each state, then the readings from the order-1 states that these edges and `named` name, for the join of the edges' sets and the slot's.
+// States in `memo` are passed over.
 pub fn read_edges(
     z: tables::Table,
     inner: &[u64],
@@ -214,57 +309,91 @@ pub fn read_edges(
     moves: &[u64],
     states: &[u16],
     words: &[u16],
-    to: Goal,
-    w: Earlier,
-    j: Joins,
+    to: Slot,
+    t: Before,
+    order: u64,
+    b: u64,
+    r: u64,
     left: u64,
     named: u64,
-    s: u64,
-    new: bool,
     memo: &mut [u64],
     out: &mut [u64],
-    n: usize,
-    room: usize,
-) -> usize
-    requires { ⌜ Indexed z (now inner) (now entries) (now moves) (now states) (now words) × Settles (automatonOf z (now inner) (now entries) (now moves)) w (to .symbol) × Known (automatonOf z (now inner) (now entries) (now moves)) new (edgeResults (earlierOf w (automatonOf z (now inner) (now entries) (now moves))) (to .control) (to .symbol) (asJoins j) (members left) named s) × Room room n (now out) × MemoHolds (automatonOf z (now inner) (now entries) (now moves)) room n (now out) (now memo) ⌝ }
-    ensures { λ r. ⌜ Collects (automatonOf z (now (inner .entry)) (now (entries .entry)) (now (moves .entry))) room n (now (out .entry)) (edgeResults (automatonOf z (now (inner .entry)) (now (entries .entry)) (now (moves .entry))) (to .control) (to .symbol) (asJoins j) (members left) named s) r (now (out .exit)) ⌝ }
-    ensures { λ r. ⌜ MemoHolds (automatonOf z (now (inner .entry)) (now (entries .entry)) (now (moves .entry))) room r (now (out .exit)) (now (memo .exit)) ⌝ }
+    n: Pending,
+) -> Pending
+    requires { ⌜ Indexed z (now inner) (now entries) (now moves) (now states) (now words)
+        × CanCollect (automatonOf z (now inner) (now entries) (now moves)) n (now out) (now memo)
+        × HeldBefore (automatonOf z (now inner) (now entries) (now moves)) t (to .symbol) (edgesTo to (theJoins order b r) (members left) named) ⌝ }
+    ensures { λ k. ⌜ CollectsAll (automatonOf z (now (inner .entry)) (now (entries .entry)) (now (moves .entry))) n (now (out .entry))
+        (edgesTo to (theJoins order b r) (members left) named) k (now (out .exit)) (now (memo .exit)) ⌝ }
 {
-    if room < n {
+    if n.room < n.count {
         return n;
     }
     if left == 0 {
         return read_from(
             z,
-            inner,
             entries,
             moves,
             states,
             words,
             to,
-            w,
-            s,
+            t,
             named,
-            j,
-            new,
+            order,
+            b,
+            r,
             memo,
             out,
             n,
-            room,
         );
     }
-    let count = z.moves as u64;
-    let x = memo_table::edges_state(
-        count,
-        to.control,
-        to.symbol,
-        s,
+    choose_left(
+        z,
+        inner,
+        entries,
+        moves,
+        states,
+        words,
+        to,
+        t,
+        order,
+        b,
+        r,
         left,
         named,
-        j.order,
-        j.b,
-        j.r,
-    );
+        memo,
+        out,
+        n,
+    )
+}
+
+// The same where some state is left, unless it stands in `memo`: by the least of them.
+fn choose_left(
+    z: tables::Table,
+    inner: &[u64],
+    entries: &[u64],
+    moves: &[u64],
+    states: &[u16],
+    words: &[u16],
+    to: Slot,
+    t: Before,
+    order: u64,
+    b: u64,
+    r: u64,
+    left: u64,
+    named: u64,
+    memo: &mut [u64],
+    out: &mut [u64],
+    n: Pending,
+) -> Pending
+    requires { ⌜ Indexed z (now inner) (now entries) (now moves) (now states) (now words)
+        × CanCollect (automatonOf z (now inner) (now entries) (now moves)) n (now out) (now memo) × (0 < left)
+        × HeldBefore (automatonOf z (now inner) (now entries) (now moves)) t (to .symbol) (edgesTo to (theJoins order b r) (members left) named) ⌝ }
+    ensures { λ k. ⌜ CollectsAll (automatonOf z (now (inner .entry)) (now (entries .entry)) (now (moves .entry))) n (now (out .entry))
+        (edgesTo to (theJoins order b r) (members left) named) k (now (out .exit)) (now (memo .exit)) ⌝ }
+{
+    let count = z.moves as u64;
+    let x = memo_table::edges_state(count, to.control, to.symbol, to.s, left, named, order, b, r);
     let row = memo_table::place(memo, x);
     if memo_table::holds(memo, row, x) {
         return n;
@@ -278,23 +407,22 @@ pub fn read_edges(
         states,
         words,
         to,
-        w,
-        j,
+        t,
+        order,
+        b,
+        r,
         part,
         named,
-        s,
-        new,
         memo,
         out,
         n,
-        room,
     );
     memo_table::put(memo, row, x);
     k
 }
 
-// Collects the results of the readings of the goal's symbol from an order-2 state and the others, joined to j: by each edge of the state the
-// readings from the others.
+// Collects the results of the readings of the slot's symbol from an order-2 state and the others, joined to (order, b, r): by each edge of
+// the state the readings from the others.
 fn read_choices(
     z: tables::Table,
     inner: &[u64],
@@ -302,22 +430,24 @@ fn read_choices(
     moves: &[u64],
     states: &[u16],
     words: &[u16],
-    to: Goal,
-    w: Earlier,
-    j: Joins,
+    to: Slot,
+    t: Before,
+    order: u64,
+    b: u64,
+    r: u64,
     part: sets::Split,
     named: u64,
-    s: u64,
-    new: bool,
     memo: &mut [u64],
     out: &mut [u64],
-    n: usize,
-    room: usize,
-) -> usize
-    requires { ⌜ Indexed z (now inner) (now entries) (now moves) (now states) (now words) × Settles (automatonOf z (now inner) (now entries) (now moves)) w (to .symbol) × Known (automatonOf z (now inner) (now entries) (now moves)) new (edgeResults (earlierOf w (automatonOf z (now inner) (now entries) (now moves))) (to .control) (to .symbol) (asJoins j) (part .member ∷ members (part .others)) named s) × Room room n (now out) × MemoHolds (automatonOf z (now inner) (now entries) (now moves)) room n (now out) (now memo) ⌝ }
-    ensures { λ r. ⌜ Collects (automatonOf z (now (inner .entry)) (now (entries .entry)) (now (moves .entry))) room n (now (out .entry)) (edgeResults (automatonOf z (now (inner .entry)) (now (entries .entry)) (now (moves .entry))) (to .control) (to .symbol) (asJoins j) (part .member ∷ members (part .others)) named s) r (now (out .exit)) ⌝ }
-    ensures { λ r. ⌜ MemoHolds (automatonOf z (now (inner .entry)) (now (entries .entry)) (now (moves .entry))) room r (now (out .exit)) (now (memo .exit)) ⌝ }
+    n: Pending,
+) -> Pending
+    requires { ⌜ Indexed z (now inner) (now entries) (now moves) (now states) (now words)
+        × CanCollect (automatonOf z (now inner) (now entries) (now moves)) n (now out) (now memo)
+        × HeldBefore (automatonOf z (now inner) (now entries) (now moves)) t (to .symbol) (edgesTo to (theJoins order b r) (part .member ∷ members (part .others)) named) ⌝ }
+    ensures { λ k. ⌜ CollectsAll (automatonOf z (now (inner .entry)) (now (entries .entry)) (now (moves .entry))) n (now (out .entry))
+        (edgesTo to (theJoins order b r) (part .member ∷ members (part .others)) named) k (now (out .exit)) (now (memo .exit)) ⌝ }
 {
+    let j = Joins { order, b, r };
     let count = z.edges + z.entries;
     let mut k = n;
     let mut i: usize = 0;
@@ -325,7 +455,7 @@ fn read_choices(
         let e = tables::edge_of(z, inner, entries, i);
         if e.state == part.member {
             let c = choices::unchanged(z, moves, states, e.first, to.symbol, j);
-            let newer = is_newer(new, z.edges + w.entries, i);
+            let by = used(t, z.edges + t.entries, i);
             k = read_edges(
                 z,
                 inner,
@@ -333,17 +463,16 @@ fn read_choices(
                 moves,
                 states,
                 words,
-                to,
-                w,
-                j,
+                slot_joined(to, e.s),
+                used(by, t.moves + 1, c),
+                order,
+                b,
+                r,
                 part.others,
                 name(named, e.first, c),
-                sets::join(s, e.s),
-                is_newer(newer, w.moves + 1, c),
                 memo,
                 out,
                 k,
-                room,
             );
         }
         i += 1;

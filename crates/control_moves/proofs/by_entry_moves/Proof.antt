@@ -8,6 +8,7 @@ use Rattle.tables.specs.Held.{automatonOf}
 use Rattle.chains.specs.Chains.{lastBelow}
 use Rattle.move_index.specs.Keys.{stateKey, stateKeyAt}
 use Rattle.readings.specs.Memo.{MemoHolds}
+use Rattle.readings.specs.Gathering.Laws.{in-room, collected-by, nothing-collected}
 use Rattle.readings.specs.Turns.{OnChain}
 use Rattle.readings.specs.Turns.Laws.{chain-starts, chain-goes}
 use Rattle.control_moves.specs.Control.{ChainDownTo}
@@ -17,79 +18,81 @@ use Rattle.control_moves.proofs.by_entry_moves.Statement.{statement}
 use Rattle.control_moves.proofs.by_entry_moves.Tie as tie
 
 abbrev Inv-loop : tie.InvT-loop
-Inv-loop z inner entries moves states words to w t kind b q e memo₀ out₀ n room k₀ c₀ memo out k c =
-    (c ≤ z .moves) × OnChain moves (stateKey (z .inner1 + e) b) c × ChainDownTo (automatonOf z inner entries moves) (to .control) (to .symbol) kind b q e room n out₀ c k out × (length out ≡ length out₀) × MemoHolds (automatonOf z inner entries moves) room k out memo × (length memo ≡ length memo₀)
+Inv-loop z inner entries moves states words to t from e memo₀ out₀ n c₀ memo out k c =
+    (c ≤ z .moves)
+    × OnChain moves (stateKey (z .inner1 + e) (from .symbol)) c
+    × ChainDownTo (automatonOf z inner entries moves) (to .control) (to .symbol) (from .kind) (from .symbol) (from .control) e (n .room) (n .count) out₀ c (k .count) out
+    × (length out ≡ length out₀)
+    × MemoHolds (automatonOf z inner entries moves) (k .room) (k .count) out memo
+    × (length memo ≡ length memo₀)
+    × (k .room ≡ n .room)
 
 abbrev μ-loop : tie.MeasureT-loop
-μ-loop z inner entries moves states words to w t kind b q e memo₀ out₀ n room k₀ c₀ memo out k c = c
+μ-loop z inner entries moves states words to t from e memo₀ out₀ n c₀ memo out k c = c
 
 entry-at-requires : tie.Need-entry-at-requires Inv-loop μ-loop
-entry-at-requires c κs = omega (arith, c .before .before .before .before .before .before .before .pre .5, c .before .before .before .before .before .before .before .pre .0 .entries-stand .entries-lent)
+entry-at-requires c κs = omega (arith, c .before .before .before .before .before .before .before .pre .3, c .before .before .before .before .before .before .before .pre .0 .moves-indexed .by-words .entries-stand .entries-lent)
 
 returns : tie.Need-returns Inv-loop μ-loop
-returns c = (entry-other (c .before .before .before .before .before .before .before .before .before .before .args .z) _ _ _ _ _ _ _ _ _ _ _ _ _ (c .before .before .before .before .before .before .before .before .before .before .pre .5) (c .before .before .entry-at .ensures) (c .before .before .before .before .before .before .before .before .before .before .pre .3 .number) (c .if1 .taken), c .before .before .before .before .before .before .before .before .before .before .pre .4)
+returns c = nothing-collected _ _ _ _ (c .before .before .before .before .before .before .before .before .before .before .before .pre .1) _ (entry-other (c .before .before .before .before .before .before .before .before .before .before .before .args .z) _ _ _ _ _ _ _ _ _ _ _ _ _ (c .before .before .before .before .before .before .before .before .before .before .before .pre .3) (c .before .before .before .entry-at .ensures) (c .before .before .before .before .before .before .before .before .before .before .before .pre .1 .room .number) (c .if1 .taken))
 
 add-state-key : tie.Need-add-state-key Inv-loop μ-loop
-add-state-key c = omega (arith, c .before .before .before .before .before .before .before .before .before .before .before .pre .5, c .before .before .before .before .before .before .before .before .before .before .before .pre .0 .entries-stand .states-few)
+add-state-key c = omega (arith, c .before .before .before .before .before .before .before .before .before .before .before .before .pre .3, c .before .before .before .before .before .before .before .before .before .before .before .before .pre .0 .moves-indexed .by-words .entries-stand .states-few)
 
 state-key-requires : tie.Need-state-key-requires Inv-loop μ-loop
 state-key-requires c κs = search needs
 
 last-requires : tie.Need-last-requires Inv-loop μ-loop
-last-requires c κs = (c .before .before .before .before .before .before .before .before .before .before .before .before .pre .0 .by-state .long, c .state-key .ensures .1)
+last-requires c κs = (c .before .before .before .before .before .before .before .before .before .before .before .before .before .pre .0 .moves-indexed .by-state .long, c .state-key .ensures .1)
 
 loop-holds : tie.Need-loop-holds Inv-loop μ-loop
 loop-holds c =
-    let start = c .before .before .before .before .before .before .before .before .before .before .before .before .before in
-    let first = c .last .ensures _ _ (start .pre .0 .by-state) ∙ ap (λ key. lastBelow (stateKeyAt (start .args .moves .now)) key (start .args .z .moves)) (c .before .state-key .ensures .0) in
-    let chain = chain-starts (start .args .moves .now) _ _ _ first in
-    (chain .0, chain .1, walk-none (start .args .z) _ _ _ _ _ _ _ _ _ _ _ _ _ (start .pre .3 .number) first, refl, start .pre .4, refl)
+    let first = c .last .ensures _ _ (c .before .before .before .before .before .before .before .before .before .before .before .before .before .before .pre .0 .moves-indexed .by-state) ∙ ap (λ key. lastBelow (stateKeyAt (c .before .before .before .before .before .before .before .before .before .before .before .before .before .before .args .moves .now)) key (c .before .before .before .before .before .before .before .before .before .before .before .before .before .before .args .z .moves)) (c .before .state-key .ensures .0) in
+    let chain = chain-starts (c .before .before .before .before .before .before .before .before .before .before .before .before .before .before .args .moves .now) _ _ _ first in
+    (chain .0, chain .1, walk-none (c .before .before .before .before .before .before .before .before .before .before .before .before .before .before .args .z) _ _ _ _ _ _ _ _ _ _ _ _ _ (c .before .before .before .before .before .before .before .before .before .before .before .before .before .before .pre .1 .room .number) first, refl, c .before .before .before .before .before .before .before .before .before .before .before .before .before .before .pre .1 .memo-holds, refl, refl)
 
 sub-i : tie.Need-sub-i Inv-loop μ-loop
 sub-i c = search needs
 
 by-move-requires : tie.Need-by-move-requires Inv-loop μ-loop
 by-move-requires c κs =
-    let start = c .before .before .before .before .before .before .before .before .before .before .before .before .before .before .before .before .before in
-    let turn = c .before .before .before in (
-      start .pre .0,
-      start .pre .1,
-      start .pre .2,
-      record { room-lent = omega (arith, start .pre .3 .room-lent, turn .loop .inv .3); number = turn .loop .inv .2 .collected .number },
-      turn .loop .inv .4,
-      omega (arith, turn .loop .inv .0, c .before .before .loop-test .taken),
-      start .pre .6,
-      start .pre .7,
+    (
+      c .before .before .before .before .before .before .before .before .before .before .before .before .before .before .before .before .before .before .pre .0,
+      record {
+        room = record { room-lent = omega (arith, c .before .before .before .before .before .before .before .before .before .before .before .before .before .before .before .before .before .before .pre .1 .room .room-lent, c .before .before .before .loop .inv .3, c .before .before .before .loop .inv .6); number = omega (arith, c .before .before .before .loop .inv .2 .collected .number, c .before .before .before .loop .inv .6) };
+        memo-holds = c .before .before .before .loop .inv .4;
+      },
+      c .before .before .before .before .before .before .before .before .before .before .before .before .before .before .before .before .before .before .pre .2,
+      omega (arith, c .before .before .before .loop .inv .0, c .before .before .loop-test .taken),
     )
 
 before-requires : tie.Need-before-requires Inv-loop μ-loop
-before-requires c κs = (c .before .before .before .before .before .before .before .before .before .before .before .before .before .before .before .before .before .before .before .before .before .before .pre .0 .by-state .long, omega (arith, c .before .before .before .before .before .before .before .before .loop .inv .0, c .before .before .before .before .before .before .before .loop-test .taken, c .before .before .before .before .before .before .before .before .before .before .before .before .before .before .before .before .before .before .before .before .before .before .pre .0 .by-state .few))
+before-requires c κs = (c .before .before .before .before .before .before .before .before .before .before .before .before .before .before .before .before .before .before .before .before .before .before .before .pre .0 .moves-indexed .by-state .long, omega (arith, c .before .before .before .before .before .before .before .before .loop .inv .0, c .before .before .before .before .before .before .before .loop-test .taken, c .before .before .before .before .before .before .before .before .before .before .before .before .before .before .before .before .before .before .before .before .before .before .before .pre .0 .moves-indexed .by-state .few))
 
 loop-less : tie.Need-loop-less Inv-loop μ-loop
 loop-less c =
-    let start = c .before .before .before .before .before .before .before .before .before .before .before .before .before .before .before .before .before .before .before .before .before .before .before in
-    let turn = c .before .before .before .before .before .before .before .before .before in
     let some = c .before .before .before .before .before .before .before .before .loop-test .taken in
-    let within = let b = turn .loop .inv .0 in let l : turn .loop .c - 1 < start .args .z .moves = omega (arith, b, some) in l in
-    let chain = chain-goes (start .args .moves .now) _ _ _ _ within (turn .loop .inv .1 (turn .loop .c - 1) (omega (arith, some))) (c .before2 .ensures _ _ (start .pre .0 .by-state) within) in
+    let within = let b = c .before .before .before .before .before .before .before .before .before .loop .inv .0 in let l : c .before .before .before .before .before .before .before .before .before .loop .c - 1 < c .before .before .before .before .before .before .before .before .before .before .before .before .before .before .before .before .before .before .before .before .before .before .before .before .args .z .moves = omega (arith, b, some) in l in
+    let chain = chain-goes (c .before .before .before .before .before .before .before .before .before .before .before .before .before .before .before .before .before .before .before .before .before .before .before .before .args .moves .now) _ _ _ _ within (c .before .before .before .before .before .before .before .before .before .loop .inv .1 (c .before .before .before .before .before .before .before .before .before .loop .c - 1) (omega (arith, some))) (c .before2 .ensures _ _ (c .before .before .before .before .before .before .before .before .before .before .before .before .before .before .before .before .before .before .before .before .before .before .before .before .pre .0 .moves-indexed .by-state) within) in
     omega (arith, chain .2, some)
 
 loop-again : tie.Need-loop-again Inv-loop μ-loop
 loop-again c =
-    let start = c .before .before .before .before .before .before .before .before .before .before .before .before .before .before .before .before .before .before .before .before .before .before .before in
-    let turn = c .before .before .before .before .before .before .before .before .before in
     let done = c .before .before .before .before .before .by-move in
+    let here = in-room (c .before .before .before .before .before .before .before .before .before .loop .inv .6) (done .ensures .collected) in
+    let long = done .kept .1 .1 .1 .1 .1 .1 .1 .1 .1 .1 .1 .0 in
     let some = c .before .before .before .before .before .before .before .before .loop-test .taken in
-    let within = let b = turn .loop .inv .0 in let l : turn .loop .c - 1 < start .args .z .moves = omega (arith, b, some) in l in
-    let key = turn .loop .inv .1 (turn .loop .c - 1) (omega (arith, some)) in
-    let next = c .before2 .ensures _ _ (start .pre .0 .by-state) within in
-    let chain = chain-goes (start .args .moves .now) _ _ _ _ within key next in (
+    let within = let b = c .before .before .before .before .before .before .before .before .before .loop .inv .0 in let l : c .before .before .before .before .before .before .before .before .before .loop .c - 1 < c .before .before .before .before .before .before .before .before .before .before .before .before .before .before .before .before .before .before .before .before .before .before .before .before .args .z .moves = omega (arith, b, some) in l in
+    let key = c .before .before .before .before .before .before .before .before .before .loop .inv .1 (c .before .before .before .before .before .before .before .before .before .loop .c - 1) (omega (arith, some)) in
+    let next = c .before2 .ensures _ _ (c .before .before .before .before .before .before .before .before .before .before .before .before .before .before .before .before .before .before .before .before .before .before .before .before .pre .0 .moves-indexed .by-state) within in
+    let chain = chain-goes (c .before .before .before .before .before .before .before .before .before .before .before .before .before .before .before .before .before .before .before .before .before .before .before .before .args .moves .now) _ _ _ _ within key next in (
       chain .0,
       chain .1,
-      walk-more (start .args .z) _ _ _ _ _ _ _ _ _ _ _ _ _ _ _ _ _ _ _ (turn .loop .inv .2) (omega (arith, some)) within key next (done .ensures .0) (done .kept .1 .1 .1 .1 .1 .1 .1 .1 .1 .1 .1 .1 .1 .1 .0),
-      done .kept .1 .1 .1 .1 .1 .1 .1 .1 .1 .1 .1 .1 .1 .1 .0 ∙ turn .loop .inv .3,
-      done .ensures .1,
-      done .kept .1 .1 .1 .1 .1 .1 .1 .1 .1 .1 .1 .1 .1 .0 ∙ turn .loop .inv .5,
+      walk-more (c .before .before .before .before .before .before .before .before .before .before .before .before .before .before .before .before .before .before .before .before .before .before .before .before .args .z) _ _ _ _ _ _ _ _ _ _ _ _ _ _ _ _ _ _ _ (c .before .before .before .before .before .before .before .before .before .loop .inv .2) (omega (arith, some)) within key next (here .0) long,
+      long ∙ c .before .before .before .before .before .before .before .before .before .loop .inv .3,
+      done .ensures .memo-holds,
+      done .kept .1 .1 .1 .1 .1 .1 .1 .1 .1 .1 .0 ∙ c .before .before .before .before .before .before .before .before .before .loop .inv .5,
+      here .1,
     )
 
 same-length : tie.Need-same-length Inv-loop μ-loop
@@ -99,25 +102,11 @@ same-length-2 : tie.Need-same-length-2 Inv-loop μ-loop
 same-length-2 c = c .before .loop .inv .3
 
 returns-2 : tie.Need-returns-2 Inv-loop μ-loop
-returns-2 c = (entry-own (c .before .before .before .before .before .before .before .before .before .before .before .before .before .before .before .args .z) _ _ _ _ _ _ _ _ _ _ _ _ _ (c .before .before .before .before .before .before .before .before .before .before .before .before .before .before .before .pre .5) (c .before .before .before .before .before .before .before .entry-at .ensures) _ _ (c .before .before .before .before .before .if1 .left) (walk-all (c .before .before .before .before .before .before .before .before .before .before .before .before .before .before .before .args .z) _ _ _ _ _ _ _ _ _ _ _ _ _ _ _ (c .before .loop .inv .2) (c .loop-test .left)), c .before .loop .inv .4)
+returns-2 c =
+    record {
+      collected = collected-by (entry-own (c .before .before .before .before .before .before .before .before .before .before .before .before .before .before .before .before .args .z) _ _ _ _ _ _ _ _ _ _ _ _ _ (c .before .before .before .before .before .before .before .before .before .before .before .before .before .before .before .before .pre .3) (c .before .before .before .before .before .before .before .before .entry-at .ensures) _ _ (c .before .before .before .before .before .if1 .left) (walk-all (c .before .before .before .before .before .before .before .before .before .before .before .before .before .before .before .before .args .z) _ _ _ _ _ _ _ _ _ _ _ _ _ _ _ (c .before .loop .inv .2) (c .loop-test .left))) (c .before .loop .inv .6);
+      memo-holds = c .before .loop .inv .4;
+    }
 
 pub by-entry-moves-spec : {M : Type 1} → statement M
-by-entry-moves-spec =
-    tie.close
-    (tie.spec
-    Inv-loop
-    μ-loop
-    entry-at-requires
-    returns
-    add-state-key
-    state-key-requires
-    last-requires
-    loop-holds
-    sub-i
-    by-move-requires
-    before-requires
-    loop-less
-    loop-again
-    same-length
-    same-length-2
-    returns-2)
+by-entry-moves-spec = tie.close (tie.spec Inv-loop μ-loop entry-at-requires returns add-state-key state-key-requires last-requires loop-holds sub-i by-move-requires before-requires loop-less loop-again same-length same-length-2 returns-2)

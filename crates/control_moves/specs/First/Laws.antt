@@ -1,18 +1,19 @@
 -- What the premises that are passed over give is held.
 -- Assumes nothing.
-use Prim.Native.Nat.{ℕ, _%_, _^_, _≤_, _<_}
-use mathlib.Core.Bool.{Bool, true, false, _||_, false≢true}
+use Prim.Native.Nat.{ℕ, _+_, _%_, _^_, _≤_, _<_}
+use mathlib.Core.Bool.{Bool, true, false, _||_, _&&_, false≢true}
 use mathlib.Core.Path.{_≡_, refl, ap, sym, _∙_, subst}
 use mathlib.Core.Logic.{_⊎_, inl, inr, ⊎-elim}
 use mathlib.Core.List.{List, List·Memᴰ}
 use native.Mathlib.Omega.{arith}
-use lib.ListN.{length, getD}
+use lib.ListN.{length}
 use lib.Dec.{eqb, leb, ltb}
 use borrow.Author.Tests.{eqb-true, leb-true, leb-false, ltb-false}
 use Rattle.words.specs.Sets.{member}
 use Rattle.words.specs.Sets.Laws.{Has, has-empty, has-below}
+use Rattle.words.specs.Lists.Laws.{places-out}
 use Rattle.words.specs.Laws.Tests.{by-test, and-left}
-use Rattle.automata.specs.Automaton.{Automaton, Move, noMove, moveAt, entrySet}
+use Rattle.automata.specs.Automaton.{Automaton, Move, noMove, moveAt, entryOf, entrySet}
 use Rattle.automata.specs.Automaton.Laws.{length-edges}
 use Rattle.automata.specs.Derivation.{controlMoves}
 use Rattle.automata.specs.Saturation.{upTo}
@@ -24,18 +25,19 @@ use Rattle.tables.specs.Layouts.{moveRow, entryRow}
 use Rattle.tables.specs.Held.{automatonOf}
 use Rattle.tables.specs.Held.Laws.{row-move}
 use Rattle.offers.specs.Offers.{AllHeld}
-use Rattle.readings.specs.declared.Earlier.{Earlier}
-use Rattle.readings.specs.Earlier.{Settles}
+use Rattle.readings.specs.declared.Before.{Before}
+use Rattle.readings.specs.declared.Goal.{Goal}
+use Rattle.readings.specs.Before.{tableBefore, settledOn, Settles}
 use Rattle.round_news.specs.News.{HasSymbols, NoneHas}
 use Rattle.premises.specs.declared.MoveUse.{MoveUse}
 use Rattle.premises.specs.declared.MoveUse.the-variants.{Rewritten, Pushed1, Pushed2, Copied}
-use Rattle.premises.specs.declared.Before.{Before}
-use Rattle.premises.specs.Premises.{premiseResults, movesResults}
-use Rattle.premises.specs.Steps.Laws.{controlTest, moveOffers}
-use Rattle.premises.specs.Before.{tableBefore, SettledBy}
-use Rattle.premises.specs.Before.Laws.{premise-same, length-moves, length-entries}
-use Rattle.premises.specs.Before.Known.{premise-known, there}
-use Rattle.control_moves.specs.First.{readsNew, firstMove}
+use Rattle.premises.specs.declared.Source.{Source}
+use Rattle.premises.specs.Premises.{premiseResults, movesResults, sourceGives}
+use Rattle.premises.specs.Steps.Laws.{moveOffers, MovesUpTo, moves-past}
+use Rattle.premises.specs.Settled.{SettledBy, SourceHeld}
+use Rattle.premises.specs.Settled.Laws.{premise-same, length-moves, length-entries}
+use Rattle.premises.specs.Settled.Known.{premise-known, there}
+use Rattle.control_moves.specs.First.{readsNew, firstMove, HeldBelow}
 
 -- ---- an old premise
 
@@ -54,22 +56,30 @@ module _ (A : Automaton) (t : Before) (p a : ℕ) (k : MoveUse) (b q : ℕ) (s :
             let v = length-edges A in let w = length-edges (tableBefore t A) in omega (arith, f, e, u, v, w)) h);
       }
 
-module _ (z : Table) (inner entries moves : List ℕ) (t : Before) (p a : ℕ) (k : MoveUse) (b q : ℕ)
-    (s : SettledBy (automatonOf z inner entries moves) t (movesResults (tableBefore t (automatonOf z inner entries moves)) p a k b q)) where
-  -- the states that have no newer move on the symbol
-  pub settles : (w : Earlier) → w .moves ≡ t .moves → w .entries ≡ t .entries → NoneHas moves (t .moves) (z .moves) a (w .settled) → w .settled < 2 ^ 64
-      → Settles (automatonOf z inner entries moves) w a
-  settles w em ee h small =
-      let len : length (rowsIn moveRow (z .moves) moves) ≡ z .moves = length-rowsIn moveRow (z .moves) moves in
-      record {
-        moves-before = let c = s .moves-before in omega (arith, c, em);
-        entries-before = let c = s .entries-before in omega (arith, c, ee);
+-- the states that have no newer move on the goal's symbol
+pub source-held : (z : Table) (inner entries moves : List ℕ) (t t′ : Before) (to : Goal) (from : Source) (s : ℕ)
+    → SettledBy (automatonOf z inner entries moves) t (sourceGives to from (tableBefore t (automatonOf z inner entries moves)))
+    → NoneHas moves (t .moves) (z .moves) (to .symbol) s → s < 2 ^ 64 → t′ ≡ settledOn t s → SourceHeld (automatonOf z inner entries moves) t′ to from
+source-held z inner entries moves t t′ to from s h none small e =
+    let len : length (rowsIn moveRow (z .moves) moves) ≡ z .moves = length-rowsIn moveRow (z .moves) moves in
+    rw e (record {
+      settled-by = record {
+        moves-before = h .moves-before;
+        entries-before = h .entries-before;
+        states-before = h .states-before;
+        none-before = h .none-before;
+        held-before = h .held-before;
+      };
+      settles = record {
+        moves-before = h .moves-before;
+        entries-before = h .entries-before;
         settles = λ i l c y d.
             let l′ : i < z .moves = omega arith in
             let r : moveAt (automatonOf z inner entries moves) i ≡ rowAt moveRow moves i = sym (row-move z inner entries moves i (rowAt moveRow moves i) l′ refl) in
-            let st : Has (w .settled) (rowAt moveRow moves i .state) = subst (λ (n : Move). Has (w .settled) (n .state)) r d in
-            h .none-has i (omega (arith, em)) l′ (ap (λ (n : Move). n .symbol) (sym r) ∙ y) (has-below 64 small st) st;
-      }
+            let st : Has s (rowAt moveRow moves i .state) = subst (λ (n : Move). Has s (n .state)) r d in
+            none .none-has i l l′ (ap (λ (n : Move). n .symbol) (sym r) ∙ y) (has-below 64 small st) st;
+      };
+    })
 
 -- nothing is new for the reading of an old premise
 quiet-cases : (k : MoveUse) (moves entries : Bool) → readsNew k moves entries ≡ false → (k ≡ Rewritten) ⊎ ((moves ≡ false) × (k ≡ Copied → entries ≡ false))
@@ -82,8 +92,8 @@ quiet-cases Copied false entries f = inr (refl, λ c. f)
 
 -- ---- the premises that are passed over
 
-module _ (z : Table) (inner entries moves : List ℕ) (t : Before) (p a : ℕ) (k : MoveUse) (b q symbols : ℕ)
-    (s : SettledBy (automatonOf z inner entries moves) t (movesResults (tableBefore t (automatonOf z inner entries moves)) p a k b q))
+module _ (z : Table) (inner entries moves : List ℕ) (t : Before) (to : Goal) (from : Source) (symbols : ℕ)
+    (s : SettledBy (automatonOf z inner entries moves) t (sourceGives to from (tableBefore t (automatonOf z inner entries moves))))
     (news : HasSymbols moves (t .moves) (z .moves) symbols) where
   -- a symbol that no newer move has
   old-symbol : (c : ℕ) → member symbols (c % 64) ≡ false → (i : ℕ) → i < length (automatonOf z inner entries moves .moves)
@@ -98,10 +108,10 @@ module _ (z : Table) (inner entries moves : List ℕ) (t : Before) (p a : ℕ) (
       (λ v. leb-false (t .moves) i v)
 
   -- what an old premise gives, where nothing is new for its reading
-  quiet-held : readsNew k (member symbols (a % 64)) (ltb (t .entries) (z .entries)) ≡ false
-      → (i : ℕ) → i < t .moves → List·Memᴰ i (controlMoves (automatonOf z inner entries moves) q b)
+  quiet-held : readsNew (from .kind) (member symbols (to .symbol % 64)) (ltb (t .entries) (z .entries)) ≡ false
+      → (i : ℕ) → i < t .moves → List·Memᴰ i (controlMoves (automatonOf z inner entries moves) (from .control) (from .symbol))
       → AllHeld (automatonOf z inner entries moves)
-      (premiseResults (automatonOf z inner entries moves) p a k (entrySet (automatonOf z inner entries moves) (moveAt (automatonOf z inner entries moves) i .state)) (moveAt (automatonOf z inner entries moves) i))
+      (premiseResults (automatonOf z inner entries moves) (to .control) (to .symbol) (from .kind) (entrySet (automatonOf z inner entries moves) (moveAt (automatonOf z inner entries moves) i .state)) (moveAt (automatonOf z inner entries moves) i))
   unfolding premiseResults
   quiet-held f i l m =
       let A : Automaton = automatonOf z inner entries moves in
@@ -109,36 +119,40 @@ module _ (z : Table) (inner entries moves : List ℕ) (t : Before) (p a : ℕ) (
       let len : length (rowsIn entryRow (z .entries) entries) ≡ z .entries = length-rowsIn entryRow (z .entries) entries in
       ⊎-elim
       (λ e.
-      let h : AllHeld A (premiseResults E p a Rewritten (entrySet A (moveAt A i .state)) (moveAt A i)) =
-      subst (λ (u : MoveUse). AllHeld A (premiseResults E p a u (entrySet A (moveAt A i .state)) (moveAt A i))) e (premise-known A t p a k b q s i l m) in
-      subst (λ (u : MoveUse). AllHeld A (premiseResults A p a u (entrySet A (moveAt A i .state)) (moveAt A i))) (sym e) h)
-      (λ e. premise-held A t p a k b q s i l m (old-symbol a (e .0))
+      let h : AllHeld A (premiseResults E (to .control) (to .symbol) Rewritten (entrySet A (moveAt A i .state)) (moveAt A i)) =
+      subst (λ (u : MoveUse). AllHeld A (premiseResults E (to .control) (to .symbol) u (entrySet A (moveAt A i .state)) (moveAt A i))) e (premise-known A t (to .control) (to .symbol) (from .kind) (from .symbol) (from .control) s i l m) in
+      subst (λ (u : MoveUse). AllHeld A (premiseResults A (to .control) (to .symbol) u (entrySet A (moveAt A i .state)) (moveAt A i))) (sym e) h)
+      (λ e. premise-held A t (to .control) (to .symbol) (from .kind) (from .symbol) (from .control) s i l m (old-symbol (to .symbol) (e .0))
       (λ c. by-test (ltb (t .entries) (z .entries))
       (λ v. absurd (false≢true (sym (e .1 c) ∙ v)))
       (λ v. let g : z .entries ≤ t .entries = ltb-false (t .entries) (z .entries) v in omega arith)))
-      (quiet-cases k (member symbols (a % 64)) (ltb (t .entries) (z .entries)) f)
+      (quiet-cases (from .kind) (member symbols (to .symbol % 64)) (ltb (t .entries) (z .entries)) f)
 
-  pub passed-held : (reads : Bool) (first : ℕ) → reads ≡ readsNew k (member symbols (a % 64)) (ltb (t .entries) (z .entries)) → reads ≡ false → first ≡ firstMove (member symbols (b % 64)) (t .moves) (z .moves)
-      → (i : ℕ) → i < first → controlTest z inner entries moves p a k b q (getD (rowsIn moveRow (z .moves) moves) i noMove) ≡ true
-      → AllHeld (automatonOf z inner entries moves) (moveOffers z inner entries moves p a k b q i)
-  unfolding firstMove moveOffers moveAt
-  passed-held reads first e v f i l h = by-test (member symbols (b % 64))
+  pub held-below : (reads : Bool) (first : ℕ) → reads ≡ readsNew (from .kind) (member symbols (to .symbol % 64)) (ltb (t .entries) (z .entries)) → reads ≡ false
+      → first ≡ firstMove (member symbols (from .symbol % 64)) (t .moves) (z .moves) → HeldBelow (automatonOf z inner entries moves) to from first
+  unfolding firstMove controlMoves moveAt
+  held-below reads first e v f = by-test (member symbols (from .symbol % 64))
       (λ u. let n : first ≡ t .moves = f ∙ rw (firstMove, u) refl in
       let c = s .moves-before in
-      let len : length (rowsIn moveRow (z .moves) moves) ≡ z .moves = length-rowsIn moveRow (z .moves) moves in
-      quiet-held (sym e ∙ v) i (omega arith) (there z inner entries moves p a k b q i (omega (arith, c)) h))
+      record { within = omega (arith, c, n); below = λ i l m. quiet-held (sym e ∙ v) i (omega (arith, l, n)) m })
       (λ u. let n : first ≡ z .moves = f ∙ rw (firstMove, u) refl in
       let len : length (rowsIn moveRow (z .moves) moves) ≡ z .moves = length-rowsIn moveRow (z .moves) moves in
-      let y : moveAt (automatonOf z inner entries moves) i .symbol ≡ b = eqb-true _ _ (and-left (eqb (moveAt (automatonOf z inner entries moves) i .symbol) b) _ h) in
-      quiet-held (sym e ∙ v) i (old-symbol b u i (omega arith) y) (there z inner entries moves p a k b q i (omega arith) h))
+      record {
+        within = omega (arith, len, n);
+        below = λ i l m.
+            let w = places-out (λ y. eqb (y .symbol) (from .symbol) && entryOf (automatonOf z inner entries moves) (from .control) (y .state)) (rowsIn moveRow (z .moves) moves) noMove m in
+            quiet-held (sym e ∙ v) i (old-symbol (from .symbol) u i (w .0) (eqb-true _ _ (and-left (eqb (moveAt (automatonOf z inner entries moves) i .symbol) (from .symbol)) _ (w .1)))) m;
+      })
 
-  pub first-within : (first : ℕ) → first ≡ firstMove (member symbols (b % 64)) (t .moves) (z .moves) → first ≤ z .moves
-  unfolding firstMove
-  first-within first f = by-test (member symbols (b % 64))
-      (λ u. let n : first ≡ t .moves = f ∙ rw (firstMove, u) refl in
-      let c = s .moves-before in
-      let len : length (rowsIn moveRow (z .moves) moves) ≡ z .moves = length-rowsIn moveRow (z .moves) moves in omega (arith, c))
-      (λ u. let n : first ≡ z .moves = f ∙ rw (firstMove, u) refl in omega arith)
+-- what the moves below number `first` give need not be offered
+pub below-past : (z : Table) (inner entries moves : List ℕ) (to : Goal) (from : Source) (first room n : ℕ) (t : List ℕ) → HeldBelow (automatonOf z inner entries moves) to from first → n ≤ room + 1
+    → MovesUpTo z inner entries moves (to .control) (to .symbol) (from .kind) (from .symbol) (from .control) room n t first n t
+unfolding moveOffers
+below-past z inner entries moves to from first room n t h m =
+    let len : length (rowsIn moveRow (z .moves) moves) ≡ z .moves = length-rowsIn moveRow (z .moves) moves in
+    let l : first ≤ z .moves = let w = h .within in omega (arith, w, len) in
+    moves-past z inner entries moves (to .control) (to .symbol) (from .kind) (from .symbol) (from .control) room n t first m l
+    (λ i b c. h .below i b (there z inner entries moves (to .control) (to .symbol) (from .kind) (from .symbol) (from .control) i (omega (arith, b, l)) c))
 
 -- no state is settled
 pub none-settled : (moves : List ℕ) (from to a : ℕ) → NoneHas moves from to a 0

@@ -21,7 +21,7 @@ loop-holds : tie.Need-loop-holds Inv-loop μ-loop
 loop-holds c = (search needs, λ k b. absurd (omega arith))
 
 held-by-requires : tie.Need-held-by-requires Inv-loop μ-loop
-held-by-requires c κs = (c .before .before .before .before .before .pre .0, c .before .before .before .before .before .pre .1, c .before .before .before .before .before .pre .2, c .loop-test .taken)
+held-by-requires c κs = (c .before .before .before .before .before .pre, c .loop-test .taken)
 
 returns : tie.Need-returns Inv-loop μ-loop
 returns c = held-found (tableOf (c .before .before .before .before .before .before .before .args .z) _ _) _ _ _ (omega (arith, c .before .before .loop-test .taken, length-rowsIn entryRow (c .before .before .before .before .before .before .before .args .z .entries) (c .before .before .before .before .before .before .before .args .entries .now))) (c .before .held-by .ensures) (c .if1 .taken)

@@ -1,47 +1,45 @@
 -- `premises::by_premise` meets its contract.
 -- Assumes nothing.
-use Rattle.readings.specs.Edges.Laws.{collects-edges}
-use Rattle.readings.specs.Memo.Laws.{memo-later}
-use Rattle.premises.specs.Steps.Laws.{by-rewriting, by-pushing1, by-pushing2, by-copying, known-pushing1, known-pushing2, known-copying}
+use mathlib.Core.Path.{sym, _∙_}
+use Rattle.readings.specs.Edges.Laws.{held-table}
+use Rattle.readings.specs.Gathering.Laws.{can-read, read-collected, offer-collected}
+use Rattle.premises.specs.Reads.Laws.{by-nothing, push-alone, rest-held, rest-collected, edges-held, edges-collected}
 use borrow.Author.Needs.{needs}
 use Rattle.premises.proofs.by_premise.Statement.{statement}
 use Rattle.premises.proofs.by_premise.Tie as tie
 
+reads-of-requires : tie.Need-reads-of-requires
+reads-of-requires c κs = search needs
+
 enum-told : tie.Need-enum-told
 enum-told c = search needs
+
+slot-of-requires : tie.Need-slot-of-requires
+slot-of-requires c κs = search needs
 
 result-requires : tie.Need-result-requires
 result-requires c κs = search needs
 
 offer-requires : tie.Need-offer-requires
-offer-requires c κs = let i = c .before .before .before .before .before .before .before .before .before .before .before .pre .0 in (i .entries-stand, i .moves-stand, i .by-words, c .before .before .before .before .before .before .before .before .before .before .before .pre .3)
+offer-requires c κs = (c .before .before .before .before .before .before .before .before .before .before .before .before .before .pre .0 .moves-indexed .by-words, c .before .before .before .before .before .before .before .before .before .before .before .before .before .pre .1 .room)
+
+enum-known-read : tie.Need-enum-known-read
+enum-known-read c = search needs
+
+by-push-requires : tie.Need-by-push-requires
+by-push-requires c κs = (c .before .before .before .before .before .before .before .before .before .before .before .before .before .pre .0 .moves-indexed, can-read (c .before .before .before .before .before .before .before .before .before .before .before .before .before .args .z) _ _ _ _ _ _ (c .before .before .before .before .before .before .before .before .before .before .before .before .before .pre .1), held-table (c .before .before .before .before .before .before .before .before .before .before .before .before .before .args .z) _ _ _ _ _ _ (push-alone _ _ _) (rest-held _ _ _ _ _ (sym (c .before .before .before .before .before .reads-of .ensures) ∙ c .before .before .before .read .given .1) _ _ (c .before .before .before .before .before .before .before .before .before .before .before .before .before .pre .2)))
 
 enum-told-2 : tie.Need-enum-told-2
 enum-told-2 c = search needs
 
-by-push-requires : tie.Need-by-push-requires
-by-push-requires c κs = (c .before .before .before .before .before .before .before .before .before .before .before .pre .0, c .before .before .before .before .before .before .before .before .before .before .before .pre .1, known-pushing1 _ _ _ _ _ _ _ _ (c .before .before .enum-told2 .given .1) (c .before .before .before .before .before .before .before .before .before .before .before .pre .2), c .before .before .before .before .before .before .before .before .before .before .before .pre .3, c .before .before .before .before .before .before .before .before .before .before .before .pre .4)
-
-enum-told-3 : tie.Need-enum-told-3
-enum-told-3 c = search needs
-
-join-requires : tie.Need-join-requires
-join-requires c κs = search needs
-
-by-push-requires-2 : tie.Need-by-push-requires-2
-by-push-requires-2 c κs = (c .before .before .before .before .before .before .before .before .before .before .before .before .pre .0, c .before .before .before .before .before .before .before .before .before .before .before .before .pre .1, known-pushing2 _ _ _ _ _ _ _ _ _ (c .before .before .before .enum-told3 .given .1) (c .before .before .join .ensures) (c .before .before .before .before .before .before .before .before .before .before .before .before .pre .2), c .before .before .before .before .before .before .before .before .before .before .before .before .pre .3, c .before .before .before .before .before .before .before .before .before .before .before .before .pre .4)
-
-enum-told-4 : tie.Need-enum-told-4
-enum-told-4 c = search needs
-
-read-edges-requires : tie.Need-read-edges-requires
-read-edges-requires c κs = (c .before .before .before .before .before .before .before .before .before .before .before .pre .0, c .before .before .before .before .before .before .before .before .before .before .before .pre .1, known-copying _ _ _ _ _ _ _ _ (c .before .before .enum-told4 .given .1) (c .before .before .before .before .before .before .before .before .before .before .before .pre .2), c .before .before .before .before .before .before .before .before .before .before .before .pre .3, c .before .before .before .before .before .before .before .before .before .before .before .pre .4)
+by-copy-requires : tie.Need-by-copy-requires
+by-copy-requires c κs = (c .before .before .before .before .before .before .before .before .before .before .before .before .pre .0, c .before .before .before .before .before .before .before .before .before .before .before .before .pre .1, edges-held _ _ _ _ (sym (c .before .before .before .before .reads-of .ensures) ∙ c .before .before .enum-told2 .given .1) _ _ (c .before .before .before .before .before .before .before .before .before .before .before .before .pre .2))
 
 same-length : tie.Need-same-length
 same-length c = search needs
 
 returns : tie.Need-returns
-returns c = (by-rewriting (c .before .before .before .before .before .before .before .before .before .before .before .before .before .before .args .z) _ _ _ _ _ _ _ _ _ _ _ _ _ _ (c .before .before .before .before .before .enum-told .given .1) (c .before .before .before .before .result .ensures) (c .before .before .offer .ensures), memo-later (c .before .before .before .before .before .before .before .before .before .before .before .before .before .before .pre .4) (collects-edges (c .before .before .before .before .before .before .before .before .before .before .before .before .before .before .args .z) _ _ _ (c .before .before .offer .ensures)))
+returns c = offer-collected (c .before .before .before .before .before .before .before .before .before .before .before .before .before .before .before .before .args .z) _ _ _ _ _ _ (c .before .before .before .before .before .before .before .before .before .before .before .before .before .before .before .before .pre .1) _ _ _ _ (by-nothing _ _ _ _ _ _ _ (sym (c .before .before .before .before .before .before .before .before .reads-of .ensures) ∙ c .before .before .before .before .before .before .enum-told .given .1) (c .before .before .before .before .before .slot-of .ensures) (c .before .before .before .before .result .ensures)) (c .before .before .offer .ensures)
 
 same-length-2 : tie.Need-same-length-2
 same-length-2 c = search needs
@@ -50,7 +48,7 @@ same-length-3 : tie.Need-same-length-3
 same-length-3 c = search needs
 
 returns-2 : tie.Need-returns-2
-returns-2 c = (by-pushing1 (c .before .before .before .before .before .before .before .before .before .before .before .before .before .before .before .before .args .z) _ _ _ _ _ _ _ _ _ _ _ _ _ (c .before .before .before .before .before .before .before .enum-told2 .given .1) (c .before .before .before .before .by-push .ensures .0), c .before .before .before .before .by-push .ensures .1)
+returns-2 c = rest-collected _ _ _ _ _ (sym (c .before .before .before .before .before .before .before .before .before .before .reads-of .ensures) ∙ c .before .before .before .before .before .before .before .before .read .given .1) _ (read-collected (c .before .before .before .before .before .before .before .before .before .before .before .before .before .before .before .before .before .before .args .z) _ _ _ _ _ _ (c .before .before .before .before .before .before .before .before .before .before .before .before .before .before .before .before .before .before .pre .1) _ _ _ _ (push-alone _ _ _) (c .before .before .before .before .by-push .ensures))
 
 same-length-4 : tie.Need-same-length-4
 same-length-4 c = search needs
@@ -59,39 +57,7 @@ same-length-5 : tie.Need-same-length-5
 same-length-5 c = search needs
 
 returns-3 : tie.Need-returns-3
-returns-3 c = (by-pushing2 (c .before .before .before .before .before .before .before .before .before .before .before .before .before .before .before .before .before .args .z) _ _ _ _ _ _ _ _ _ _ _ _ _ _ (c .before .before .before .before .before .before .before .before .enum-told3 .given .1) (c .before .before .before .before .before .before .before .join .ensures) (c .before .before .before .before .by-push2 .ensures .0), c .before .before .before .before .by-push2 .ensures .1)
-
-same-length-6 : tie.Need-same-length-6
-same-length-6 c = search needs
-
-same-length-7 : tie.Need-same-length-7
-same-length-7 c = search needs
-
-returns-4 : tie.Need-returns-4
-returns-4 c = (by-copying (c .before .before .before .before .before .before .before .before .before .before .before .before .before .before .before .before .args .z) _ _ _ _ _ _ _ _ _ _ _ _ _ (c .before .before .before .before .before .before .before .enum-told4 .given .1) (c .before .before .before .before .read-edges .ensures .0), c .before .before .before .before .read-edges .ensures .1)
+returns-3 c = edges-collected _ _ _ _ (sym (c .before .before .before .before .before .before .before .before .before .reads-of .ensures) ∙ c .before .before .before .before .before .before .before .enum-told2 .given .1) _ (c .before .before .before .before .by-copy .ensures)
 
 pub by-premise-spec : {M : Type 1} → statement M
-by-premise-spec =
-    tie.close
-    (tie.spec
-    enum-told
-    result-requires
-    offer-requires
-    enum-told-2
-    by-push-requires
-    enum-told-3
-    join-requires
-    by-push-requires-2
-    enum-told-4
-    read-edges-requires
-    same-length
-    returns
-    same-length-2
-    same-length-3
-    returns-2
-    same-length-4
-    same-length-5
-    returns-3
-    same-length-6
-    same-length-7
-    returns-4)
+by-premise-spec = tie.close (tie.spec reads-of-requires enum-told slot-of-requires result-requires offer-requires enum-known-read by-push-requires enum-told-2 by-copy-requires same-length returns same-length-2 same-length-3 returns-2 same-length-4 same-length-5 returns-3)

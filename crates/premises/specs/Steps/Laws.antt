@@ -21,7 +21,6 @@ use borrow.Author.Tests.{eq-eqb, ne-eqb}
 use Rattle.words.specs.Sets.{join, members}
 use Rattle.joins.specs.Joining.{theJoins}
 use Rattle.readings.specs.Readings.{theResult, readResults, edgeResults}
-use Rattle.readings.specs.Earlier.{Known}
 use Rattle.readings.specs.Edges.Laws.{collects-edges}
 use Rattle.offers.specs.Offers.{AllHeld, Collects}
 use Rattle.offers.specs.Offers.Alike.{passed-past}
@@ -30,18 +29,6 @@ use Rattle.premises.specs.declared.MoveUse.{MoveUse}
 use Rattle.premises.specs.declared.MoveUse.the-variants.{Rewritten, Pushed1, Pushed2, Copied}
 use Rattle.premises.specs.Premises.{orderFits, premiseResults, movesResults}
 use Rattle.premises.specs.Steps.{moveStep}
-
--- ---- pushes
-
-pub push-yes : (A : Automaton) (room n : ℕ) (t : List ℕ) (fits b : Bool) (xs : List Result) (r : ℕ) (t′ : List ℕ) → fits ≡ b → fits ≡ true
-    → Collects A room n t xs r t′ → Collects A room n t (when b xs) r t′
-unfolding when
-push-yes A room n t fits b xs r t′ e f c = rw (sym e ∙ f) c
-
-pub push-no : (A : Automaton) (room n : ℕ) (t : List ℕ) (fits b : Bool) (xs : List Result) → fits ≡ b → fits ≡ false → n ≤ room + 1
-    → Collects A room n t (when b xs) n t
-unfolding when
-push-no A room n t fits b xs e f h = rw (sym e ∙ f) (collects-none n t h)
 
 -- ---- moves of one control
 
@@ -111,55 +98,3 @@ module _ (z : Table) (inner entries moves : List ℕ) (p a : ℕ) (k : MoveUse) 
         (ap (λ (x : ℕ). premiseResults (automatonOf z inner entries moves) p a k x m) s
         ∙ sym (ap (moveStep (automatonOf z inner entries moves) p a k b q) (sym e) ∙ rw (test, when)))
         c
-
--- ---- what a premise gives
-
-module _ (z : Table) (inner entries moves : List ℕ) (p a : ℕ) (k : MoveUse) (m : Move) (room n r : ℕ) (t t′ : List ℕ) where
-  -- a rewriting does not depend on the inner edges
-  pub by-rewriting : (S : ℕ) (x : ResultWords) → k ≡ Rewritten → x ≡ theResult p S a (m .order) (m .B) (m .R) → Collects (tableOf z entries moves) room n t (asResult x ∷ []) r t′
-      → Collects (automatonOf z inner entries moves) room n t (premiseResults (automatonOf z inner entries moves) p a k S m) r t′
-  unfolding premiseResults
-  by-rewriting S x e f c = rw e (collects-same (ap (λ (y : ResultWords). asResult y ∷ []) f) (collects-edges z inner entries moves c))
-
-  pub by-pushing1 : (S : ℕ) → k ≡ Pushed1
-      → Collects (automatonOf z inner entries moves) room n t
-      (when (orderFits 1 m) (readResults (automatonOf z inner entries moves) p a S (members (m .R)) (theJoins 0 0 (m .B)))) r t′
-      → Collects (automatonOf z inner entries moves) room n t (premiseResults (automatonOf z inner entries moves) p a k S m) r t′
-  unfolding premiseResults
-  by-pushing1 S e c = rw e c
-
-  pub by-pushing2 : (S all : ℕ) → k ≡ Pushed2 → all ≡ join S (m .B)
-      → Collects (automatonOf z inner entries moves) room n t
-      (when (orderFits 2 m) (readResults (automatonOf z inner entries moves) p a all (members (m .R)) (theJoins 0 0 0))) r t′
-      → Collects (automatonOf z inner entries moves) room n t (premiseResults (automatonOf z inner entries moves) p a k S m) r t′
-  unfolding premiseResults
-  by-pushing2 S all f e c =
-      rw f (collects-same (ap (λ (x : ℕ). when (orderFits 2 m) (readResults (automatonOf z inner entries moves) p a x (members (m .R)) noJoins)) e) c)
-
-  pub by-copying : (S : ℕ) → k ≡ Copied
-      → Collects (automatonOf z inner entries moves) room n t (edgeResults (automatonOf z inner entries moves) p a (joinsOf m) (members S) 0 0) r t′
-      → Collects (automatonOf z inner entries moves) room n t (premiseResults (automatonOf z inner entries moves) p a k S m) r t′
-  unfolding premiseResults
-  by-copying S e c = rw e c
-
--- ---- what is known of a premise
-
-module _ (A E : Automaton) (new : Bool) (p a : ℕ) (k : MoveUse) (S : ℕ) (m : Move) where
-  pub known-pushing1 : k ≡ Pushed1 → Known A new (premiseResults E p a k S m)
-      → Known A new (when (orderFits 1 m) (readResults E p a S (members (m .R)) (theJoins 0 0 (m .B))))
-  unfolding premiseResults
-  known-pushing1 e h = subst (λ (u : MoveUse). Known A new (premiseResults E p a u S m)) e h
-
-  pub known-pushing2 : (all : ℕ) → k ≡ Pushed2 → all ≡ join S (m .B) → Known A new (premiseResults E p a k S m)
-      → Known A new (when (orderFits 2 m) (readResults E p a all (members (m .R)) (theJoins 0 0 0)))
-  unfolding premiseResults
-  known-pushing2 all e f h = rw f (subst (λ (u : MoveUse). Known A new (premiseResults E p a u S m)) e h)
-
-  pub known-copying : k ≡ Copied → Known A new (premiseResults E p a k S m) → Known A new (edgeResults E p a (joinsOf m) (members S) 0 0)
-  unfolding premiseResults
-  known-copying e h = subst (λ (u : MoveUse). Known A new (premiseResults E p a u S m)) e h
-
--- what is known of a push that fits
-pub known-fits : (A : Automaton) (new fits b : Bool) (xs : List Result) → fits ≡ b → fits ≡ true → Known A new (when b xs) → Known A new xs
-unfolding when
-known-fits A new fits b xs e f h = subst (λ (t : Bool). Known A new (when t xs)) (sym e ∙ f) h

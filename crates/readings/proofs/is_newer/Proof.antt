@@ -1,6 +1,6 @@
 -- `readings::is_newer` meets its contract.
 -- Assumes nothing.
-use Rattle.readings.specs.Earlier.Laws.{newer-else}
+use Rattle.readings.specs.Before.Laws.{newer-else}
 use borrow.Author.Needs.{needs}
 use Rattle.readings.proofs.is_newer.Statement.{statement}
 use Rattle.readings.proofs.is_newer.Tie as tie

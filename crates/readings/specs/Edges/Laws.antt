@@ -1,39 +1,51 @@
 -- The turns of the loop over edges, and what does not depend on the inner edges.
 -- Assumes nothing.
-use Prim.Native.Nat.{ℕ, _+_, _≤_, _<_}
-use mathlib.Core.Bool.{Bool, _||_}
+use Prim.Native.Nat.{ℕ, suc, _+_, _*_, _≤_, _<_}
+use mathlib.Core.Bool.{Bool, _||_, _&&_}
 use mathlib.Core.Path.{_≡_, refl, ap, ap₂, sym, _∙_, subst}
-use mathlib.Core.List.{List, _∷_, List·Memᴰ}
+use mathlib.Core.List.{List, [], _∷_, List·Memᴰ}
 use native.Mathlib.Omega.{arith}
 use lib.ListN.{length, getD}
 use borrow.Author.Tests.{eq-eqb, ne-eqb}
-use lib.Dec.{leb}
+use lib.Dec.{eqb, leb}
 use Rattle.words.specs.Sets.{join, single, members}
 use Rattle.words.specs.Sets.Laws.{members-empty}
-use Rattle.words.specs.Lists.{when}
-use Rattle.automata.specs.Automaton.{Automaton, Edge, noEdge, edges, edgeAt, edgesOf, entryAt, entryOf, entryControl, entrySet}
+use Rattle.words.specs.Lists.{when, each, places}
+use Rattle.automata.specs.Automaton.{Automaton, Edge, noEdge, noMove, edges, edgeAt, edgesOf, moveAt, movesOf, entryAt, entryOf, entryControl, entrySet}
 use Rattle.automata.specs.Automaton.Laws.{edgesOf-in}
-use Rattle.automata.specs.Derivation.{Result, Joins, resultOf}
-use Rattle.automata.specs.Saturation.{isResult, held}
+use Rattle.automata.specs.Derivation.{Result, Joins, joinMove, resultOf}
+use Rattle.automata.specs.Saturation.{isResult, held, upTo}
 use Rattle.tables.specs.declared.Table.{Table}
 use Rattle.tables.specs.Held.{automatonOf, tableOf, edgesIn}
 use Rattle.tables.specs.Pending.{pendingIn}
 use Rattle.offers.specs.Offers.{AllHeld, Collects, offerAll}
 use Rattle.offers.specs.Offers.Laws.{OfferedBelow, passed-none, passed-more, passed-all, collects-same, collects-none}
-use Rattle.readings.specs.Readings.{readResults, edgeResults}
+use Rattle.readings.specs.Readings.{fromJoins, readResults, edgeResults, slotJoined, readsTo, edgesTo, ByMoves}
 use Rattle.offers.specs.Offers.Alike.{covered-in, collects-alike}
 use Rattle.tables.specs.Rows.{rowsIn}
 use Rattle.tables.specs.Rows.Laws.{length-rowsIn}
 use Rattle.tables.specs.Layouts.{edgeRow}
 use Rattle.tables.specs.Held.Laws.{length-edgesIn}
 use Rattle.choices.specs.Unchanged.{Unchanged}
-use Rattle.readings.specs.declared.Earlier.{Earlier}
-use Rattle.readings.specs.Earlier.{earlierOf, Known}
+use Rattle.readings.specs.declared.Before.{Before}
+use Rattle.readings.specs.declared.Slot.{Slot}
+use Rattle.readings.specs.Before.{tableBefore, usedBy, Known, HeldBefore}
+use Rattle.readings.specs.Before.Laws.{settles-used}
 use Rattle.readings.specs.Naming.{namedWith}
 use Rattle.readings.specs.Naming.Laws.{named-less, named-more, known-edge}
 use Rattle.readings.specs.Edges.{edgesTest}
 
 -- ---- what does not depend on the inner edges
+
+-- readings depend on the moves alone
+pub read-moves-alone : (A B : Automaton) → A .moves ≡ B .moves → (p a S : ℕ) (rs : List ℕ) (j : Joins) → readResults A p a S rs j ≡ readResults B p a S rs j
+unfolding readResults movesOf moveAt
+read-moves-alone A B e p a S [] j = refl
+read-moves-alone A B e p a S (r ∷ rs) j = λ i. each (places (λ m. eqb (m .state) r && eqb (m .symbol) a) (e i))
+    (λ n. fromJoins (joinMove j (getD (e i) n noMove)) (λ k. read-moves-alone A B e p a S rs k i))
+
+pub reads-alone : (to : Slot) (rs : List ℕ) (j : Joins) → ByMoves (readsTo to rs j)
+reads-alone to rs j A B e = read-moves-alone A B e (to .control) (to .symbol) (to .s) rs j
 
 module _ (z : Table) (inner entries moves : List ℕ) where
   held-edges : held (tableOf z entries moves) ≡ held (automatonOf z inner entries moves)
@@ -46,6 +58,20 @@ module _ (z : Table) (inner entries moves : List ℕ) where
   pub collects-edges : {room n r : ℕ} {t t′ : List ℕ} {xs : List Result} → Collects (tableOf z entries moves) room n t xs r t′ → Collects (automatonOf z inner entries moves) room n t xs r t′
   collects-edges {room} {n} {t = t} {xs = xs} c =
       record { collected = c .collected ∙ ap (λ (h : Result → Bool). offerAll h room (pendingIn room n t) xs) held-edges; number = c .number }
+
+  pub collects-table : {room n r : ℕ} {t t′ : List ℕ} {xs : List Result} → Collects (automatonOf z inner entries moves) room n t xs r t′ → Collects (tableOf z entries moves) room n t xs r t′
+  collects-table {room} {n} {t = t} {xs = xs} c =
+      record { collected = c .collected ∙ ap (λ (h : Result → Bool). offerAll h room (pendingIn room n t) xs) (sym held-edges); number = c .number }
+
+  -- what is held before, of what depends on the moves alone
+  pub held-table : (t : Before) (a : ℕ) (gives : Automaton → List Result) → ByMoves gives → HeldBefore (automatonOf z inner entries moves) t a gives → HeldBefore (tableOf z entries moves) t a gives
+  unfolding upTo moveAt
+  held-table t a gives alone h =
+      let same = alone (tableBefore t (automatonOf z inner entries moves)) (tableBefore t (tableOf z entries moves)) refl in
+      record {
+        settles = record { moves-before = h .settles .moves-before; entries-before = h .settles .entries-before; settles = h .settles .settles };
+        known = record { known = λ n. all-held-edges _ (subst (AllHeld (automatonOf z inner entries moves)) same (h .known .known n)) };
+      }
 
 module _ (z : Table) (inner entries moves : List ℕ) (p a : ℕ) (j : Joins) (q : ℕ) (qs : List ℕ) (N S : ℕ) where
   -- what edge e gives
@@ -103,11 +129,11 @@ module _ (z : Table) (inner entries moves : List ℕ) (p a : ℕ) (j : Joins) (q
         passed-all (automatonOf z inner entries moves) room (edgesTest q) (edgesIn z inner entries) noEdge edgeStep h (omega arith)
 
 -- what is known of the choices that follow edge i of state q
-pub known-by : (z : Table) (inner entries moves : List ℕ) (w : Earlier) (p a : ℕ) (j : Joins) (q : ℕ) (qs : List ℕ) (N S i c N′ S′ : ℕ) (e : Edge) (new newer newest : Bool)
+pub known-by : (z : Table) (inner entries moves : List ℕ) (w : Before) (p a : ℕ) (j : Joins) (q : ℕ) (qs : List ℕ) (N S i c N′ S′ : ℕ) (e : Edge) (new newer newest : Bool)
     → i < z .edges + z .entries → e ≡ getD (edgesIn z inner entries) i noEdge → e .state ≡ q → Unchanged (automatonOf z inner entries moves) (e .first) a j c
     → newer ≡ new || leb (z .edges + w .entries) i → newest ≡ newer || leb (w .moves + 1) c → N′ ≡ namedWith N (e .first) c → S′ ≡ join S (e .S)
-    → Known (automatonOf z inner entries moves) new (edgeResults (earlierOf w (automatonOf z inner entries moves)) p a j (q ∷ qs) N S)
-    → Known (automatonOf z inner entries moves) newest (edgeResults (earlierOf w (automatonOf z inner entries moves)) p a j qs N′ S′)
+    → Known (automatonOf z inner entries moves) new (edgeResults (tableBefore w (automatonOf z inner entries moves)) p a j (q ∷ qs) N S)
+    → Known (automatonOf z inner entries moves) newest (edgeResults (tableBefore w (automatonOf z inner entries moves)) p a j qs N′ S′)
 unfolding edgeAt edges
 known-by z inner entries moves w p a j q qs N S i c N′ S′ e new newer newest b f y u d g en es k =
     let A : Automaton = automatonOf z inner entries moves in
@@ -119,17 +145,19 @@ known-by z inner entries moves w p a j q qs N S i c N′ S′ e new newer newest
     (subst (λ (x : Edge). Unchanged A (x .first) a j c) f u)
     (d ∙ ap (λ (x : ℕ). new || leb (x + w .entries) i) (sym rows)) g k)
 
--- the first of the states left, and the others
-pub edges-left : (A : Automaton) (p a : ℕ) (j : Joins) (N S left q : ℕ) (qs : List ℕ) {room n k : ℕ} {t t′ : List ℕ} → members left ≡ q ∷ qs
-    → Collects A room n t (edgeResults A p a j (q ∷ qs) N S) k t′ → Collects A room n t (edgeResults A p a j (members left) N S) k t′
-edges-left A p a j N S left q qs e c = collects-same (ap (λ (l : List ℕ). edgeResults A p a j l N S) (sym e)) c
+-- the entry whose set is joined
+pub edges-slot : (A : Automaton) (to to′ : Slot) (j : Joins) (qs : List ℕ) (N S : ℕ) {room n k : ℕ} {t t′ : List ℕ} → to′ ≡ slotJoined to S → Collects A room n t (edgesTo to′ j qs N A) k t′
+    → Collects A room n t (edgeResults A (to .control) (to .symbol) j qs N (join (to .s) S)) k t′
+edges-slot A to to′ j qs N S e c = collects-same (ap (λ (x : Slot). edgesTo x j qs N A) e) c
 
 -- no state is left
-pub edges-end : (A : Automaton) (p a : ℕ) (j : Joins) (N S left room n k : ℕ) (t t′ : List ℕ) → left ≡ 0
-    → Collects A room n t (readResults A p a S (members N) j) k t′ → Collects A room n t (edgeResults A p a j (members left) N S) k t′
+pub edges-end : (A : Automaton) (p a : ℕ) (j : Joins) (N S left : ℕ) → left ≡ 0 → readResults A p a S (members N) j ≡ edgeResults A p a j (members left) N S
 unfolding edgeResults
-edges-end A p a j N S left room n k t t′ e c =
-    collects-same (ap (λ (l : List ℕ). edgeResults A p a j l N S) (sym (ap members e ∙ members-empty))) c
+edges-end A p a j N S left e = ap (λ (l : List ℕ). edgeResults A p a j l N S) (sym (ap members e ∙ members-empty))
+
+-- fewer states are left
+pub fewer-edges : (left q others m : ℕ) → members left ≡ q ∷ members others → length (members left) * 3 + 1 ≡ m → length (members others) * 3 + 3 < m
+fewer-edges left q others m e f = let g : length (members left) ≡ suc (length (members others)) = ap length e in omega arith
 
 module _ (A E : Automaton) (p a : ℕ) (j : Joins) (N S left : ℕ) (new : Bool) where
   -- what is known, by the first of the states left
@@ -140,3 +168,30 @@ module _ (A E : Automaton) (p a : ℕ) (j : Joins) (N S left : ℕ) (new : Bool)
   pub known-end : left ≡ 0 → Known A new (edgeResults E p a j (members left) N S) → Known A new (readResults E p a S (members N) j)
   unfolding edgeResults
   known-end e k = subst (λ (l : List ℕ). Known A new (edgeResults E p a j l N S)) (ap members e ∙ members-empty) k
+
+-- ---- what is held, handed on
+
+module _ (A : Automaton) (t : Before) (to : Slot) (j : Joins) (N left : ℕ) (h : HeldBefore A t (to .symbol) (edgesTo to j (members left) N)) where
+  -- the first of the states left first
+  pub held-first : (q : ℕ) (qs : List ℕ) → members left ≡ q ∷ qs → HeldBefore A t (to .symbol) (edgesTo to j (q ∷ qs) N)
+  held-first q qs e = record { settles = h .settles; known = known-left A (tableBefore t A) (to .control) (to .symbol) j N (to .s) left (t .new) q qs e (h .known) }
+
+  -- where no state is left
+  pub held-end : left ≡ 0 → HeldBefore A t (to .symbol) (readsTo to (members N) j)
+  held-end e = record { settles = h .settles; known = known-end A (tableBefore t A) (to .control) (to .symbol) j N (to .s) left (t .new) e (h .known) }
+
+-- by edge i of state q
+pub held-edge : (z : Table) (inner entries moves : List ℕ) (t : Before) (to : Slot) (j : Joins) (q : ℕ) (qs : List ℕ) (N i c N′ : ℕ) (e : Edge) (to′ : Slot) (t′ t″ : Before)
+    → i < z .edges + z .entries → e ≡ getD (edgesIn z inner entries) i noEdge → e .state ≡ q → Unchanged (automatonOf z inner entries moves) (e .first) (to .symbol) j c
+    → t′ ≡ usedBy t (z .edges + t .entries) i → t″ ≡ usedBy t′ (t .moves + 1) c → N′ ≡ namedWith N (e .first) c → to′ ≡ slotJoined to (e .S)
+    → HeldBefore (automatonOf z inner entries moves) t (to .symbol) (edgesTo to j (q ∷ qs) N)
+    → HeldBefore (automatonOf z inner entries moves) t″ (to′ .symbol) (edgesTo to′ j qs N′)
+held-edge z inner entries moves t to j q qs N i c N′ e to′ t′ t″ b f y u d g en es h =
+    let A : Automaton = automatonOf z inner entries moves in
+    let t₁ : Before = usedBy t (z .edges + t .entries) i in
+    let t₂ : Before = usedBy t₁ (t .moves + 1) c in
+    let both : t″ ≡ t₂ = g ∙ ap (λ (x : Before). usedBy x (t .moves + 1) c) d in
+    rw (both, es) (record {
+      settles = settles-used A t₁ (to .symbol) (t .moves + 1) c (settles-used A t (to .symbol) (z .edges + t .entries) i (h .settles));
+      known = known-by z inner entries moves t (to .control) (to .symbol) j q qs N (to .s) i c N′ (join (to .s) (e .S)) e (t .new) (t₁ .new) (t₂ .new) b f y u refl refl en refl (h .known);
+    })

@@ -20,12 +20,12 @@ use Rattle.automata.specs.Derivation.{Result, Joins, joinMove}
 use Rattle.automata.specs.Facts.Laws.{moveAt-kept, moveOf-kept}
 use Rattle.automata.specs.Saturation.Laws.{upTo-extends}
 use Rattle.choices.specs.Unchanged.{Unchanged}
-use Rattle.readings.specs.declared.Earlier.{Earlier}
+use Rattle.readings.specs.declared.Before.{Before}
 use Rattle.readings.specs.Readings.{readResults, edgeResults}
 use Rattle.readings.specs.Readings.Order.{read-out, read-in, read-apart, read-together}
 use Rattle.readings.specs.Readings.Earlier.{edges-out, edges-in, old-move, edges-old}
-use Rattle.readings.specs.Earlier.{earlierOf, Known}
-use Rattle.readings.specs.Earlier.Laws.{move-earlier, edge-earlier, newer-no}
+use Rattle.readings.specs.Before.{tableBefore, Known}
+use Rattle.readings.specs.Before.Laws.{move-earlier, edge-earlier, newer-no}
 use Rattle.readings.specs.Naming.{namedWith}
 
 -- ---- a set with one member more
@@ -130,13 +130,13 @@ module _ (A : Automaton) (p a : ℕ) (j : Joins) (qs : List ℕ) (N first c S : 
 
 -- ---- in the earlier table
 
-module _ (A : Automaton) (w : Earlier) (p a : ℕ) where
+module _ (A : Automaton) (w : Before) (p a : ℕ) where
   -- the choices that leave the joins as they are, one of them old
-  unchanged-earlier : (q : ℕ) (j : Joins) (c : ℕ) → c < w .moves + 1 → Unchanged A q a j c → Unchanged (earlierOf w A) q a j c
+  unchanged-earlier : (q : ℕ) (j : Joins) (c : ℕ) → c < w .moves + 1 → Unchanged A q a j c → Unchanged (tableBefore w A) q a j c
   unchanged-earlier q j c b u =
       let x = upTo-extends (record { moves = w .moves; entries = w .entries }) A in
       record {
-        all-leave = λ h i m k e. let g = movesOf-out (earlierOf w A) q a m in
+        all-leave = λ h i m k e. let g = movesOf-out (tableBefore w A) q a m in
             u .all-leave h i (movesOf-in A (moveOf-kept x g)) k (ap (joinMove j) (moveAt-kept x i (g .below)) ∙ e);
         one-leaves = λ h.
             let (m, e) = u .one-leaves h in
@@ -147,8 +147,8 @@ module _ (A : Automaton) (w : Earlier) (p a : ℕ) where
   -- by edge e of the first state
   pub known-edge : (j : Joins) (q : ℕ) (qs : List ℕ) (N S e c : ℕ) (new newer newest : Bool) → List·Memᴰ e (edgesOf A q) → Unchanged A (edgeAt A e .first) a j c
       → newer ≡ new || leb (length (A .inner) + w .entries) e → newest ≡ newer || leb (w .moves + 1) c
-      → Known A new (edgeResults (earlierOf w A) p a j (q ∷ qs) N S)
-      → Known A newest (edgeResults (earlierOf w A) p a j qs (namedWith N (edgeAt A e .first) c) (join S (edgeAt A e .S)))
+      → Known A new (edgeResults (tableBefore w A) p a j (q ∷ qs) N S)
+      → Known A newest (edgeResults (tableBefore w A) p a j qs (namedWith N (edgeAt A e .first) c) (join S (edgeAt A e .S)))
   known-edge j q qs N S e c new newer newest m u d f k =
       record {
         known = λ n.
@@ -157,7 +157,7 @@ module _ (A : Automaton) (w : Earlier) (p a : ℕ) where
             record {
               all-held = λ x h. k .known o′ .all-held x
                   (edges-old (upTo-extends _ A) p a j q qs N S e m (edge-earlier A w e b′ (edgesOf-out A q m .below))
-                  (named-more (earlierOf w A) p a j qs N (edgeAt A e .first) c (join S (edgeAt A e .S)) (unchanged-earlier (edgeAt A e .first) j c b u) h));
+                  (named-more (tableBefore w A) p a j qs N (edgeAt A e .first) c (join S (edgeAt A e .S)) (unchanged-earlier (edgeAt A e .first) j c b u) h));
             };
       }
 

@@ -25,7 +25,7 @@ use Rattle.tables.specs.Rows.{rowAt, rowsIn}
 use Rattle.tables.specs.Rows.Laws.{length-rowsIn, getD-rowsIn}
 use Rattle.tables.specs.Records.{asResult}
 use Rattle.tables.specs.Layouts.{moveRow}
-use Rattle.tables.specs.Held.{automatonOf, tableOf}
+use Rattle.tables.specs.Held.{tableOf}
 use Rattle.tables.specs.Held.Laws.{row-move}
 use Rattle.chains.specs.Chains.{lastBelow}
 use Rattle.chains.specs.Chains.Laws.{last-below, last-key, last-none}
@@ -34,10 +34,15 @@ use Rattle.joins.specs.Joining.{theJoins, candidateOf}
 use Rattle.offers.specs.Offers.{AllHeld, Covered, Collects}
 use Rattle.offers.specs.Offers.Laws.{collects-same}
 use Rattle.offers.specs.Offers.Alike.{gathered-none, gathered-more, gathered-same, gathered-all, held-none, covered-in, covered-same, collects-alike}
-use Rattle.readings.specs.Edges.Laws.{collects-edges}
 use Rattle.readings.specs.Readings.{theResult, fromJoins, readResults}
 use Rattle.readings.specs.Readings.Order.{from-joins, read-out, read-in, read-apart, read-together}
 use Rattle.readings.specs.Turns.{OnChain, moveResults, FromOn, ReadDownTo}
+
+-- ---- a row of the moves
+
+table-move : (z : Table) (entries moves : List ℕ) (i : ℕ) (m : Move) → i < z .moves → m ≡ rowAt moveRow moves i → m ≡ moveAt (tableOf z entries moves) i
+unfolding moveAt
+table-move z entries moves i m b e = row-move z [] entries moves i m b e
 
 -- ---- a move that is a candidate
 
@@ -61,45 +66,45 @@ candidate-in : (q a : ℕ) (j : Joins) (m : Move) {k : Joins} → m .state ≡ q
 unfolding candidateOf
 candidate-in q a j m s y e = rw (candidateOf, eq-eqb (m .state) q s, eq-eqb (m .symbol) a y) e
 
-module _ (z : Table) (inner entries moves : List ℕ) where
+module _ (z : Table) (entries moves : List ℕ) where
   -- a candidate of the code is a move of state q on symbol a, with these joins
   pub candidate-there : (q a : ℕ) (j : Joins) (i : ℕ) (m : Move) {k : Joins} → i < z .moves → m ≡ rowAt moveRow moves i → candidateOf q a j m ≡ some k
-      → List·Memᴰ i (movesOf (automatonOf z inner entries moves) q a) × (joinMove j (moveAt (automatonOf z inner entries moves) i) ≡ some k)
+      → List·Memᴰ i (movesOf (tableOf z entries moves) q a) × (joinMove j (moveAt (tableOf z entries moves) i) ≡ some k)
   candidate-there q a j i m b e f =
       let len : length (rowsIn moveRow (z .moves) moves) ≡ z .moves = length-rowsIn moveRow (z .moves) moves in
-      let r : m ≡ moveAt (automatonOf z inner entries moves) i = row-move z inner entries moves i m b e in
+      let r : m ≡ moveAt (tableOf z entries moves) i = table-move z entries moves i m b e in
       let c = candidate-out q a j m f in (
-        movesOf-in (automatonOf z inner entries moves)
+        movesOf-in (tableOf z entries moves)
             (record { below = omega arith; state-is = ap (λ y. y .state) (sym r) ∙ c .state-is; symbol-is = ap (λ y. y .symbol) (sym r) ∙ c .symbol-is }),
         ap (joinMove j) (sym r) ∙ c .joins-are,
       )
 
 -- ---- the walk
 
-module _ (z : Table) (inner entries moves : List ℕ) (p a S : ℕ) (j : Joins) (q : ℕ) (rs : List ℕ) where
+module _ (z : Table) (entries moves : List ℕ) (p a S : ℕ) (j : Joins) (q : ℕ) (rs : List ℕ) where
   -- a move with another key gives nothing
-  other-key : (i : ℕ) → i < z .moves → (stateKeyAt moves i ≡ stateKey q a → ⊥) → AllHeld (automatonOf z inner entries moves) (moveResults (automatonOf z inner entries moves) p a S j q rs i)
+  other-key : (i : ℕ) → i < z .moves → (stateKeyAt moves i ≡ stateKey q a → ⊥) → AllHeld (tableOf z entries moves) (moveResults (tableOf z entries moves) p a S j q rs i)
   unfolding moveResults
   other-key i b d =
       record {
         all-held = λ x m.
-            let w = from-joins (candidateOf q a j (moveAt (automatonOf z inner entries moves) i)) (λ k. readResults (automatonOf z inner entries moves) p a S rs k) m in
-            let c = candidate-out q a j (moveAt (automatonOf z inner entries moves) i) (w .1) in
-            absurd (d (ap₂ stateKey (ap (λ y. y .state) (row-move z inner entries moves i (rowAt moveRow moves i) b refl) ∙ c .state-is) (ap (λ y. y .symbol) (row-move z inner entries moves i (rowAt moveRow moves i) b refl) ∙ c .symbol-is)));
+            let w = from-joins (candidateOf q a j (moveAt (tableOf z entries moves) i)) (λ k. readResults (tableOf z entries moves) p a S rs k) m in
+            let c = candidate-out q a j (moveAt (tableOf z entries moves) i) (w .1) in
+            absurd (d (ap₂ stateKey (ap (λ y. y .state) (table-move z entries moves i (rowAt moveRow moves i) b refl) ∙ c .state-is) (ap (λ y. y .symbol) (table-move z entries moves i (rowAt moveRow moves i) b refl) ∙ c .symbol-is)));
       }
 
   -- what a candidate gives are results of readings from q and the others
   candidate-reads : (i : ℕ) → i < z .moves
-      → Covered (automatonOf z inner entries moves) (moveResults (automatonOf z inner entries moves) p a S j q rs i) (readResults (automatonOf z inner entries moves) p a S (q ∷ rs) j)
+      → Covered (tableOf z entries moves) (moveResults (tableOf z entries moves) p a S j q rs i) (readResults (tableOf z entries moves) p a S (q ∷ rs) j)
   unfolding moveResults
   candidate-reads i b = covered-in (λ x m.
       let len : length (rowsIn moveRow (z .moves) moves) ≡ z .moves = length-rowsIn moveRow (z .moves) moves in
-      let w = from-joins (candidateOf q a j (moveAt (automatonOf z inner entries moves) i)) (λ k. readResults (automatonOf z inner entries moves) p a S rs k) m in
-      let c = candidate-out q a j (moveAt (automatonOf z inner entries moves) i) (w .1) in
-      read-in (automatonOf z inner entries moves) p a S q rs j
+      let w = from-joins (candidateOf q a j (moveAt (tableOf z entries moves) i)) (λ k. readResults (tableOf z entries moves) p a S rs k) m in
+      let c = candidate-out q a j (moveAt (tableOf z entries moves) i) (w .1) in
+      read-in (tableOf z entries moves) p a S q rs j
       (record {
         number = i;
-        there = movesOf-in (automatonOf z inner entries moves) (record { below = omega arith; state-is = c .state-is; symbol-is = c .symbol-is });
+        there = movesOf-in (tableOf z entries moves) (record { below = omega arith; state-is = c .state-is; symbol-is = c .symbol-is });
         joins = w .0;
         joins-are = c .joins-are;
         rest = w .2;
@@ -107,72 +112,72 @@ module _ (z : Table) (inner entries moves : List ℕ) (p a S : ℕ) (j : Joins) 
 
   module _ (room n : ℕ) (t : List ℕ) where
     pub down-none : (c : ℕ) → n ≤ room + 1 → c ≡ lastBelow (stateKeyAt moves) (stateKey q a) (z .moves)
-        → ReadDownTo (automatonOf z inner entries moves) p a S j q rs room n t c n t
+        → ReadDownTo (tableOf z entries moves) p a S j q rs room n t c n t
     down-none c h e =
         let len : length (rowsIn moveRow (z .moves) moves) ≡ z .moves = length-rowsIn moveRow (z .moves) moves in
         gathered-none h (λ xs d.
         let b : d .0 < z .moves = omega (arith, d .2) in
-        subst (AllHeld (automatonOf z inner entries moves)) (sym (d .3))
+        subst (AllHeld (tableOf z entries moves)) (sym (d .3))
         (other-key (d .0) b (λ k. last-none (stateKeyAt moves) (stateKey q a) (z .moves) (d .0) (omega (arith, d .1)) b k)))
 
     module _ (c i k c′ : ℕ) (t′ : List ℕ) (m : Move) (o : Option Joins)
-        (h : ReadDownTo (automatonOf z inner entries moves) p a S j q rs room n t c k t′)
+        (h : ReadDownTo (tableOf z entries moves) p a S j q rs room n t c k t′)
         (ci : c ≡ suc i) (b : i < z .moves) (key : stateKeyAt moves i ≡ stateKey q a) (e : m ≡ rowAt moveRow moves i) (f : o ≡ candidateOf q a j m)
         (g : c′ ≡ lastBelow (stateKeyAt moves) (stateKeyAt moves i) i) where
       -- what the move gives, by its joins
-      turn-list : moveResults (automatonOf z inner entries moves) p a S j q rs i ≡ fromJoins o (λ l. readResults (automatonOf z inner entries moves) p a S rs l)
+      turn-list : moveResults (tableOf z entries moves) p a S j q rs i ≡ fromJoins o (λ l. readResults (tableOf z entries moves) p a S rs l)
       unfolding moveResults
-      turn-list = ap (λ (y : Option Joins). fromJoins y (λ l. readResults (automatonOf z inner entries moves) p a S rs l)) (ap (candidateOf q a j) (sym (row-move z inner entries moves i m b e)) ∙ sym f)
+      turn-list = ap (λ (y : Option Joins). fromJoins y (λ l. readResults (tableOf z entries moves) p a S rs l)) (ap (candidateOf q a j) (sym (table-move z entries moves i m b e)) ∙ sym f)
 
       -- one move further: it is done already, it is this one, or it has another key
-      further : (xs : List Result) → FromOn (automatonOf z inner entries moves) p a S j q rs c′ xs
-          → (FromOn (automatonOf z inner entries moves) p a S j q rs c xs ⊎ AllHeld (automatonOf z inner entries moves) xs) ⊎ (xs ≡ moveResults (automatonOf z inner entries moves) p a S j q rs i)
+      further : (xs : List Result) → FromOn (tableOf z entries moves) p a S j q rs c′ xs
+          → (FromOn (tableOf z entries moves) p a S j q rs c xs ⊎ AllHeld (tableOf z entries moves) xs) ⊎ (xs ≡ moveResults (tableOf z entries moves) p a S j q rs i)
       further xs d =
           let len : length (rowsIn moveRow (z .moves) moves) ≡ z .moves = length-rowsIn moveRow (z .moves) moves in
           ⊎-elim
           (λ below.
           let u : d .0 < z .moves = omega (arith, d .2) in
-          inl (inr (subst (AllHeld (automatonOf z inner entries moves)) (sym (d .3))
+          inl (inr (subst (AllHeld (tableOf z entries moves)) (sym (d .3))
           (other-key (d .0) u (λ y. last-none (stateKeyAt moves) (stateKeyAt moves i) i (d .0) (omega (arith, d .1)) below (y ∙ sym key))))))
           (⊎-elim
-          (λ same. inr (d .3 ∙ ap (moveResults (automatonOf z inner entries moves) p a S j q rs) same))
+          (λ same. inr (d .3 ∙ ap (moveResults (tableOf z entries moves) p a S j q rs) same))
           (λ above. inl (inl (d .0, omega arith, d .2, d .3))))
           (number-cases (d .0) i)
 
       pub down-yes : (joins : Joins) (k′ k″ : ℕ) (t″ t‴ : List ℕ) → o ≡ some joins
-          → Collects (automatonOf z inner entries moves) room k t′ (readResults (automatonOf z inner entries moves) p a S rs joins) k′ t″
-          → length t″ ≡ length t′ → t‴ ≡ t″ → k″ ≡ k′ → ReadDownTo (automatonOf z inner entries moves) p a S j q rs room n t c′ k″ t‴
+          → Collects (tableOf z entries moves) room k t′ (readResults (tableOf z entries moves) p a S rs joins) k′ t″
+          → length t″ ≡ length t′ → t‴ ≡ t″ → k″ ≡ k′ → ReadDownTo (tableOf z entries moves) p a S j q rs room n t c′ k″ t‴
       unfolding fromJoins
       down-yes joins k′ k″ t″ t‴ y d l et ek =
-          let same : readResults (automatonOf z inner entries moves) p a S rs joins ≡ moveResults (automatonOf z inner entries moves) p a S j q rs i =
-          ap (λ (v : Option Joins). fromJoins v (λ u. readResults (automatonOf z inner entries moves) p a S rs u)) (sym y) ∙ sym turn-list in
+          let same : readResults (tableOf z entries moves) p a S rs joins ≡ moveResults (tableOf z entries moves) p a S j q rs i =
+          ap (λ (v : Option Joins). fromJoins v (λ u. readResults (tableOf z entries moves) p a S rs u)) (sym y) ∙ sym turn-list in
           rw (et, ek)
           (gathered-same
-          (gathered-more {done′ = λ xs. FromOn (automatonOf z inner entries moves) p a S j q rs c xs ⊎ (xs ≡ moveResults (automatonOf z inner entries moves) p a S j q rs i)}
-          (moveResults (automatonOf z inner entries moves) p a S j q rs i) h (collects-same same d) l (candidate-reads i b)
-          (λ xs v. ⊎-elim (λ u. inl u) (λ u. inr (subst (λ ys. Covered (automatonOf z inner entries moves) ys (moveResults (automatonOf z inner entries moves) p a S j q rs i)) (sym u) covered-same)) v))
+          (gathered-more {done′ = λ xs. FromOn (tableOf z entries moves) p a S j q rs c xs ⊎ (xs ≡ moveResults (tableOf z entries moves) p a S j q rs i)}
+          (moveResults (tableOf z entries moves) p a S j q rs i) h (collects-same same d) l (candidate-reads i b)
+          (λ xs v. ⊎-elim (λ u. inl u) (λ u. inr (subst (λ ys. Covered (tableOf z entries moves) ys (moveResults (tableOf z entries moves) p a S j q rs i)) (sym u) covered-same)) v))
           (λ xs v. ⊎-elim (λ u. ⊎-elim (λ r. inl (inl r)) (λ r. inr r) u) (λ u. inl (inr u)) (further xs v)) refl refl)
 
-      pub down-no : (k′ : ℕ) (t″ : List ℕ) → o ≡ none → t″ ≡ t′ → k′ ≡ k → ReadDownTo (automatonOf z inner entries moves) p a S j q rs room n t c′ k′ t″
+      pub down-no : (k′ : ℕ) (t″ : List ℕ) → o ≡ none → t″ ≡ t′ → k′ ≡ k → ReadDownTo (tableOf z entries moves) p a S j q rs room n t c′ k′ t″
       unfolding fromJoins
       down-no k′ t″ y et ek =
           gathered-same h
           (λ xs v. ⊎-elim (λ u. u)
-          (λ u. inr (subst (AllHeld (automatonOf z inner entries moves))
-          (sym (u ∙ turn-list ∙ ap (λ (r : Option Joins). fromJoins r (λ l. readResults (automatonOf z inner entries moves) p a S rs l)) y)) held-none))
+          (λ u. inr (subst (AllHeld (tableOf z entries moves))
+          (sym (u ∙ turn-list ∙ ap (λ (r : Option Joins). fromJoins r (λ l. readResults (tableOf z entries moves) p a S rs l)) y)) held-none))
           (further xs v)) et ek
 
-    pub down-all : (c k : ℕ) (t′ : List ℕ) → ReadDownTo (automatonOf z inner entries moves) p a S j q rs room n t c k t′ → c ≤ 0
-        → Collects (automatonOf z inner entries moves) room n t (readResults (automatonOf z inner entries moves) p a S (q ∷ rs) j) k t′
+    pub down-all : (c k : ℕ) (t′ : List ℕ) → ReadDownTo (tableOf z entries moves) p a S j q rs room n t c k t′ → c ≤ 0
+        → Collects (tableOf z entries moves) room n t (readResults (tableOf z entries moves) p a S (q ∷ rs) j) k t′
     unfolding moveResults fromJoins
     down-all c k t′ h b = gathered-all h (λ x m.
-        let f = read-out (automatonOf z inner entries moves) p a S q rs j m in
-        let v = movesOf-out (automatonOf z inner entries moves) q a (f .there) in
+        let f = read-out (tableOf z entries moves) p a S q rs j m in
+        let v = movesOf-out (tableOf z entries moves) q a (f .there) in
         inr (
-          moveResults (automatonOf z inner entries moves) p a S j q rs (f .number),
+          moveResults (tableOf z entries moves) p a S j q rs (f .number),
           (f .number, omega arith, v .below, refl),
-          subst (λ (o : Option Joins). List·Memᴰ x (fromJoins o (λ l. readResults (automatonOf z inner entries moves) p a S rs l)))
-              (sym (candidate-in q a j (moveAt (automatonOf z inner entries moves) (f .number)) (v .state-is) (v .symbol-is) (f .joins-are))) (f .rest),
+          subst (λ (o : Option Joins). List·Memᴰ x (fromJoins o (λ l. readResults (tableOf z entries moves) p a S rs l)))
+              (sym (candidate-in q a j (moveAt (tableOf z entries moves) (f .number)) (v .state-is) (v .symbol-is) (f .joins-are))) (f .rest),
         ))
 
 -- ---- where the chain goes
@@ -196,17 +201,17 @@ read-left A p a S j left q others h e c =
     (collects-same (ap (λ (l : ℕ). readResults A p a S (q ∷ members l) j) e) c)
 
 -- fewer states are left
-pub fewer-others : (left q others m : ℕ) → member left q ≡ true → others ≡ without left q → length (members left) * 2 ≡ m → length (members others) * 2 + 1 < m
+pub fewer-others : (left q others m : ℕ) → member left q ≡ true → others ≡ without left q → length (members left) * 3 + 1 ≡ m → length (members others) * 3 + 3 < m
 fewer-others left q others m h e f =
     let g : length (members left) ≡ suc (length (members others)) = members-fewer left q h ∙ ap (λ (l : ℕ). suc (length (members l))) (sym e) in
     omega arith
 
 -- no state is left
-pub read-end : (z : Table) (inner entries moves : List ℕ) (p a S : ℕ) (order B R : ℕ) (x : ResultWords) (left room n k : ℕ) (t t′ : List ℕ) → left ≡ 0 → x ≡ theResult p S a order B R
+pub read-end : (z : Table) (entries moves : List ℕ) (p a S : ℕ) (order B R : ℕ) (x : ResultWords) (left room n k : ℕ) (t t′ : List ℕ) → left ≡ 0 → x ≡ theResult p S a order B R
     → Collects (tableOf z entries moves) room n t (asResult x ∷ []) k t′
-    → Collects (automatonOf z inner entries moves) room n t (readResults (automatonOf z inner entries moves) p a S (members left) (theJoins order B R)) k t′
+    → Collects (tableOf z entries moves) room n t (readResults (tableOf z entries moves) p a S (members left) (theJoins order B R)) k t′
 unfolding readResults
-read-end z inner entries moves p a S order B R x left room n k t t′ e f c =
+read-end z entries moves p a S order B R x left room n k t t′ e f c =
     collects-same
-    (ap (λ (y : ResultWords). asResult y ∷ []) f ∙ ap (λ (l : List ℕ). readResults (automatonOf z inner entries moves) p a S l (theJoins order B R)) (sym (ap members e ∙ members-empty)))
-    (collects-edges z inner entries moves c)
+    (ap (λ (y : ResultWords). asResult y ∷ []) f ∙ ap (λ (l : List ℕ). readResults (tableOf z entries moves) p a S l (theJoins order B R)) (sym (ap members e ∙ members-empty)))
+    c

@@ -22,9 +22,10 @@ use Rattle.readings.specs.Readings.{readResults, edgeResults}
 use Rattle.readings.specs.Readings.Earlier.{edges-out, read-all-old, edges-old}
 use Rattle.premises.specs.declared.MoveUse.{MoveUse}
 use Rattle.premises.specs.declared.MoveUse.the-variants.{Rewritten, Pushed1, Pushed2, Copied}
-use Rattle.premises.specs.declared.Before.{Before}
+use Rattle.readings.specs.declared.Before.{Before}
+use Rattle.readings.specs.Before.{tableBefore}
 use Rattle.premises.specs.Premises.{orderFits, premiseResults}
-use Rattle.premises.specs.Before.{tableBefore, SettledBy}
+use Rattle.premises.specs.Settled.{SettledBy}
 
 -- ---- readings in which nothing is new
 
@@ -66,12 +67,12 @@ module _ (A : Automaton) (t : Before) {xs : List Result} (s : SettledBy A t xs) 
   unfolding upTo
   length-entries = let e = length-take (t .entries) (A .entries) in let b = s .entries-before in omega arith
 
-  -- before round 1 there is no old move
-  pub old-any : (i : ℕ) → i < t .moves → t .any ≡ true
-  old-any i b = by-test (t .any) (λ e. e) (λ e. let z = s .none-before e .0 in absurd (omega arith))
+  -- in round 1 there is no old move
+  pub old-known : (i : ℕ) → i < t .moves → t .new ≡ false
+  old-known i b = by-test (t .new) (λ e. let z = s .none-before e .0 in absurd (omega arith)) (λ e. e)
 
-  pub old-entry-any : (i : ℕ) → i < t .entries → t .any ≡ true
-  old-entry-any i b = by-test (t .any) (λ e. e) (λ e. let z = s .none-before e .1 in absurd (omega arith))
+  pub old-entry-known : (i : ℕ) → i < t .entries → t .new ≡ false
+  old-entry-known i b = by-test (t .new) (λ e. let z = s .none-before e .1 in absurd (omega arith)) (λ e. e)
 
   -- the entry of an old move's state
   entry-before : (i : ℕ) → i < t .moves → entryAt A (moveAt A i .state) ≡ entryAt (tableBefore t A) (moveAt A i .state)

@@ -2,7 +2,7 @@
 -- Assumes nothing.
 use Prim.Native.Nat.{ℕ, _<_}
 use mathlib.Core.Bool.{Bool, true, _&&_}
-use mathlib.Core.Path.{_≡_, ap, ap₂, sym, _∙_, subst}
+use mathlib.Core.Path.{_≡_, refl, ap, ap₂, sym, _∙_, subst}
 use mathlib.Core.List.{List, [], List·Memᴰ}
 use native.Mathlib.Omega.{arith}
 use lib.ListN.{length, getD}
@@ -18,14 +18,16 @@ use Rattle.tables.specs.Layouts.{moveRow}
 use Rattle.tables.specs.Held.{automatonOf, tableOf}
 use Rattle.tables.specs.Held.Laws.{row-move}
 use Rattle.offers.specs.Offers.{AllHeld}
-use Rattle.readings.specs.declared.Earlier.{Earlier}
-use Rattle.readings.specs.Earlier.{earlierOf, Known}
+use Rattle.readings.specs.declared.Before.{Before}
+use Rattle.readings.specs.declared.Goal.{Goal}
+use Rattle.readings.specs.Before.{tableBefore, usedBy, HeldBefore}
+use Rattle.readings.specs.Before.Laws.{newer-no, settles-used}
 use Rattle.premises.specs.declared.MoveUse.{MoveUse}
-use Rattle.premises.specs.declared.Before.{Before}
-use Rattle.premises.specs.Premises.{premiseResults, movesResults}
+use Rattle.premises.specs.declared.Source.{Source}
+use Rattle.premises.specs.Premises.{premiseResults, movesResults, premiseGives}
 use Rattle.premises.specs.Steps.Laws.{controlTest}
-use Rattle.premises.specs.Before.{tableBefore, SettledBy}
-use Rattle.premises.specs.Before.Laws.{old-any, old-premise}
+use Rattle.premises.specs.Settled.{SettledBy, SourceHeld}
+use Rattle.premises.specs.Settled.Laws.{old-known, old-premise}
 
 -- ---- an old premise
 
@@ -38,7 +40,7 @@ module _ (A : Automaton) (t : Before) (p a : ℕ) (k : MoveUse) (b q : ℕ) (s :
       let E : Automaton = tableBefore t A in
       let (there, same, set) = old-premise A t s q b i l m in
       record {
-        all-held = λ x h. s .held-before (old-any A t s i l) .all-held x
+        all-held = λ x h. s .held-before (old-known A t s i l) .all-held x
             (each-in (λ n. premiseResults E p a k (entrySet E (moveAt E n .state)) (moveAt E n)) there
             (subst (λ (y : Move). List·Memᴰ x (premiseResults E p a k (entrySet E (y .state)) y)) same
             (subst (λ (S : ℕ). List·Memᴰ x (premiseResults E p a k S (moveAt A i))) set h)));
@@ -55,22 +57,27 @@ module _ (z : Table) (inner entries moves : List ℕ) (p a : ℕ) (k : MoveUse) 
       let len : length (rowsIn moveRow (z .moves) moves) ≡ z .moves = length-rowsIn moveRow (z .moves) moves in
       places-in (λ m. eqb (m .symbol) b && entryOf (automatonOf z inner entries moves) q (m .state)) (rowsIn moveRow (z .moves) moves) noMove i (omega arith) h
 
-module _ (z : Table) (inner entries moves : List ℕ) (t : Before) (p a : ℕ) (k : MoveUse) (b q : ℕ)
-    (s : SettledBy (automatonOf z inner entries moves) t (movesResults (tableBefore t (automatonOf z inner entries moves)) p a k b q)) where
+module _ (z : Table) (inner entries moves : List ℕ) (t : Before) (to : Goal) (from : Source) (s : SourceHeld (automatonOf z inner entries moves) t to from) where
   -- move i as a premise, where it passes the code's tests
-  pub known-premise : (w : Earlier) (i : ℕ) (m : Move) (of new : Bool) (S : ℕ) → w .moves ≡ t .moves → w .entries ≡ t .entries → i < z .moves → m ≡ rowAt moveRow moves i
-      → m .symbol ≡ b → of ≡ entryOf (tableOf z entries []) q (m .state) → of ≡ true → S ≡ entrySet (tableOf z entries []) (m .state) → new ≡ leb (w .moves) i
-      → Known (automatonOf z inner entries moves) new (premiseResults (earlierOf w (automatonOf z inner entries moves)) p a k S m)
+  pub held-premise : (i : ℕ) (m : Move) (of : Bool) (S : ℕ) (t′ : Before) → i < z .moves → m ≡ rowAt moveRow moves i → m .symbol ≡ from .symbol
+      → of ≡ entryOf (tableOf z entries []) (from .control) (m .state) → of ≡ true → S ≡ entrySet (tableOf z entries []) (m .state) → t′ ≡ usedBy t (t .moves) i
+      → HeldBefore (automatonOf z inner entries moves) t′ (to .symbol) (premiseGives to (from .kind) S m)
   unfolding entryOf entrySet entryAt
-  known-premise w i m of new S em ee l r y g o d c =
+  held-premise i m of S t′ l r y g o d u =
       let A : Automaton = automatonOf z inner entries moves in
+      let p = to .control in let a = to .symbol in let k = from .kind in let b = from .symbol in let q = from .control in
       let same : m ≡ moveAt A i = row-move z inner entries moves i m l r in
       let test : controlTest z inner entries moves p a k b q m ≡ true = ap₂ _&&_ (eq-eqb (m .symbol) b y) (sym g ∙ o) in
-      record {
-        known = λ f.
-            let old : i < t .moves = let v = leb-false (w .moves) i (sym c ∙ f) in omega (arith, v, em) in
-            let row : controlTest z inner entries moves p a k b q (getD (rowsIn moveRow (z .moves) moves) i noMove) ≡ true =
-            ap (controlTest z inner entries moves p a k b q) (getD-rowsIn moveRow (z .moves) moves i noMove l ∙ sym r) ∙ test in
-            rw (em, ee, d)
-            (subst (λ (n : Move). AllHeld A (premiseResults (tableBefore t A) p a k (entrySet A (n .state)) n)) (sym same) (premise-known A t p a k b q s i old (there z inner entries moves p a k b q i l row)));
-      }
+      rw u
+      (record {
+        settles = settles-used A t a (t .moves) i (s .settles);
+        known = record {
+          known = λ f.
+              let (_, old) = newer-no (t .new) (t .moves) i _ refl f in
+              let row : controlTest z inner entries moves p a k b q (getD (rowsIn moveRow (z .moves) moves) i noMove) ≡ true =
+              ap (controlTest z inner entries moves p a k b q) (getD-rowsIn moveRow (z .moves) moves i noMove l ∙ sym r) ∙ test in
+              rw d
+              (subst (λ (n : Move). AllHeld A (premiseResults (tableBefore t A) p a k (entrySet A (n .state)) n)) (sym same)
+              (premise-known A t p a k b q (s .settled-by) i old (there z inner entries moves p a k b q i l row)));
+        };
+      })

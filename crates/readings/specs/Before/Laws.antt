@@ -19,25 +19,26 @@ use Rattle.automata.specs.Derivation.{Result, Joins, joinMove}
 use Rattle.automata.specs.Saturation.{upTo}
 use Rattle.automata.specs.Saturation.Laws.{upTo-extends}
 use Rattle.offers.specs.Offers.{AllHeld}
-use Rattle.readings.specs.declared.Earlier.{Earlier}
-use Rattle.readings.specs.Readings.{readResults}
+use Rattle.readings.specs.declared.Before.{Before}
+use Rattle.readings.specs.declared.Slot.{Slot}
+use Rattle.readings.specs.Readings.{readResults, readsTo}
 use Rattle.readings.specs.Readings.Order.{read-together}
 use Rattle.readings.specs.Readings.Earlier.{read-old, read-all-old}
-use Rattle.readings.specs.Earlier.{earlierOf, Settles, Known}
+use Rattle.readings.specs.Before.{tableBefore, usedBy, Settles, Known, HeldBefore}
 
 -- ---- the sizes of the earlier table
 
-module _ (A : Automaton) (w : Earlier) where
-  pub move-earlier : (i : ℕ) → i < w .moves → i < length (A .moves) → i < length (earlierOf w A .moves)
+module _ (A : Automaton) (w : Before) where
+  pub move-earlier : (i : ℕ) → i < w .moves → i < length (A .moves) → i < length (tableBefore w A .moves)
   unfolding upTo
   move-earlier i b l = let e = length-take (w .moves) (A .moves) in omega (arith, e)
 
-  pub edge-earlier : (i : ℕ) → i < length (A .inner) + w .entries → i < length (edges A) → i < length (edges (earlierOf w A))
+  pub edge-earlier : (i : ℕ) → i < length (A .inner) + w .entries → i < length (edges A) → i < length (edges (tableBefore w A))
   unfolding upTo
   edge-earlier i b l =
       let e = length-take (w .entries) (A .entries) in
       let f = length-edges A in
-      let g = length-edges (earlierOf w A) in
+      let g = length-edges (tableBefore w A) in
       omega (arith, e, f, g)
 
 -- ---- what is newer
@@ -51,14 +52,17 @@ newer-no false first i r e f = (refl, leb-false first i (sym e ∙ f))
 pub newer-else : (new b : Bool) → new ≡ false → b ≡ new || b
 newer-else new b e = rw e refl
 
+pub settled-new : (new b : Bool) → new ≡ true → false ≡ not new && b
+settled-new new b e = rw e refl
+
 pub settled-else : (new b r : Bool) → new ≡ false → r ≡ b → r ≡ not new && b
 settled-else new b r e f = rw e f
 
 -- ---- readings
 
-module _ (A : Automaton) (w : Earlier) (p a : ℕ) where
+module _ (A : Automaton) (w : Before) (p a : ℕ) where
   -- nothing new was used so far, and no state left has a newer move
-  pub settled-held : (S left : ℕ) (j : Joins) (new r : Bool) → Settles A w a → Known A new (readResults (earlierOf w A) p a S (members left) j)
+  pub settled-held : (S left : ℕ) (j : Joins) (new r : Bool) → Settles A w a → Known A new (readResults (tableBefore w A) p a S (members left) j)
       → r ≡ not new && partOf left (w .settled) → r ≡ true → AllHeld A (readResults A p a S (members left) j)
   settled-held S left j new r s k e t =
       let n : not new ≡ true = and-left (not new) _ (sym e ∙ t) in
@@ -74,14 +78,14 @@ module _ (A : Automaton) (w : Earlier) (p a : ℕ) where
       }
 
   -- one member of the states left first
-  pub known-apart : (S s q others : ℕ) (j : Joins) (new : Bool) → member s q ≡ true → others ≡ without s q → Known A new (readResults (earlierOf w A) p a S (members s) j)
-      → Known A new (readResults (earlierOf w A) p a S (q ∷ members others) j)
+  pub known-apart : (S s q others : ℕ) (j : Joins) (new : Bool) → member s q ≡ true → others ≡ without s q → Known A new (readResults (tableBefore w A) p a S (members s) j)
+      → Known A new (readResults (tableBefore w A) p a S (q ∷ members others) j)
   known-apart S s q others j new h e k =
-      rw e (record { known = λ n. record { all-held = λ x m. k .known n .all-held x (read-together (earlierOf w A) p a S s q h j m) } })
+      rw e (record { known = λ n. record { all-held = λ x m. k .known n .all-held x (read-together (tableBefore w A) p a S s q h j m) } })
 
   -- by move i of the first state
   pub known-move : (S r : ℕ) (rs : List ℕ) (j l : Joins) (i : ℕ) (new newer : Bool) → List·Memᴰ i (movesOf A r a) → joinMove j (moveAt A i) ≡ some l
-      → newer ≡ new || leb (w .moves) i → Known A new (readResults (earlierOf w A) p a S (r ∷ rs) j) → Known A newer (readResults (earlierOf w A) p a S rs l)
+      → newer ≡ new || leb (w .moves) i → Known A new (readResults (tableBefore w A) p a S (r ∷ rs) j) → Known A newer (readResults (tableBefore w A) p a S rs l)
   known-move S r rs j l i new newer m e d k =
       record {
         known = λ n. let (o, b) = newer-no new (w .moves) i newer d n in
@@ -91,5 +95,27 @@ module _ (A : Automaton) (w : Earlier) (p a : ℕ) where
             };
       }
 
-pub known-all : {A : Automaton} {xs : List Result} → Known A true xs
-known-all = record { known = λ n. absurd (false≢true (sym n)) }
+-- ---- what is held, handed on
+
+pub settles-used : (A : Automaton) (t : Before) (a first i : ℕ) → Settles A t a → Settles A (usedBy t first i) a
+settles-used A t a first i s = record { moves-before = s .moves-before; entries-before = s .entries-before; settles = s .settles }
+
+module _ (A : Automaton) (t : Before) (to : Slot) where
+  -- all of it, where no state left has a newer move
+  pub held-settled : (left : ℕ) (j : Joins) (r : Bool) → HeldBefore A t (to .symbol) (readsTo to (members left) j)
+      → r ≡ not (t .new) && partOf left (t .settled) → r ≡ true → AllHeld A (readsTo to (members left) j A)
+  held-settled left j r h e f = settled-held A t (to .control) (to .symbol) (to .s) left j (t .new) r (h .settles) (h .known) e f
+
+  -- one member of the states left first
+  pub held-apart : (left q others : ℕ) (j : Joins) → member left q ≡ true → others ≡ without left q → HeldBefore A t (to .symbol) (readsTo to (members left) j)
+      → HeldBefore A t (to .symbol) (readsTo to (q ∷ members others) j)
+  held-apart left q others j m e h =
+      record { settles = h .settles; known = known-apart A t (to .control) (to .symbol) (to .s) left q others j (t .new) m e (h .known) }
+
+  -- by move i of the first state
+  pub held-move : (q : ℕ) (rs : List ℕ) (j l : Joins) (i : ℕ) (t′ : Before) → List·Memᴰ i (movesOf A q (to .symbol)) → joinMove j (moveAt A i) ≡ some l → t′ ≡ usedBy t (t .moves) i
+      → HeldBefore A t (to .symbol) (readsTo to (q ∷ rs) j) → HeldBefore A t′ (to .symbol) (readsTo to rs l)
+  held-move q rs j l i t′ m e f h = rw f (record {
+    settles = settles-used A t (to .symbol) (t .moves) i (h .settles);
+    known = known-move A t (to .control) (to .symbol) (to .s) q rs j l i (t .new) (t .new || leb (t .moves) i) m e refl (h .known);
+  })

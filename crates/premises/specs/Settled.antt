@@ -9,13 +9,12 @@ use mathlib.Core.List.{List}
 use lib.ListN.{length}
 use Rattle.automata.specs.Automaton.{Automaton, moveAt}
 use Rattle.automata.specs.Derivation.{Result}
-use Rattle.automata.specs.Saturation.{upTo}
 use Rattle.offers.specs.Offers.{AllHeld}
-use Rattle.premises.specs.declared.Before.{Before}
-
--- the table of the round before
-abbrev pub tableBefore : Before → Automaton → Automaton
-tableBefore t A = upTo (record { moves = t .moves; entries = t .entries }) A
+use Rattle.readings.specs.declared.Before.{Before}
+use Rattle.readings.specs.declared.Goal.{Goal}
+use Rattle.readings.specs.Before.{tableBefore, Settles}
+use Rattle.premises.specs.declared.Source.{Source}
+use Rattle.premises.specs.Premises.{sourceGives}
 
 -- The table of the round before is a part of this one, and its moves are of states that it had; before round 1 there was none. These
 -- results, which it gives, are held.
@@ -23,5 +22,10 @@ pub record SettledBy (A : Automaton) (t : Before) (xs : List Result) : Type 0 wh
   pub moves-before : t .moves ≤ length (A .moves)
   pub entries-before : t .entries ≤ length (A .entries)
   pub states-before : (i : ℕ) → i < t .moves → moveAt A i .state < A .J + t .entries
-  pub none-before : t .any ≡ false → (t .moves ≡ 0) × (t .entries ≡ 0)
-  pub held-before : t .any ≡ true → AllHeld A xs
+  pub none-before : t .new ≡ true → (t .moves ≡ 0) × (t .entries ≡ 0)
+  pub held-before : t .new ≡ false → AllHeld A xs
+
+-- What the premises from this source gave in the round before is held, and no move on the goal's symbol of a settled state is newer.
+pub record SourceHeld (A : Automaton) (t : Before) (to : Goal) (from : Source) : Type 0 where
+  pub settled-by : SettledBy A t (sourceGives to from (tableBefore t A))
+  pub settles : Settles A t (to .symbol)

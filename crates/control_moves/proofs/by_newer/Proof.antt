@@ -1,0 +1,75 @@
+-- `control_moves::by_newer` meets its contract.
+-- Assumes nothing.
+use Prim.Native.Nat.{_-_, _≤_}
+use mathlib.Core.Path.{_≡_, refl, _∙_}
+use native.Mathlib.Omega.{arith}
+use lib.ListN.{length}
+use Rattle.tables.specs.Held.{automatonOf}
+use Rattle.readings.specs.Memo.{MemoHolds}
+use Rattle.readings.specs.Gathering.Laws.{in-room, collected-by}
+use Rattle.tables.specs.Rows.Laws.{length-rowsIn}
+use Rattle.tables.specs.Layouts.{moveRow}
+use Rattle.premises.specs.Steps.Laws.{MovesUpTo, moves-more, moves-all}
+use Rattle.control_moves.specs.First.Laws.{below-past}
+use borrow.Author.Needs.{needs}
+use Rattle.control_moves.proofs.by_newer.Statement.{statement}
+use Rattle.control_moves.proofs.by_newer.Tie as tie
+
+abbrev Inv-loop : tie.InvT-loop
+Inv-loop z inner entries moves states words to t from first memo₀ out₀ count n i₀ memo out k i =
+    (i ≤ count)
+    × MovesUpTo z inner entries moves (to .control) (to .symbol) (from .kind) (from .symbol) (from .control) (n .room) (n .count) out₀ i (k .count) out
+    × (length out ≡ length out₀)
+    × MemoHolds (automatonOf z inner entries moves) (k .room) (k .count) out memo
+    × (length memo ≡ length memo₀)
+    × (k .room ≡ n .room)
+
+abbrev μ-loop : tie.MeasureT-loop
+μ-loop z inner entries moves states words to t from first memo₀ out₀ count n i₀ memo out k i = count - i
+
+loop-holds : tie.Need-loop-holds Inv-loop μ-loop
+loop-holds c = (omega (arith, c .before .before .before .before .before .before .before .pre .3 .within, length-rowsIn moveRow (c .before .before .before .before .before .before .before .args .z .moves) (c .before .before .before .before .before .before .before .args .moves .now)), below-past (c .before .before .before .before .before .before .before .args .z) _ _ _ _ _ _ _ _ _ (c .before .before .before .before .before .before .before .pre .3) (c .before .before .before .before .before .before .before .pre .1 .room .number), refl, c .before .before .before .before .before .before .before .pre .1 .memo-holds, refl, refl)
+
+by-move-requires : tie.Need-by-move-requires Inv-loop μ-loop
+by-move-requires c κs =
+    (
+      c .before .before .before .before .before .before .before .before .before .before .before .pre .0,
+      record {
+        room = record { room-lent = omega (arith, c .before .before .before .before .before .before .before .before .before .before .before .pre .1 .room .room-lent, c .before .before .before .loop .inv .2, c .before .before .before .loop .inv .5); number = omega (arith, c .before .before .before .loop .inv .1 .offered .number, c .before .before .before .loop .inv .5) };
+        memo-holds = c .before .before .before .loop .inv .3;
+      },
+      c .before .before .before .before .before .before .before .before .before .before .before .pre .2,
+      c .before .before .loop-test .taken,
+    )
+
+add-i : tie.Need-add-i Inv-loop μ-loop
+add-i c = omega (arith, c .before .before .before .before .before .before .before .loop-test .taken, c .before .before .before .before .before .before .before .before .before .before .before .before .before .before .before .before .pre .0 .moves-indexed .by-state .few)
+
+loop-less : tie.Need-loop-less Inv-loop μ-loop
+loop-less c = search needs
+
+loop-again : tie.Need-loop-again Inv-loop μ-loop
+loop-again c =
+    let within = c .before .before .before .before .before .before .before .loop-test .taken in
+    let done = c .before .before .before .before .by-move in
+    let here = in-room (c .before .before .before .before .before .before .before .before .loop .inv .5) (done .ensures .collected) in
+    let long = done .kept .1 .1 .1 .1 .1 .1 .1 .1 .1 .1 .1 .0 in (
+      omega (arith, within),
+      moves-more (c .before .before .before .before .before .before .before .before .before .before .before .before .before .before .before .before .args .z) _ _ _ _ _ _ _ _ _ _ _ _ _ _ _ _ (c .before .before .before .before .before .before .before .before .loop .inv .1) within (here .0) long,
+      long ∙ c .before .before .before .before .before .before .before .before .loop .inv .2,
+      done .ensures .memo-holds,
+      done .kept .1 .1 .1 .1 .1 .1 .1 .1 .1 .1 .0 ∙ c .before .before .before .before .before .before .before .before .loop .inv .4,
+      here .1,
+    )
+
+same-length : tie.Need-same-length Inv-loop μ-loop
+same-length c = c .before .loop .inv .4
+
+same-length-2 : tie.Need-same-length-2 Inv-loop μ-loop
+same-length-2 c = c .before .loop .inv .2
+
+returns : tie.Need-returns Inv-loop μ-loop
+returns c = record { collected = collected-by (moves-all (c .before .before .before .before .before .before .before .before .before .args .z) _ _ _ _ _ _ _ _ _ _ _ _ _ _ (c .before .loop .inv .1) (c .loop-test .left)) (c .before .loop .inv .5); memo-holds = c .before .loop .inv .3 }
+
+pub by-newer-spec : {M : Type 1} → statement M
+by-newer-spec = tie.close (tie.spec Inv-loop μ-loop loop-holds by-move-requires add-i loop-less loop-again same-length same-length-2 returns)
