@@ -40,3 +40,7 @@ module _ (A : Automaton) (p a : ℕ) where
 -- the results of a rule
 unfoldable pub ruleResults : Automaton → Rule → List Result
 ruleResults A ρ = operationResults A (ρ .control) (ρ .symbol) (ρ .operation) (ρ .next)
+
+-- the results of a rule, in the code
+abbrev pub ruleGives : Rule → Automaton → List Result
+ruleGives ρ A = ruleResults A ρ

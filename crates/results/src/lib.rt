@@ -1,46 +1,49 @@
 // The results of all rules from the table of the earlier rounds, collected: those that are not yet held, sorted, each once. What the table of
 // the round before gives is held, so only what the last round added is looked at.
 ghost use mathlib.Core.Path.{_≡_};
-ghost use mathlib.Core.Bool.{true};
 ghost use mathlib.Core.List.{[], _∷_};
 ghost use Prim.Native.Nat.{_<_, _≤_, _+_, _*_};
 ghost use lib.ListN.{length};
-ghost use Rattle.automata.specs.Saturation.{held, results};
 ghost use Rattle.tables.specs.Rows.{rowAt};
 ghost use Rattle.tables.specs.Records.{asResult};
 ghost use Rattle.tables.specs.Layouts.{entryRow};
-ghost use Rattle.tables.specs.Held.{automatonOf, tableOf, EntriesStand, MovesStand};
+ghost use Rattle.tables.specs.Held.{automatonOf, tableOf};
 ghost use Rattle.tables.specs.Pending.{pendingIn, limited};
-ghost use Rattle.move_index.specs.Keys.{ByWords};
-ghost use Rattle.offers.specs.Offers.{Collects, Room};
+ghost use Rattle.offers.specs.Offers.{WordsIndexed, Room, Collected};
 ghost use Rattle.readings.specs.Indexed.{Indexed};
-ghost use Rattle.readings.specs.Memo.{MemoBefore, MemoUpTo, MemoHolds};
+ghost use Rattle.readings.specs.Before.{tableBefore, Known};
+ghost use Rattle.readings.specs.Memo.{MemoUpTo};
+ghost use Rattle.readings.specs.Gathering.{CanCollect, CollectsAll};
 ghost use Rattle.round_news.specs.News.{HasSymbols};
-ghost use Rattle.premises.specs.Before.{tableBefore, SettledBy};
+ghost use Rattle.premises.specs.Settled.{SettledBy};
 ghost use Rattle.case_records.specs.Values.{theOperation, theRule};
-ghost use Rattle.results.specs.Rules.{entryResult, entriesResults, ruleResults};
+ghost use Rattle.results.specs.Rules.{entryResult, entriesResults, ruleGives};
 ghost use Rattle.results.specs.Entries.{EntriesKnown};
-ghost use Rattle.results.specs.Collecting.{RulesStand, rulesIn, newResults};
+ghost use Rattle.results.specs.Collecting.{rulesIn, newResults, RoundReady};
 ghost use Rattle.results.specs.Steps.{entryStep};
-ghost use Rattle.results.specs.Uses.{useOf, useResults};
-use premises::Before;
+ghost use Rattle.results.specs.Uses.{movesFrom, useOf, useGives};
+use offers::Pending;
 use premises::MoveUse;
+use premises::Source;
+use readings::Before;
+use readings::Goal;
 
 // How an operation uses an entry itself.
-pub enum EntryUse {
+enum EntryUse {
     Popped,
     Collapsed,
 }
 
 // What order-1 state r, an entry with the set s, gives.
-fn entry_result(to: readings::Goal, kind: EntryUse, s: u64, r: u64) -> tables::Result
+fn entry_result(to: Goal, kind: EntryUse, s: u64, r: u64) -> tables::Result
     requires { ⌜ r < 64 ⌝ }
     ensures { λ x. ⌜ asResult x ≡ entryResult (to .control) (to .symbol) kind s r ⌝ }
 {
     let bit = sets::one_bit(r);
+    let at = readings::slot_of(to, s);
     match kind {
-        EntryUse::Popped => readings::result(to, s, 0, 0, bit),
-        EntryUse::Collapsed => readings::result(to, s, 1, bit, 0),
+        EntryUse::Popped => readings::result(at, 0, 0, bit),
+        EntryUse::Collapsed => readings::result(at, 1, bit, 0),
     }
 }
 
@@ -50,23 +53,23 @@ fn by_entry(
     entries: &[u64],
     moves: &[u64],
     words: &[u16],
-    to: readings::Goal,
+    to: Goal,
     kind: EntryUse,
     q: u64,
     i: usize,
     out: &mut [u64],
-    n: usize,
-    room: usize,
-) -> usize
-    requires { ⌜ EntriesStand z (now entries) × MovesStand z (now moves) × ByWords (z .moves) (now moves) (now words) × Room room n (now out) × (i < z .entries) ⌝ }
-    ensures { λ r. ⌜ Collects (tableOf z (now (entries .entry)) (now (moves .entry))) room n (now (out .entry)) (entryStep (tableOf z (now (entries .entry)) (now (moves .entry))) (to .control) (to .symbol) kind q i (rowAt entryRow (now (entries .entry)) i)) r (now (out .exit)) ⌝ }
+    n: Pending,
+) -> Pending
+    requires { ⌜ WordsIndexed z (now entries) (now moves) (now words) × Room n (now out) × (i < z .entries) ⌝ }
+    ensures { λ r. ⌜ Collected (tableOf z (now (entries .entry)) (now (moves .entry))) n (now (out .entry))
+        (entryStep (tableOf z (now (entries .entry)) (now (moves .entry))) (to .control) (to .symbol) kind q i (rowAt entryRow (now (entries .entry)) i)) r (now (out .exit)) ⌝ }
 {
     let e = tables::entry_at(entries, i);
     if e.control != q {
         return n;
     }
     let x = entry_result(to, kind, e.s, z.inner1 + i as u64);
-    offers::offer(z, entries, moves, words, x, out, n, room)
+    offers::offer(z, entries, moves, words, x, out, n)
 }
 
 // Collects what the entries of control q give. What the entries below number `first` give is held.
@@ -75,22 +78,23 @@ fn by_entries(
     entries: &[u64],
     moves: &[u64],
     words: &[u16],
-    to: readings::Goal,
+    to: Goal,
     kind: EntryUse,
     q: u64,
     first: usize,
     out: &mut [u64],
-    n: usize,
-    room: usize,
-) -> usize
-    requires { ⌜ EntriesStand z (now entries) × MovesStand z (now moves) × ByWords (z .moves) (now moves) (now words) × EntriesKnown (tableOf z (now entries) (now moves)) (to .control) (to .symbol) kind q first × Room room n (now out) ⌝ }
-    ensures { λ r. ⌜ Collects (tableOf z (now (entries .entry)) (now (moves .entry))) room n (now (out .entry)) (entriesResults (tableOf z (now (entries .entry)) (now (moves .entry))) (to .control) (to .symbol) kind q) r (now (out .exit)) ⌝ }
+    n: Pending,
+) -> Pending
+    requires { ⌜ WordsIndexed z (now entries) (now moves) (now words) × Room n (now out)
+        × EntriesKnown (tableOf z (now entries) (now moves)) (to .control) (to .symbol) kind q first ⌝ }
+    ensures { λ r. ⌜ Collected (tableOf z (now (entries .entry)) (now (moves .entry))) n (now (out .entry))
+        (entriesResults (tableOf z (now (entries .entry)) (now (moves .entry))) (to .control) (to .symbol) kind q) r (now (out .exit)) ⌝ }
 {
     let count = z.entries;
     let mut k = n;
     let mut i = first;
     while i < count {
-        k = by_entry(z, entries, moves, words, to, kind, q, i, out, k, room);
+        k = by_entry(z, entries, moves, words, to, kind, q, i, out, k);
         i += 1;
     }
     k
@@ -105,23 +109,34 @@ fn by_nothing(
     t: Before,
     x: tables::Result,
     out: &mut [u64],
-    n: usize,
-    room: usize,
-) -> usize
-    requires { ⌜ EntriesStand z (now entries) × MovesStand z (now moves) × ByWords (z .moves) (now moves) (now words) × (t .any ≡ true → held (tableOf z (now entries) (now moves)) (asResult x) ≡ true) × Room room n (now out) ⌝ }
-    ensures { λ r. ⌜ Collects (tableOf z (now (entries .entry)) (now (moves .entry))) room n (now (out .entry)) (asResult x ∷ []) r (now (out .exit)) ⌝ }
+    n: Pending,
+) -> Pending
+    requires { ⌜ WordsIndexed z (now entries) (now moves) (now words) × Room n (now out)
+        × Known (tableOf z (now entries) (now moves)) (t .new) (asResult x ∷ []) ⌝ }
+    ensures { λ r. ⌜ Collected (tableOf z (now (entries .entry)) (now (moves .entry))) n (now (out .entry)) (asResult x ∷ []) r (now (out .exit)) ⌝ }
 {
-    if t.any {
+    if !t.new {
         return n;
     }
-    offers::offer(z, entries, moves, words, x, out, n, room)
+    offers::offer(z, entries, moves, words, x, out, n)
 }
 
-// What a rule's operation uses: moves on a symbol, entries, or nothing, for one result.
-pub enum Use {
-    Moves(MoveUse, u64),
+// What a rule's operation uses: the moves from a source, the entries of the control that it goes to, or nothing, for one result.
+enum Use {
+    Moves(Source),
     Entries(EntryUse),
     Nothing(tables::Result),
+}
+
+// The moves on this symbol of the entries of this control, used in this way.
+fn moves_from(kind: MoveUse, symbol: u64, control: u64) -> Use
+    ensures { λ r. ⌜ r ≡ movesFrom kind symbol control ⌝ }
+{
+    Use::Moves(Source {
+        kind: kind,
+        symbol: symbol,
+        control: control,
+    })
 }
 
 // What a rule's operation uses.
@@ -129,21 +144,26 @@ fn use_of(rule: case_records::Rule) -> Use
     requires { ⌜ rule .next < 64 ⌝ }
     ensures { λ r. ⌜ r ≡ useOf (rule .control) (rule .symbol) (rule .next) (theOperation (rule .operation)) ⌝ }
 {
-    let bit = sets::one_bit(rule.next);
-    let to = readings::Goal {
+    let q = rule.next;
+    let bit = sets::one_bit(q);
+    let to = Goal {
         control: rule.control,
         symbol: rule.symbol,
     };
     let operation = rule.operation;
     match operation {
-        case_records::Operation::Rewrite(b) => Use::Moves(MoveUse::Rewritten, b),
-        case_records::Operation::Push1(b) => Use::Moves(MoveUse::Pushed1, b),
-        case_records::Operation::Push2(b) => Use::Moves(MoveUse::Pushed2, b),
-        case_records::Operation::Copy => Use::Moves(MoveUse::Copied, rule.symbol),
+        case_records::Operation::Rewrite(b) => moves_from(MoveUse::Rewritten, b, q),
+        case_records::Operation::Push1(b) => moves_from(MoveUse::Pushed1, b, q),
+        case_records::Operation::Push2(b) => moves_from(MoveUse::Pushed2, b, q),
+        case_records::Operation::Copy => moves_from(MoveUse::Copied, to.symbol, q),
         case_records::Operation::Pop1 => Use::Entries(EntryUse::Popped),
-        case_records::Operation::Pop2 => Use::Nothing(readings::result(to, bit, 0, 0, 0)),
+        case_records::Operation::Pop2 => {
+            Use::Nothing(readings::result(readings::slot_of(to, bit), 0, 0, 0))
+        }
         case_records::Operation::Collapse1 => Use::Entries(EntryUse::Collapsed),
-        case_records::Operation::Collapse2 => Use::Nothing(readings::result(to, 0, 2, bit, 0)),
+        case_records::Operation::Collapse2 => {
+            Use::Nothing(readings::result(readings::slot_of(to, 0), 2, bit, 0))
+        }
     }
 }
 
@@ -156,22 +176,24 @@ fn by_use(
     moves: &[u64],
     states: &[u16],
     words: &[u16],
-    to: readings::Goal,
+    to: Goal,
     t: Before,
     symbols: u64,
     q: u64,
     used: Use,
     memo: &mut [u64],
     out: &mut [u64],
-    n: usize,
-    room: usize,
-) -> usize
-    requires { ⌜ Indexed z (now inner) (now entries) (now moves) (now states) (now words) × SettledBy (automatonOf z (now inner) (now entries) (now moves)) t (useResults (tableBefore t (automatonOf z (now inner) (now entries) (now moves))) (to .control) (to .symbol) q used) × HasSymbols (now moves) (t .moves) (z .moves) symbols × Room room n (now out) × MemoHolds (automatonOf z (now inner) (now entries) (now moves)) room n (now out) (now memo) ⌝ }
-    ensures { λ r. ⌜ Collects (automatonOf z (now (inner .entry)) (now (entries .entry)) (now (moves .entry))) room n (now (out .entry)) (useResults (automatonOf z (now (inner .entry)) (now (entries .entry)) (now (moves .entry))) (to .control) (to .symbol) q used) r (now (out .exit)) ⌝ }
-    ensures { λ r. ⌜ MemoHolds (automatonOf z (now (inner .entry)) (now (entries .entry)) (now (moves .entry))) room r (now (out .exit)) (now (memo .exit)) ⌝ }
+    n: Pending,
+) -> Pending
+    requires { ⌜ Indexed z (now inner) (now entries) (now moves) (now states) (now words)
+        × CanCollect (automatonOf z (now inner) (now entries) (now moves)) n (now out) (now memo)
+        × SettledBy (automatonOf z (now inner) (now entries) (now moves)) t (useGives to q used (tableBefore t (automatonOf z (now inner) (now entries) (now moves))))
+        × HasSymbols (now moves) (t .moves) (z .moves) symbols ⌝ }
+    ensures { λ k. ⌜ CollectsAll (automatonOf z (now (inner .entry)) (now (entries .entry)) (now (moves .entry))) n (now (out .entry))
+        (useGives to q used) k (now (out .exit)) (now (memo .exit)) ⌝ }
 {
     match used {
-        Use::Moves(k, b) => control_moves::by_moves(
+        Use::Moves(from) => control_moves::by_moves(
             z,
             inner,
             entries,
@@ -181,18 +203,13 @@ fn by_use(
             to,
             t,
             symbols,
-            k,
-            b,
-            q,
+            from,
             memo,
             out,
             n,
-            room,
         ),
-        Use::Entries(k) => {
-            by_entries(z, entries, moves, words, to, k, q, t.entries, out, n, room)
-        }
-        Use::Nothing(x) => by_nothing(z, entries, moves, words, t, x, out, n, room),
+        Use::Entries(k) => by_entries(z, entries, moves, words, to, k, q, t.entries, out, n),
+        Use::Nothing(x) => by_nothing(z, entries, moves, words, t, x, out, n),
     }
 }
 
@@ -209,14 +226,16 @@ fn by_rule(
     rule: case_records::Rule,
     memo: &mut [u64],
     out: &mut [u64],
-    n: usize,
-    room: usize,
-) -> usize
-    requires { ⌜ Indexed z (now inner) (now entries) (now moves) (now states) (now words) × SettledBy (automatonOf z (now inner) (now entries) (now moves)) t (ruleResults (tableBefore t (automatonOf z (now inner) (now entries) (now moves))) (theRule rule)) × HasSymbols (now moves) (t .moves) (z .moves) symbols × Room room n (now out) × MemoHolds (automatonOf z (now inner) (now entries) (now moves)) room n (now out) (now memo) × (rule .next < 64) ⌝ }
-    ensures { λ r. ⌜ Collects (automatonOf z (now (inner .entry)) (now (entries .entry)) (now (moves .entry))) room n (now (out .entry)) (ruleResults (automatonOf z (now (inner .entry)) (now (entries .entry)) (now (moves .entry))) (theRule rule)) r (now (out .exit)) ⌝ }
-    ensures { λ r. ⌜ MemoHolds (automatonOf z (now (inner .entry)) (now (entries .entry)) (now (moves .entry))) room r (now (out .exit)) (now (memo .exit)) ⌝ }
+    n: Pending,
+) -> Pending
+    requires { ⌜ Indexed z (now inner) (now entries) (now moves) (now states) (now words)
+        × CanCollect (automatonOf z (now inner) (now entries) (now moves)) n (now out) (now memo)
+        × SettledBy (automatonOf z (now inner) (now entries) (now moves)) t (ruleGives (theRule rule) (tableBefore t (automatonOf z (now inner) (now entries) (now moves))))
+        × HasSymbols (now moves) (t .moves) (z .moves) symbols × (rule .next < 64) ⌝ }
+    ensures { λ k. ⌜ CollectsAll (automatonOf z (now (inner .entry)) (now (entries .entry)) (now (moves .entry))) n (now (out .entry))
+        (ruleGives (theRule rule)) k (now (out .exit)) (now (memo .exit)) ⌝ }
 {
-    let to = readings::Goal {
+    let to = Goal {
         control: rule.control,
         symbol: rule.symbol,
     };
@@ -237,7 +256,6 @@ fn by_rule(
         memo,
         out,
         n,
-        room,
     )
 }
 
@@ -258,13 +276,17 @@ pub fn collect(
     out: &mut [u64],
     room: usize,
 ) -> usize
-    requires { ⌜ Indexed z (now inner) (now entries) (now moves) (now states) (now words) × RulesStand count (now body) × SettledBy (automatonOf z (now inner) (now entries) (now moves)) t (results (rulesIn count (now body)) (tableBefore t (automatonOf z (now inner) (now entries) (now moves)))) × MemoBefore (z .moves) (now memo) × (room * 6 ≤ length (now out)) ⌝ }
-    ensures { λ n. ⌜ pendingIn room n (now (out .exit)) ≡ limited room (newResults (rulesIn count (now (body .entry))) (automatonOf z (now (inner .entry)) (now (entries .entry)) (now (moves .entry)))) ⌝ }
+    requires { ⌜ RoundReady z (now inner) (now entries) (now moves) (now states) (now words) t count (now body) (now memo) × (room * 6 ≤ length (now out)) ⌝ }
+    ensures { λ n. ⌜ pendingIn room n (now (out .exit))
+        ≡ limited room (newResults (rulesIn count (now (body .entry))) (automatonOf z (now (inner .entry)) (now (entries .entry)) (now (moves .entry)))) ⌝ }
     ensures { λ n. ⌜ n ≤ room + 1 ⌝ }
     ensures memo { λ n. ⌜ MemoUpTo (z .moves) (now (memo .exit)) ⌝ }
 {
     let symbols = round_news::new_symbols(moves, t.moves, z.moves);
-    let mut n: usize = 0;
+    let mut n = Pending {
+        count: 0,
+        room: room,
+    };
     let mut i: usize = 0;
     while i < count {
         let rule = case_records::rule_at(body, i);
@@ -281,9 +303,8 @@ pub fn collect(
             memo,
             out,
             n,
-            room,
         );
         i += 1;
     }
-    n
+    n.count
 }

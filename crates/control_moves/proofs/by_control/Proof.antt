@@ -28,16 +28,15 @@ loop-holds : tie.Need-loop-holds Inv-loop μ-loop
 loop-holds c = (search needs, control-none (c .before .before .before .before .before .before .before .args .z) _ _ _ _ _ _ _ _ _ _ _ (c .before .before .before .before .before .before .before .pre .1 .room .number), refl, c .before .before .before .before .before .before .before .pre .1 .memo-holds, refl, refl)
 
 by-entry-moves-requires : tie.Need-by-entry-moves-requires Inv-loop μ-loop
-by-entry-moves-requires c κs =
-    (
-      c .before .before .before .before .before .before .before .before .before .before .before .pre .0,
-      record {
-        room = record { room-lent = omega (arith, c .before .before .before .before .before .before .before .before .before .before .before .pre .1 .room .room-lent, c .before .before .before .loop .inv .2, c .before .before .before .loop .inv .5); number = omega (arith, c .before .before .before .loop .inv .1 .offered .number, c .before .before .before .loop .inv .5) };
-        memo-holds = c .before .before .before .loop .inv .3;
-      },
-      c .before .before .before .before .before .before .before .before .before .before .before .pre .2,
-      c .before .before .loop-test .taken,
-    )
+by-entry-moves-requires c κs = (
+  c .before .before .before .before .before .before .before .before .before .before .before .pre .0,
+  record {
+    room = record { room-lent = omega (arith, c .before .before .before .before .before .before .before .before .before .before .before .pre .1 .room .room-lent, c .before .before .before .loop .inv .2, c .before .before .before .loop .inv .5); number = omega (arith, c .before .before .before .loop .inv .1 .offered .number, c .before .before .before .loop .inv .5) };
+    memo-holds = c .before .before .before .loop .inv .3;
+  },
+  c .before .before .before .before .before .before .before .before .before .before .before .pre .2,
+  c .before .before .loop-test .taken,
+)
 
 add-e : tie.Need-add-e Inv-loop μ-loop
 add-e c = omega (arith, c .before .before .before .before .before .before .before .loop-test .taken, c .before .before .before .before .before .before .before .before .before .before .before .before .before .before .before .before .pre .0 .moves-indexed .by-words .entries-stand .states-few)

@@ -55,16 +55,15 @@ sub-i : tie.Need-sub-i Inv-loop μ-loop
 sub-i c = search needs
 
 by-move-requires : tie.Need-by-move-requires Inv-loop μ-loop
-by-move-requires c κs =
-    (
-      c .before .before .before .before .before .before .before .before .before .before .before .before .before .before .before .before .before .before .pre .0,
-      record {
-        room = record { room-lent = omega (arith, c .before .before .before .before .before .before .before .before .before .before .before .before .before .before .before .before .before .before .pre .1 .room .room-lent, c .before .before .before .loop .inv .3, c .before .before .before .loop .inv .6); number = omega (arith, c .before .before .before .loop .inv .2 .collected .number, c .before .before .before .loop .inv .6) };
-        memo-holds = c .before .before .before .loop .inv .4;
-      },
-      c .before .before .before .before .before .before .before .before .before .before .before .before .before .before .before .before .before .before .pre .2,
-      omega (arith, c .before .before .before .loop .inv .0, c .before .before .loop-test .taken),
-    )
+by-move-requires c κs = (
+  c .before .before .before .before .before .before .before .before .before .before .before .before .before .before .before .before .before .before .pre .0,
+  record {
+    room = record { room-lent = omega (arith, c .before .before .before .before .before .before .before .before .before .before .before .before .before .before .before .before .before .before .pre .1 .room .room-lent, c .before .before .before .loop .inv .3, c .before .before .before .loop .inv .6); number = omega (arith, c .before .before .before .loop .inv .2 .collected .number, c .before .before .before .loop .inv .6) };
+    memo-holds = c .before .before .before .loop .inv .4;
+  },
+  c .before .before .before .before .before .before .before .before .before .before .before .before .before .before .before .before .before .before .pre .2,
+  omega (arith, c .before .before .before .loop .inv .0, c .before .before .loop-test .taken),
+)
 
 before-requires : tie.Need-before-requires Inv-loop μ-loop
 before-requires c κs = (c .before .before .before .before .before .before .before .before .before .before .before .before .before .before .before .before .before .before .before .before .before .before .before .pre .0 .moves-indexed .by-state .long, omega (arith, c .before .before .before .before .before .before .before .before .loop .inv .0, c .before .before .before .before .before .before .before .loop-test .taken, c .before .before .before .before .before .before .before .before .before .before .before .before .before .before .before .before .before .before .before .before .before .before .before .pre .0 .moves-indexed .by-state .few))

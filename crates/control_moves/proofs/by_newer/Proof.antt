@@ -31,16 +31,15 @@ loop-holds : tie.Need-loop-holds Inv-loop μ-loop
 loop-holds c = (omega (arith, c .before .before .before .before .before .before .before .pre .3 .within, length-rowsIn moveRow (c .before .before .before .before .before .before .before .args .z .moves) (c .before .before .before .before .before .before .before .args .moves .now)), below-past (c .before .before .before .before .before .before .before .args .z) _ _ _ _ _ _ _ _ _ (c .before .before .before .before .before .before .before .pre .3) (c .before .before .before .before .before .before .before .pre .1 .room .number), refl, c .before .before .before .before .before .before .before .pre .1 .memo-holds, refl, refl)
 
 by-move-requires : tie.Need-by-move-requires Inv-loop μ-loop
-by-move-requires c κs =
-    (
-      c .before .before .before .before .before .before .before .before .before .before .before .pre .0,
-      record {
-        room = record { room-lent = omega (arith, c .before .before .before .before .before .before .before .before .before .before .before .pre .1 .room .room-lent, c .before .before .before .loop .inv .2, c .before .before .before .loop .inv .5); number = omega (arith, c .before .before .before .loop .inv .1 .offered .number, c .before .before .before .loop .inv .5) };
-        memo-holds = c .before .before .before .loop .inv .3;
-      },
-      c .before .before .before .before .before .before .before .before .before .before .before .pre .2,
-      c .before .before .loop-test .taken,
-    )
+by-move-requires c κs = (
+  c .before .before .before .before .before .before .before .before .before .before .before .pre .0,
+  record {
+    room = record { room-lent = omega (arith, c .before .before .before .before .before .before .before .before .before .before .before .pre .1 .room .room-lent, c .before .before .before .loop .inv .2, c .before .before .before .loop .inv .5); number = omega (arith, c .before .before .before .loop .inv .1 .offered .number, c .before .before .before .loop .inv .5) };
+    memo-holds = c .before .before .before .loop .inv .3;
+  },
+  c .before .before .before .before .before .before .before .before .before .before .before .pre .2,
+  c .before .before .loop-test .taken,
+)
 
 add-i : tie.Need-add-i Inv-loop μ-loop
 add-i c = omega (arith, c .before .before .before .before .before .before .before .loop-test .taken, c .before .before .before .before .before .before .before .before .before .before .before .before .before .before .before .before .pre .0 .moves-indexed .by-state .few)

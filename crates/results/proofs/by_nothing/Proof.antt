@@ -1,15 +1,18 @@
 -- `results::by_nothing` meets its contract.
 -- Assumes nothing.
+use mathlib.Core.Path.{refl}
+use mathlib.Core.List.{List·Memᴰ·head}
+use borrow.Author.Tests.{not-true}
 use Rattle.offers.specs.Offers.Laws.{collects-held}
 use borrow.Author.Needs.{needs}
 use Rattle.results.proofs.by_nothing.Statement.{statement}
 use Rattle.results.proofs.by_nothing.Tie as tie
 
 returns : tie.Need-returns
-returns c = collects-held _ (c .before .before .before .before .before .pre .4 .number) (c .before .before .before .before .before .pre .3 (c .if1 .taken))
+returns c = record { collects = collects-held _ (c .before .before .before .before .before .before .pre .1 .number) (c .before .before .before .before .before .before .pre .2 .known (not-true (c .before .before .before .before .before .before .args .t .new) (c .if1 .taken)) .all-held _ (List·Memᴰ·head refl)); same-room = refl }
 
 offer-requires : tie.Need-offer-requires
-offer-requires c κs = (c .before .before .before .before .before .before .pre .0, c .before .before .before .before .before .before .pre .1, c .before .before .before .before .before .before .pre .2, c .before .before .before .before .before .before .pre .4)
+offer-requires c κs = (c .before .before .before .before .before .before .before .pre .0, c .before .before .before .before .before .before .before .pre .1)
 
 same-length : tie.Need-same-length
 same-length c = search needs

@@ -1,7 +1,8 @@
 -- `results::by_use` meets its contract.
 -- Assumes nothing.
-use Rattle.readings.specs.Edges.Laws.{collects-edges}
-use Rattle.readings.specs.Memo.Laws.{memo-later}
+use Rattle.readings.specs.Gathering.Laws.{offer-collected, collects-all-same}
+use Rattle.premises.specs.Premises.{sourceGives}
+use Rattle.results.specs.Uses.{useGives}
 use Rattle.results.specs.Uses.Laws.{uses-moves, uses-entries, uses-nothing, settled-moves, settled-entries, settled-nothing}
 use borrow.Author.Needs.{needs}
 use Rattle.results.proofs.by_use.Statement.{statement}
@@ -11,19 +12,19 @@ enum-known-used : tie.Need-enum-known-used
 enum-known-used c = search needs
 
 by-moves-requires : tie.Need-by-moves-requires
-by-moves-requires c κs = (c .before .before .before .before .before .before .before .before .before .before .before .before .pre .0, settled-moves (c .before .before .before .before .before .before .before .before .before .before .before .before .args .z) _ _ _ _ _ _ _ _ (c .before .before .before .before .before .before .before .before .before .before .before .before .pre .1) _ _ (c .before .before .before .used .given .1), c .before .before .before .before .before .before .before .before .before .before .before .before .pre .2, c .before .before .before .before .before .before .before .before .before .before .before .before .pre .3, c .before .before .before .before .before .before .before .before .before .before .before .before .pre .4)
+by-moves-requires c κs = (c .before .before .before .before .before .before .before .before .before .before .before .before .pre .0, c .before .before .before .before .before .before .before .before .before .before .before .before .pre .1, settled-moves (c .before .before .before .before .before .before .before .before .before .before .before .before .args .z) _ _ _ _ _ _ _ _ (c .before .before .before .before .before .before .before .before .before .before .before .before .pre .2) _ (c .before .before .before .used .given .1), c .before .before .before .before .before .before .before .before .before .before .before .before .pre .3)
 
 enum-known-used-2 : tie.Need-enum-known-used-2
 enum-known-used-2 c = search needs
 
 by-entries-requires : tie.Need-by-entries-requires
-by-entries-requires c κs = let i = c .before .before .before .before .before .before .before .before .before .before .before .pre .0 in (i .entries-stand, i .moves-stand, i .by-words, settled-entries (c .before .before .before .before .before .before .before .before .before .before .before .args .z) _ _ _ _ _ _ _ _ (c .before .before .before .before .before .before .before .before .before .before .before .pre .1) _ (c .before .before .used2 .given .1), c .before .before .before .before .before .before .before .before .before .before .before .pre .3)
+by-entries-requires c κs = (c .before .before .before .before .before .before .before .before .before .before .before .pre .0 .moves-indexed .by-words, c .before .before .before .before .before .before .before .before .before .before .before .pre .1 .room, settled-entries (c .before .before .before .before .before .before .before .before .before .before .before .args .z) _ _ _ _ _ _ _ _ (c .before .before .before .before .before .before .before .before .before .before .before .pre .2) _ (c .before .before .used2 .given .1))
 
 enum-known-used-3 : tie.Need-enum-known-used-3
 enum-known-used-3 c = search needs
 
 by-nothing-requires : tie.Need-by-nothing-requires
-by-nothing-requires c κs = let i = c .before .before .before .before .before .before .before .before .before .before .before .pre .0 in (i .entries-stand, i .moves-stand, i .by-words, settled-nothing (c .before .before .before .before .before .before .before .before .before .before .before .args .z) _ _ _ _ _ _ _ _ (c .before .before .before .before .before .before .before .before .before .before .before .pre .1) _ (c .before .before .used3 .given .1), c .before .before .before .before .before .before .before .before .before .before .before .pre .3)
+by-nothing-requires c κs = (c .before .before .before .before .before .before .before .before .before .before .before .pre .0 .moves-indexed .by-words, c .before .before .before .before .before .before .before .before .before .before .before .pre .1 .room, settled-nothing (c .before .before .before .before .before .before .before .before .before .before .before .args .z) _ _ _ _ _ _ _ _ (c .before .before .before .before .before .before .before .before .before .before .before .pre .2) _ (c .before .before .used3 .given .1))
 
 same-length : tie.Need-same-length
 same-length c = search needs
@@ -32,34 +33,19 @@ same-length-2 : tie.Need-same-length-2
 same-length-2 c = search needs
 
 returns : tie.Need-returns
-returns c = (uses-moves (c .before .before .before .before .before .before .before .before .before .before .before .before .before .before .before .before .before .args .z) _ _ _ _ _ _ _ _ _ _ _ _ _ _ (c .before .before .before .before .before .before .before .before .used .given .1) (c .before .before .before .before .by-moves .ensures .0), c .before .before .before .before .by-moves .ensures .1)
+returns c = collects-all-same (sourceGives _ _) (useGives _ _ _) (uses-moves _ _ _ _ _ _ (c .before .before .before .before .before .before .before .before .used .given .1)) (c .before .before .before .before .by-moves .ensures)
 
 same-length-3 : tie.Need-same-length-3
 same-length-3 c = search needs
 
 returns-2 : tie.Need-returns-2
-returns-2 c = (uses-entries (c .before .before .before .before .before .before .before .before .before .before .before .before .before .before .args .z) _ _ _ _ _ _ _ _ _ _ _ _ _ (c .before .before .before .before .before .used2 .given .1) (c .before .before .by-entries .ensures), memo-later (c .before .before .before .before .before .before .before .before .before .before .before .before .before .before .pre .4) (collects-edges (c .before .before .before .before .before .before .before .before .before .before .before .before .before .before .args .z) _ _ _ (c .before .before .by-entries .ensures)))
+returns-2 c = offer-collected (c .before .before .before .before .before .before .before .before .before .before .before .before .before .before .args .z) _ _ _ _ _ _ (c .before .before .before .before .before .before .before .before .before .before .before .before .before .before .pre .1) (useGives _ _ _) _ _ _ (uses-entries _ _ _ _ (c .before .before .before .before .before .before .before .before .before .before .before .before .before .before .args .z) _ _ _ _ (c .before .before .before .before .before .used2 .given .1)) (c .before .before .by-entries .ensures)
 
 same-length-4 : tie.Need-same-length-4
 same-length-4 c = search needs
 
 returns-3 : tie.Need-returns-3
-returns-3 c = (uses-nothing (c .before .before .before .before .before .before .before .before .before .before .before .before .before .before .args .z) _ _ _ _ _ _ _ _ _ _ _ _ _ (c .before .before .before .before .before .used3 .given .1) (c .before .before .by-nothing .ensures), memo-later (c .before .before .before .before .before .before .before .before .before .before .before .before .before .before .pre .4) (collects-edges (c .before .before .before .before .before .before .before .before .before .before .before .before .before .before .args .z) _ _ _ (c .before .before .by-nothing .ensures)))
+returns-3 c = offer-collected (c .before .before .before .before .before .before .before .before .before .before .before .before .before .before .args .z) _ _ _ _ _ _ (c .before .before .before .before .before .before .before .before .before .before .before .before .before .before .pre .1) (useGives _ _ _) _ _ _ (uses-nothing _ _ _ _ _ _ (c .before .before .before .before .before .used3 .given .1)) (c .before .before .by-nothing .ensures)
 
 pub by-use-spec : {M : Type 1} → statement M
-by-use-spec =
-    tie.close
-    (tie.spec
-    enum-known-used
-    by-moves-requires
-    enum-known-used-2
-    by-entries-requires
-    enum-known-used-3
-    by-nothing-requires
-    same-length
-    same-length-2
-    returns
-    same-length-3
-    returns-2
-    same-length-4
-    returns-3)
+by-use-spec = tie.close (tie.spec enum-known-used by-moves-requires enum-known-used-2 by-entries-requires enum-known-used-3 by-nothing-requires same-length same-length-2 returns same-length-3 returns-2 same-length-4 returns-3)

@@ -22,9 +22,10 @@ use Rattle.tables.specs.Pending.{limited, pendingIn}
 use Rattle.tables.specs.Pending.Laws.{pending-fits}
 use Rattle.offers.specs.Offers.{Collects, offerAll}
 use Rattle.offers.specs.Offers.Laws.{offered-all, collects-none, collects-then, collects-same}
-use Rattle.premises.specs.declared.Before.{Before}
-use Rattle.premises.specs.Before.{tableBefore, SettledBy}
-use Rattle.premises.specs.Before.Laws.{settled-within}
+use Rattle.readings.specs.declared.Before.{Before}
+use Rattle.readings.specs.Before.{tableBefore}
+use Rattle.premises.specs.Settled.{SettledBy}
+use Rattle.premises.specs.Settled.Laws.{settled-within}
 use Rattle.results.specs.Rules.{ruleResults}
 use Rattle.results.specs.Rules.Laws.{results-are}
 use Rattle.results.specs.Collecting.{ruleIn, rulesIn, RulesStand, newResults}

@@ -32,10 +32,14 @@ use Rattle.premises.specs.declared.MoveUse.{MoveUse}
 use Rattle.results.specs.declared.EntryUse.{EntryUse}
 use Rattle.results.specs.declared.Use.{Use}
 use Rattle.results.specs.declared.Use.the-variants.{Moves, Entries, Nothing}
-use Rattle.premises.specs.declared.Before.{Before}
+use Rattle.readings.specs.declared.Before.{Before}
+use Rattle.readings.specs.declared.Goal.{Goal}
+use Rattle.readings.specs.declared.Slot.{Slot}
+use Rattle.readings.specs.Before.{tableBefore, Known}
+use Rattle.premises.specs.declared.Source.{Source}
 use Rattle.premises.specs.Premises.{movesResults}
-use Rattle.premises.specs.Before.{tableBefore, SettledBy}
-use Rattle.premises.specs.Before.Laws.{length-entries, old-entry-any}
+use Rattle.premises.specs.Settled.{SettledBy}
+use Rattle.premises.specs.Settled.Laws.{length-entries, old-entry-known}
 use Rattle.results.specs.Rules.{entryResult, entriesResults, operationResults, ruleResults}
 use Rattle.results.specs.Entries.{entryTest, EntriesKnown}
 use Rattle.results.specs.Uses.{useOf, useResults}
@@ -57,38 +61,36 @@ module _ (p a q : ℕ) (x : case.Operation) where
   pub use-is : (y : case.Operation) → x ≡ y → useOf p a q (theOperation y) ≡ useOf p a q (theOperation x)
   use-is y e = ap (λ (o : case.Operation). useOf p a q (theOperation o)) (sym e)
 
-  pub use-pop2 : (o : ResultWords) (bit : ℕ) → x ≡ Pop2 → bit ≡ single q → o ≡ theResult p bit a 0 0 0 → Nothing o ≡ useOf p a q (theOperation x)
+  pub use-pop2 : (at : Slot) (o : ResultWords) (bit : ℕ) → x ≡ Pop2 → bit ≡ single q → at ≡ record { control = p; s = bit; symbol = a } → o ≡ theResult (at .control) (at .s) (at .symbol) 0 0 0
+      → Nothing o ≡ useOf p a q (theOperation x)
   unfolding useOf
-  use-pop2 o bit e f g = ap Nothing (g ∙ ap (λ (n : ℕ). theResult p n a 0 0 0) f) ∙ use-is Pop2 e
+  use-pop2 at o bit e f h g =
+      ap Nothing (g ∙ ap (λ (y : Slot). theResult (y .control) (y .s) (y .symbol) 0 0 0) h ∙ ap (λ (n : ℕ). theResult p n a 0 0 0) f) ∙ use-is Pop2 e
 
-  pub use-collapse2 : (o : ResultWords) (bit : ℕ) → x ≡ Collapse2 → bit ≡ single q → o ≡ theResult p 0 a 2 bit 0 → Nothing o ≡ useOf p a q (theOperation x)
+  pub use-collapse2 : (at : Slot) (o : ResultWords) (bit : ℕ) → x ≡ Collapse2 → bit ≡ single q → at ≡ record { control = p; s = 0; symbol = a }
+      → o ≡ theResult (at .control) (at .s) (at .symbol) 2 bit 0 → Nothing o ≡ useOf p a q (theOperation x)
   unfolding useOf
-  use-collapse2 o bit e f g = ap Nothing (g ∙ ap (λ (n : ℕ). theResult p 0 a 2 n 0) f) ∙ use-is Collapse2 e
+  use-collapse2 at o bit e f h g =
+      ap Nothing (g ∙ ap (λ (y : Slot). theResult (y .control) (y .s) (y .symbol) 2 bit 0) h ∙ ap (λ (n : ℕ). theResult p 0 a 2 n 0) f) ∙ use-is Collapse2 e
 
-module _ (z : Table) (inner entries moves : List ℕ) (p a q : ℕ) (u : Use) (room n r : ℕ) (t t′ : List ℕ) where
-  pub uses-moves : (k : MoveUse) (b : ℕ) → u ≡ Moves k b
-      → Collects (automatonOf z inner entries moves) room n t (movesResults (automatonOf z inner entries moves) p a k b q) r t′
-      → Collects (automatonOf z inner entries moves) room n t (useResults (automatonOf z inner entries moves) p a q u) r t′
+module _ (p a q : ℕ) (u : Use) where
+  pub uses-moves : (A : Automaton) (from : Source) → u ≡ Moves from → movesResults A p a (from .kind) (from .symbol) (from .control) ≡ useResults A p a q u
   unfolding useResults
-  uses-moves k b e c = rw e c
+  uses-moves A from e = sym (ap (useResults A p a q) e)
 
   -- entries do not depend on the inner edges
-  pub uses-entries : (k : EntryUse) → u ≡ Entries k
-      → Collects (tableOf z entries moves) room n t (entriesResults (tableOf z entries moves) p a k q) r t′
-      → Collects (automatonOf z inner entries moves) room n t (useResults (automatonOf z inner entries moves) p a q u) r t′
+  pub uses-entries : (z : Table) (inner entries moves : List ℕ) (k : EntryUse) → u ≡ Entries k → entriesResults (tableOf z entries moves) p a k q ≡ useResults (automatonOf z inner entries moves) p a q u
   unfolding useResults entriesResults controlEntries entrySet entryAt
-  uses-entries k e c = rw e (collects-edges z inner entries moves c)
+  uses-entries z inner entries moves k e = sym (ap (useResults (automatonOf z inner entries moves) p a q) e)
 
-  pub uses-nothing : (x : ResultWords) → u ≡ Nothing x → Collects (tableOf z entries moves) room n t (asResult x ∷ []) r t′
-      → Collects (automatonOf z inner entries moves) room n t (useResults (automatonOf z inner entries moves) p a q u) r t′
+  pub uses-nothing : (A : Automaton) (x : ResultWords) → u ≡ Nothing x → asResult x ∷ [] ≡ useResults A p a q u
   unfolding useResults
-  uses-nothing x e c = rw e (collects-edges z inner entries moves c)
+  uses-nothing A x e = sym (ap (useResults A p a q) e)
 
-pub rule-used : (A : Automaton) (ρ : Rule) (u : Use) (room n r : ℕ) (t t′ : List ℕ) → u ≡ useOf (ρ .control) (ρ .symbol) (ρ .next) (ρ .operation)
-    → Collects A room n t (useResults A (ρ .control) (ρ .symbol) (ρ .next) u) r t′ → Collects A room n t (ruleResults A ρ) r t′
+pub rule-used : (A : Automaton) (ρ : Rule) (u : Use) → u ≡ useOf (ρ .control) (ρ .symbol) (ρ .next) (ρ .operation)
+    → useResults A (ρ .control) (ρ .symbol) (ρ .next) u ≡ ruleResults A ρ
 unfolding ruleResults
-rule-used A ρ u room n r t t′ e c =
-    collects-same (ap (useResults A (ρ .control) (ρ .symbol) (ρ .next)) e ∙ use-results A (ρ .control) (ρ .symbol) (ρ .next) (ρ .operation)) c
+rule-used A ρ u e = ap (useResults A (ρ .control) (ρ .symbol) (ρ .next)) e ∙ use-results A (ρ .control) (ρ .symbol) (ρ .next) (ρ .operation)
 
 -- ---- what the table of the round before gives by a use
 
@@ -101,17 +103,18 @@ settled-use A t ρ u e s =
 
 module _ (z : Table) (inner entries moves : List ℕ) (t : Before) (p a q : ℕ) (u : Use)
     (s : SettledBy (automatonOf z inner entries moves) t (useResults (tableBefore t (automatonOf z inner entries moves)) p a q u)) where
-  pub settled-moves : (k : MoveUse) (b : ℕ) → u ≡ Moves k b
-      → SettledBy (automatonOf z inner entries moves) t (movesResults (tableBefore t (automatonOf z inner entries moves)) p a k b q)
+  pub settled-moves : (from : Source) → u ≡ Moves from
+      → SettledBy (automatonOf z inner entries moves) t (movesResults (tableBefore t (automatonOf z inner entries moves)) p a (from .kind) (from .symbol) (from .control))
   unfolding useResults
-  settled-moves k b e = subst (λ (v : Use). SettledBy (automatonOf z inner entries moves) t (useResults (tableBefore t (automatonOf z inner entries moves)) p a q v)) e s
+  settled-moves from e = subst (λ (v : Use). SettledBy (automatonOf z inner entries moves) t (useResults (tableBefore t (automatonOf z inner entries moves)) p a q v)) e s
 
-  pub settled-nothing : (x : ResultWords) → u ≡ Nothing x → t .any ≡ true → held (tableOf z entries moves) (asResult x) ≡ true
+  pub settled-nothing : (x : ResultWords) → u ≡ Nothing x → Known (tableOf z entries moves) (t .new) (asResult x ∷ [])
   unfolding useResults
-  settled-nothing x e h =
-      all-held-edges z inner entries moves (asResult x ∷ [])
-      (subst (λ (v : Use). AllHeld (automatonOf z inner entries moves) (useResults (tableBefore t (automatonOf z inner entries moves)) p a q v)) e (s .held-before h))
-      .all-held (asResult x) (List·Memᴰ·head refl)
+  settled-nothing x e =
+      record {
+        known = λ h. all-held-edges z inner entries moves (asResult x ∷ [])
+            (subst (λ (v : Use). AllHeld (automatonOf z inner entries moves) (useResults (tableBefore t (automatonOf z inner entries moves)) p a q v)) e (s .held-before h));
+      }
 
   pub settled-entries : (k : EntryUse) → u ≡ Entries k → EntriesKnown (tableOf z entries moves) p a k q (t .entries)
   unfolding useResults entriesResults controlEntries entrySet entryAt upTo
@@ -130,7 +133,7 @@ module _ (z : Table) (inner entries moves : List ℕ) (t : Before) (p a q : ℕ)
             all-held-edges z inner entries moves _
             (record {
               all-held = λ x m.
-                  subst (λ (v : Use). AllHeld A (useResults E p a q v)) e (s .held-before (old-entry-any A t s i l)) .all-held x
+                  subst (λ (v : Use). AllHeld A (useResults E p a q v)) e (s .held-before (old-entry-known A t s i l)) .all-held x
                   (each-in (λ y. entryResult p a k (entrySet E (A .J + y)) (A .J + y) ∷ []) there
                   (subst (λ (S : ℕ). List·Memᴰ x (entryResult p a k S (A .J + i) ∷ [])) set m));
             });
