@@ -2,17 +2,14 @@
 ghost use mathlib.Core.Path.{_≡_};
 ghost use Prim.Native.Nat.{_≤_, _*_};
 ghost use lib.ListN.{length};
-ghost use Rattle.automata.specs.Saturation.{results, addsMove};
+ghost use Rattle.automata.specs.Saturation.{addsMove};
 ghost use Rattle.tables.specs.Held.{automatonOf};
-ghost use Rattle.move_index.specs.Keys.{ByState, ByWords};
-ghost use Rattle.readings.specs.Memo.{MemoBefore, MemoUpTo};
-ghost use Rattle.readings.specs.Indexed.{Indexed};
-ghost use Rattle.premises.specs.Before.{tableBefore, SettledBy};
-ghost use Rattle.results.specs.Collecting.{RulesStand, rulesIn};
+ghost use Rattle.readings.specs.Memo.{MemoUpTo};
+ghost use Rattle.results.specs.Collecting.{rulesIn, RoundReady};
 ghost use Rattle.added_results.specs.Adding.{StatesExist};
 ghost use Rattle.one_round.specs.Rounding.{Standing, Rounded};
 use added_results::Grown;
-use premises::Before;
+use readings::Before;
 
 // The most moves and entries that there may be.
 pub struct Capacity {
@@ -36,8 +33,11 @@ pub fn add_round(
     pending: &mut [u64],
     most: Capacity,
 ) -> Grown
-    requires { ⌜ Standing z (most .moves) (most .entries) (now inner) (now entries) (now moves) × RulesStand count (now body) × (most .moves * 6 ≤ length (now pending)) × ByState (z .moves) (now moves) (now states) × ByWords (z .moves) (now moves) (now words) × SettledBy (automatonOf z (now inner) (now entries) (now moves)) t (results (rulesIn count (now body)) (tableBefore t (automatonOf z (now inner) (now entries) (now moves)))) × MemoBefore (z .moves) (now memo) × StatesExist (automatonOf z (now inner) (now entries) (now moves)) ⌝ }
-    ensures { λ g. ⌜ Rounded (rulesIn count (now (body .entry))) (now (inner .entry)) z (most .moves) (most .entries) (now (entries .entry)) (now (moves .entry)) (g .fits) (g .table) (now (entries .exit)) (now (moves .exit)) ⌝ }
+    requires { ⌜ RoundReady z (now inner) (now entries) (now moves) (now states) (now words) t count (now body) (now memo)
+        × Standing z (most .moves) (most .entries) (now inner) (now entries) (now moves) × (most .moves * 6 ≤ length (now pending))
+        × StatesExist (automatonOf z (now inner) (now entries) (now moves)) ⌝ }
+    ensures { λ g. ⌜ Rounded (rulesIn count (now (body .entry))) (now (inner .entry)) z (most .moves) (most .entries) (now (entries .entry)) (now (moves .entry))
+        (g .fits) (g .table) (now (entries .exit)) (now (moves .exit)) ⌝ }
     ensures memo { λ g. ⌜ MemoUpTo (z .moves) (now (memo .exit)) ⌝ }
 {
     let room = most.moves - z.moves;
@@ -79,7 +79,7 @@ pub fn would_add(
     memo: &mut [u64],
     pending: &mut [u64],
 ) -> bool
-    requires { ⌜ Indexed z (now inner) (now entries) (now moves) (now states) (now words) × RulesStand count (now body) × SettledBy (automatonOf z (now inner) (now entries) (now moves)) t (results (rulesIn count (now body)) (tableBefore t (automatonOf z (now inner) (now entries) (now moves)))) × MemoBefore (z .moves) (now memo) ⌝ }
+    requires { ⌜ RoundReady z (now inner) (now entries) (now moves) (now states) (now words) t count (now body) (now memo) ⌝ }
     ensures { λ r. ⌜ r ≡ addsMove (rulesIn count (now (body .entry))) (automatonOf z (now (inner .entry)) (now (entries .entry)) (now (moves .entry))) ⌝ }
 {
     let n = results::collect(

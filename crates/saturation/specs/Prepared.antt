@@ -2,6 +2,7 @@
 -- Assumes nothing.
 pub mod Laws
 use Prim.Native.Nat.{ℕ}
+use mathlib.Core.Bool.{true, false}
 use mathlib.Core.List.{List}
 use Rattle.stacks.specs.System.{Rule}
 use Rattle.automata.specs.Saturation.{results}
@@ -9,9 +10,18 @@ use Rattle.tables.specs.declared.Table.{Table}
 use Rattle.tables.specs.Held.{automatonOf}
 use Rattle.move_index.specs.Keys.{ByState, ByWords}
 use Rattle.readings.specs.Memo.{MemoBefore}
-use Rattle.premises.specs.declared.Before.{Before}
-use Rattle.premises.specs.Before.{tableBefore, SettledBy}
+use Rattle.readings.specs.declared.Before.{Before}
+use Rattle.readings.specs.Before.{tableBefore}
+use Rattle.premises.specs.Settled.{SettledBy}
 use Rattle.added_results.specs.Adding.{StatesExist}
+
+-- what is known in round 1
+abbrev pub noneBefore : Before
+noneBefore = record { new = true; moves = 0; entries = 0; settled = 0 }
+
+-- and in the round after that which left table z
+abbrev pub roundBefore : Table → Before
+roundBefore z = record { new = false; moves = z .moves; entries = z .entries; settled = 0 }
 
 -- Before a round: all results of the table of the round before, t, are held, its moves are indexed, and no row of the memo table is of this
 -- round.

@@ -17,6 +17,7 @@ use Rattle.tables.specs.Layouts.{entryRow, moveRow}
 use Rattle.tables.specs.Held.{automatonOf, EdgesStand, EntriesStand, MovesStand}
 use Rattle.tables.specs.Counts.{CountsStand}
 use Rattle.tables.specs.Laws.Filled.{Filled}
+use Rattle.results.specs.Collecting.{RulesStand}
 use Rattle.added_results.specs.Adding.{StatesExist}
 use Rattle.one_round.specs.Rounding.{Standing}
 use Rattle.saturation.specs.Layout.{sizeRow}
@@ -39,6 +40,12 @@ pub record Given (z : Table) (inner entries moves : List ℕ) : Type 0 where
   pub moves-few : z .moves ≤ 1024
   pub states-exist : StatesExist (automatonOf z inner entries moves)
   pub counts : CountsStand z entries moves
+
+-- The rules stand in their body, and the working memory holds the results of a round and the sizes after 1,024 rounds.
+pub record WorkLent (count : ℕ) (body pending sizes : List ℕ) : Type 0 where
+  pub rules-stand : RulesStand count body
+  pub pending-lent : 6144 ≤ length pending
+  pub sizes-lent : 2050 ≤ length sizes
 
 -- the table with its sizes, or none
 unfoldable pub ended : Bool → Automaton → List Size → Option Saturated

@@ -16,14 +16,13 @@ use Rattle.tables.specs.Rows.{rowsIn}
 use Rattle.tables.specs.Layouts.{entryRow, moveRow}
 use Rattle.tables.specs.Held.{automatonOf}
 use Rattle.tables.specs.Laws.Filled.{Filled}
-use Rattle.premises.specs.declared.Before.{Before}
 use Rattle.added_results.specs.declared.Grown.{Grown}
 use Rattle.one_round.specs.Rounding.{Standing}
 use Rattle.saturation.specs.declared.Saturated.{Saturated as SaturatedWords}
 use Rattle.saturation.specs.declared.Turn.{Turn}
 use Rattle.saturation.specs.declared.Turn.the-variants.{Done, On}
 use Rattle.saturation.specs.Layout.{sizeRow}
-use Rattle.saturation.specs.Prepared.{Prepared}
+use Rattle.saturation.specs.Prepared.{roundBefore, Prepared}
 use Rattle.saturation.specs.Running.{mostMoves, mostEntries, EndsWith}
 
 -- ---- what a turn answers
@@ -48,10 +47,6 @@ pub record Underway (inner : List ℕ) (rounds : ℕ) (z : Table) (k : ℕ) (ent
   pub standing : Standing z (mostMoves (length moves)) (mostEntries (length entries) (z .inner1)) inner entries moves
   pub asked : k ≤ rounds
   pub count : k ≤ z .moves
-
--- the table of the round before, where z is
-abbrev pub roundBefore : Table → Before
-roundBefore z = record { any = true; moves = z .moves; entries = z .entries }
 
 module _ (rules : List Rule) (inner : List ℕ) (rounds : ℕ) where
   -- what is left to do on the tables after k rounds, whose sizes so far stand in the first k rows

@@ -6,16 +6,16 @@ ghost use lib.ListN.{length};
 ghost use Rattle.tables.specs.Rows.{rowAt, putRow};
 ghost use Rattle.move_index.specs.Keys.{ByState, ByWords};
 ghost use Rattle.readings.specs.Memo.{MemoBefore};
-ghost use Rattle.results.specs.Collecting.{RulesStand, rulesIn};
-ghost use Rattle.saturation.specs.Running.{mostMoves, mostEntries, Given, Ends};
-ghost use Rattle.saturation.specs.Prepared.{Prepared};
+ghost use Rattle.results.specs.Collecting.{rulesIn};
+ghost use Rattle.saturation.specs.Running.{mostMoves, mostEntries, Given, WorkLent, Ends};
+ghost use Rattle.saturation.specs.Prepared.{roundBefore, Prepared};
 ghost use Rattle.saturation.specs.Turns.{theStopped, thePassed, afterRound, Underway, TurnLeaves};
 ghost use Rattle.saturation.specs.Sizes.{theSize, asSize};
 ghost use Rattle.saturation.specs.Layout.{sizeRow};
 use added_results::Grown;
 use limits::Limits;
 use one_round::Capacity;
-use premises::Before;
+use readings::Before;
 
 // The limits of tables of so many words, where there are so many inner order-1 states: only whole records count, there are at most 1,024 moves
 // and at most 64 order-1 states.
@@ -93,7 +93,7 @@ pub fn passed(z: tables::Table) -> Saturated
 }
 
 // What a turn answers: the rounds are done, or go on with the table of one more.
-pub enum Turn {
+enum Turn {
     Done(Saturated),
     On(tables::Table),
 }
@@ -112,13 +112,30 @@ fn after_round(z: tables::Table, k: usize, g: Grown) -> Turn
     Turn::On(next)
 }
 
-// The turn after k rounds, which left table z: its size is written and its moves are indexed; then one round more is run, or, where as many are run as are
-// asked for, only asked whether it would add a move. `states` and `words` index the moves of the table of the round before.
+// How far the rounds are: so many are run, the table that they left, and that of the round before.
+struct Progress {
+    run: usize,
+    table: tables::Table,
+    before: Before,
+}
+
+// What is known in the next round of this table.
+fn round_before(z: tables::Table) -> Before
+    ensures { λ r. ⌜ r ≡ roundBefore z ⌝ }
+{
+    Before {
+        new: false,
+        moves: z.moves,
+        entries: z.entries,
+        settled: 0,
+    }
+}
+
+// The next turn: the size of the table is written and its moves are indexed; then one round more is run, or, where as many are run as are asked for, only
+// asked whether it would add a move. `states` and `words` index the moves of the table of the round before.
 fn take_turn(
     rounds: u64,
-    k: usize,
-    z: tables::Table,
-    before: Before,
+    at: Progress,
     inner: &[u64],
     entries: &mut [u64],
     moves: &mut [u64],
@@ -131,9 +148,17 @@ fn take_turn(
     memo: &mut [u64],
     most: Capacity,
 ) -> Turn
-    requires { ⌜ Underway (now inner) rounds z k (now entries) (now moves) × Prepared (rulesIn count (now body)) (now inner) z (now entries) (now moves) before (now states) (now words) (now memo) × RulesStand count (now body) × (6144 ≤ length (now pending)) × (2050 ≤ length (now sizes)) × (most .moves ≡ mostMoves (length (now moves))) × (most .entries ≡ mostEntries (length (now entries)) (z .inner1)) ⌝ }
-    ensures { λ r. ⌜ TurnLeaves (rulesIn count (now (body .entry))) (now (inner .entry)) rounds z k (now (entries .entry)) (now (moves .entry)) (now (sizes .entry)) r (now (entries .exit)) (now (moves .exit)) (now (sizes .exit)) (now (states .exit)) (now (words .exit)) (now (memo .exit)) ⌝ }
+    requires { ⌜ Underway (now inner) rounds (at .table) (at .run) (now entries) (now moves)
+        × Prepared (rulesIn count (now body)) (now inner) (at .table) (now entries) (now moves) (at .before) (now states) (now words) (now memo)
+        × WorkLent count (now body) (now pending) (now sizes)
+        × (most .moves ≡ mostMoves (length (now moves))) × (most .entries ≡ mostEntries (length (now entries)) (at .table .inner1)) ⌝ }
+    ensures { λ r. ⌜ TurnLeaves (rulesIn count (now (body .entry))) (now (inner .entry)) rounds (at .table) (at .run)
+        (now (entries .entry)) (now (moves .entry)) (now (sizes .entry)) r
+        (now (entries .exit)) (now (moves .exit)) (now (sizes .exit)) (now (states .exit)) (now (words .exit)) (now (memo .exit)) ⌝ }
 {
+    let k = at.run;
+    let z = at.table;
+    let before = at.before;
     put_sizes(sizes, k, z.moves, z.entries);
     move_index::extend(moves, before.moves, z.moves, states, words);
     if k as u64 == rounds {
@@ -185,23 +210,26 @@ fn run_rounds(
     words: &mut [u16],
     memo: &mut [u64],
 ) -> Saturated
-    requires { ⌜ Given z (now inner) (now entries) (now moves) × RulesStand count (now body) × (6144 ≤ length (now pending)) × (2050 ≤ length (now sizes)) × ByState 0 (now moves) (now states) × ByWords 0 (now moves) (now words) × MemoBefore (z .moves) (now memo) ⌝ }
-    ensures { λ r. ⌜ Ends (rulesIn count (now (body .entry))) rounds (now (inner .entry)) z (now (entries .entry)) (now (moves .entry)) (r .fits) (r .table) (r .rounds) (r .more) (now (entries .exit)) (now (moves .exit)) (now (sizes .exit)) ⌝ }
+    requires { ⌜ Given z (now inner) (now entries) (now moves) × WorkLent count (now body) (now pending) (now sizes)
+        × ByState 0 (now moves) (now states) × ByWords 0 (now moves) (now words) × MemoBefore (z .moves) (now memo) ⌝ }
+    ensures { λ r. ⌜ Ends (rulesIn count (now (body .entry))) rounds (now (inner .entry)) z (now (entries .entry)) (now (moves .entry))
+        (r .fits) (r .table) (r .rounds) (r .more) (now (entries .exit)) (now (moves .exit)) (now (sizes .exit)) ⌝ }
 {
     let most = limits_of(moves.len(), entries.len(), z.inner1);
-    let mut before = Before {
-        any: false,
-        moves: 0,
-        entries: 0,
+    let mut at = Progress {
+        run: 0,
+        table: z,
+        before: Before {
+            new: true,
+            moves: 0,
+            entries: 0,
+            settled: 0,
+        },
     };
-    let mut table = z;
-    let mut k: usize = 0;
     loop {
         let turn = take_turn(
             rounds,
-            k,
-            table,
-            before,
+            at,
             inner,
             entries,
             moves,
@@ -217,13 +245,11 @@ fn run_rounds(
         match turn {
             Turn::Done(r) => return r,
             Turn::On(next) => {
-                before = Before {
-                    any: true,
-                    moves: table.moves,
-                    entries: table.entries,
+                at = Progress {
+                    run: at.run + 1,
+                    table: next,
+                    before: round_before(at.table),
                 };
-                table = next;
-                k += 1;
             }
         }
     }
@@ -243,8 +269,9 @@ pub fn saturate_tables(
     pending: &mut [u64],
     sizes: &mut [u64],
 ) -> Saturated
-    requires { ⌜ Given z (now inner) (now entries) (now moves) × RulesStand count (now body) × (6144 ≤ length (now pending)) × (2050 ≤ length (now sizes)) ⌝ }
-    ensures { λ r. ⌜ Ends (rulesIn count (now (body .entry))) rounds (now (inner .entry)) z (now (entries .entry)) (now (moves .entry)) (r .fits) (r .table) (r .rounds) (r .more) (now (entries .exit)) (now (moves .exit)) (now (sizes .exit)) ⌝ }
+    requires { ⌜ Given z (now inner) (now entries) (now moves) × WorkLent count (now body) (now pending) (now sizes) ⌝ }
+    ensures { λ r. ⌜ Ends (rulesIn count (now (body .entry))) rounds (now (inner .entry)) z (now (entries .entry)) (now (moves .entry))
+        (r .fits) (r .table) (r .rounds) (r .more) (now (entries .exit)) (now (moves .exit)) (now (sizes .exit)) ⌝ }
 {
     let mut states = [0u16; Limits::CHAIN_WORDS];
     let mut words = [0u16; Limits::CHAIN_WORDS];

@@ -9,23 +9,10 @@ use Rattle.one_round.proofs.add_round.Statement.{statement}
 use Rattle.one_round.proofs.add_round.Tie as tie
 
 sub-room : tie.Need-sub-room
-sub-room c = omega (arith, c .before .before .before .before .before .before .before .before .before .before .pre .0 .moves-few)
+sub-room c = omega (arith, c .before .before .before .before .before .before .before .before .before .before .pre .1 .moves-few)
 
 collect-requires : tie.Need-collect-requires
-collect-requires c κs =
-    let start = c .before .before .before .before .before .before .before .before .before .before .before .before .before .before in (
-      record {
-        edges-stand = start .pre .0 .edges;
-        entries-stand = standing-entries (start .args .z) _ _ _ _ _ (start .pre .0);
-        moves-stand = standing-moves (start .args .z) _ _ _ _ _ (start .pre .0);
-        by-state = start .pre .3;
-        by-words = start .pre .4;
-      },
-      start .pre .1,
-      start .pre .5,
-      start .pre .6,
-      omega (arith, start .pre .2),
-    )
+collect-requires c κs = (c .before .before .before .before .before .before .before .before .before .before .before .before .before .before .pre .0, omega (arith, c .before .before .before .before .before .before .before .before .before .before .before .before .before .before .pre .2))
 
 same-length : tie.Need-same-length
 same-length c = search needs
@@ -40,13 +27,13 @@ same-length-4 : tie.Need-same-length-4
 same-length-4 c = search needs
 
 returns : tie.Need-returns
-returns c = (rounded-over _ _ (c .before .before .before .before .before .before .before .before .before .before .before .before .before .before .before .before .before .before .before .before .args .z) _ _ _ _ (c .before .before .before .before .before .before .before .before .before .before .before .before .before .before .before .before .before .before .before .before .pre .0) _ _ (c .before .before .before .before .before .collect .ensures .0) (c .if1 .taken), c .before .before .before .before .before .collect .ensures .1 .1)
+returns c = (rounded-over _ _ (c .before .before .before .before .before .before .before .before .before .before .before .before .before .before .before .before .before .before .before .before .args .z) _ _ _ _ (c .before .before .before .before .before .before .before .before .before .before .before .before .before .before .before .before .before .before .before .before .pre .1) _ _ (c .before .before .before .before .before .collect .ensures .0) (c .if1 .taken), c .before .before .before .before .before .collect .ensures .1 .1)
 
 add-results-requires : tie.Need-add-results-requires
 add-results-requires c κs =
-    let stands = c .before .before .before .before .before .before .before .before .before .before .before .before .before .before .before .before .before .before .before .before .before .before .before .pre .0 in (
+    let stands = c .before .before .before .before .before .before .before .before .before .before .before .before .before .before .before .before .before .before .before .before .before .before .before .pre .1 in (
       stands .growing,
-      exist-any (c .before .before .before .before .before .before .before .before .before .before .before .before .before .before .before .before .before .before .before .before .before .before .before .args .z) _ [] _ _ (c .before .before .before .before .before .before .before .before .before .before .before .before .before .before .before .before .before .before .before .before .before .before .before .pre .7),
+      exist-any (c .before .before .before .before .before .before .before .before .before .before .before .before .before .before .before .before .before .before .before .before .before .before .before .args .z) _ [] _ _ (c .before .before .before .before .before .before .before .before .before .before .before .before .before .before .before .before .before .before .before .before .before .before .before .pre .3),
       stands .counts,
       omega (arith, stands .moves-few, stands .moves-lent, c .before .before .before .if1 .left),
       omega (arith, c .before .before .before .before .before .before .before .before .before .before .before .before .before .before .before .before .before .before .before .before .before .before .before .pre .2, c .before .before .before .if1 .left, c .before .before .before .before .before .before .before .before .collect .kept .1 .1 .1 .1 .1 .1 .1 .1 .1 .1 .0),
@@ -67,7 +54,7 @@ same-length-8 c = search needs
 returns-2 : tie.Need-returns-2
 returns-2 c =
     let added = c .before .before .before .before .add-results .ensures in
-    (rounded-added _ _ (c .before .before .before .before .before .before .before .before .before .before .before .before .before .before .before .before .before .before .before .before .before .before .before .before .before .before .before .before .args .z) _ _ _ _ (c .before .before .before .before .before .before .before .before .before .before .before .before .before .before .before .before .before .before .before .before .before .before .before .before .before .before .before .before .pre .0) _ _ (c .before .before .before .before .before .before .before .before .before .before .before .before .before .collect .ensures .0) _ _ _ _ (c .before .before .before .before .before .before .before .before .if1 .left) (added .0) (added .1), c .before .before .before .before .before .before .before .before .before .before .before .before .before .collect .ensures .1 .1)
+    (rounded-added _ _ (c .before .before .before .before .before .before .before .before .before .before .before .before .before .before .before .before .before .before .before .before .before .before .before .before .before .before .before .before .args .z) _ _ _ _ (c .before .before .before .before .before .before .before .before .before .before .before .before .before .before .before .before .before .before .before .before .before .before .before .before .before .before .before .before .pre .1) _ _ (c .before .before .before .before .before .before .before .before .before .before .before .before .before .collect .ensures .0) _ _ _ _ (c .before .before .before .before .before .before .before .before .if1 .left) (added .0) (added .1), c .before .before .before .before .before .before .before .before .before .before .before .before .before .collect .ensures .1 .1)
 
 pub add-round-spec : {M : Type 1} → statement M
 add-round-spec =

@@ -7,7 +7,7 @@ use Rattle.one_round.proofs.would_add.Statement.{statement}
 use Rattle.one_round.proofs.would_add.Tie as tie
 
 collect-requires : tie.Need-collect-requires
-collect-requires c κs = let p = c .before .before .before .before .before .before .before .before .before .before .pre in (p .0, p .1, p .2, p .3, omega arith)
+collect-requires c κs = (c .before .before .before .before .before .before .before .before .before .before .pre, omega arith)
 
 same-length : tie.Need-same-length
 same-length c = search needs

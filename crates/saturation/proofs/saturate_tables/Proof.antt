@@ -20,7 +20,7 @@ slice-aggregate-run-rounds-3 : tie.Need-slice-aggregate-run-rounds-3
 slice-aggregate-run-rounds-3 c = sym (length-replicate {A = ℕ} 138240 0)
 
 run-rounds-requires : tie.Need-run-rounds-requires
-run-rounds-requires c κs = (c .before .before .before .before .before .before .before .before .before .before .before .before .before .pre .0, c .before .before .before .before .before .before .before .before .before .before .before .before .before .pre .1, c .before .before .before .before .before .before .before .before .before .before .before .before .before .pre .2, c .before .before .before .before .before .before .before .before .before .before .before .before .before .pre .3, chained-none _, chained-none _, memo-empty _ 138240 (omega arith))
+run-rounds-requires c κs = (c .before .before .before .before .before .before .before .before .before .before .before .before .before .pre .0, c .before .before .before .before .before .before .before .before .before .before .before .before .before .pre .1, chained-none _, chained-none _, memo-empty _ 138240 (omega arith))
 
 same-length : tie.Need-same-length
 same-length c = search needs

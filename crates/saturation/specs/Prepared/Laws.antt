@@ -22,16 +22,20 @@ use Rattle.move_index.specs.Keys.{ByState, ByWords}
 use Rattle.move_index.specs.Keys.Laws.{by-state-same, by-words-same}
 use Rattle.readings.specs.Memo.{MemoBefore, MemoUpTo}
 use Rattle.readings.specs.Memo.Laws.{memo-next}
-use Rattle.premises.specs.Before.{tableBefore, SettledBy}
-use Rattle.results.specs.Collecting.{newResults}
+use Rattle.readings.specs.declared.Before.{Before}
+use Rattle.readings.specs.Before.{tableBefore}
+use Rattle.premises.specs.Settled.{SettledBy}
+use Rattle.results.specs.Collecting.{newResults, RulesStand, rulesIn, RoundReady}
 use Rattle.added_results.specs.Adding.{StatesExist, Grows}
 use Rattle.added_results.specs.Adding.Exist.{addAll-exist}
-use Rattle.saturation.specs.Prepared.{Prepared}
+use Rattle.one_round.specs.Rounding.{Standing}
+use Rattle.one_round.specs.Rounding.Laws.{standing-entries, standing-moves}
+use Rattle.saturation.specs.Prepared.{noneBefore, roundBefore, Prepared}
 
 -- ---- round 1
 
 pub prepared-first : (rules : List Rule) (inner : List ℕ) (z : Table) (entries moves states words memo : List ℕ) → StatesExist (automatonOf z inner entries moves)
-    → ByState 0 moves states → ByWords 0 moves words → MemoBefore (z .moves) memo → Prepared rules inner z entries moves (record { any = false; moves = 0; entries = 0 }) states words memo
+    → ByState 0 moves states → ByWords 0 moves words → MemoBefore (z .moves) memo → Prepared rules inner z entries moves noneBefore states words memo
 prepared-first rules inner z entries moves states words memo h bs bw m =
     record {
       states-exist = h;
@@ -40,7 +44,7 @@ prepared-first rules inner z entries moves states words memo h bs bw m =
         entries-before = omega arith;
         states-before = λ i b. absurd (omega arith);
         none-before = λ e. (refl, refl);
-        held-before = λ e. absurd (false≢true e);
+        held-before = λ e. absurd (false≢true (sym e));
       };
       by-state = bs;
       by-words = bw;
@@ -65,8 +69,8 @@ module _ (rules : List Rule) (inner : List ℕ) (z : Table) (entries moves : Lis
       ∙ getD-rowsIn moveRow (z′ .moves) moves′ i noMove (omega (arith, more))
 
   settled-next : StatesExist (automatonOf z inner entries moves)
-      → SettledBy (automatonOf z′ inner entries′ moves′) (record { any = true; moves = z .moves; entries = z .entries })
-      (results rules (tableBefore (record { any = true; moves = z .moves; entries = z .entries }) (automatonOf z′ inner entries′ moves′)))
+      → SettledBy (automatonOf z′ inner entries′ moves′) (roundBefore z)
+      (results rules (tableBefore (roundBefore z) (automatonOf z′ inner entries′ moves′)))
   unfolding extend newResults sizeOf
   settled-next h =
       let A : Automaton = automatonOf z inner entries moves in
@@ -86,7 +90,7 @@ module _ (rules : List Rule) (inner : List ℕ) (z : Table) (entries moves : Lis
             let same = moveAt-kept grown i (omega arith) in
             let J : A′ .J ≡ A .J = grown .same-J in
             subst (λ (m : Move). m .state < A′ .J + z .entries) (sym same) (omega (arith, old, J, ne));
-        none-before = λ e. absurd (false≢true (sym e));
+        none-before = λ e. absurd (false≢true e);
         held-before = λ e.
             record {
               all-held = λ x m.
@@ -96,7 +100,7 @@ module _ (rules : List Rule) (inner : List ℕ) (z : Table) (entries moves : Lis
       }
 
   pub prepared-next : (states words memo : List ℕ) → StatesExist (automatonOf z inner entries moves) → ByState (z .moves) moves states → ByWords (z .moves) moves words → MemoUpTo (z .moves) memo
-      → z .moves < z′ .moves → Prepared rules inner z′ entries′ moves′ (record { any = true; moves = z .moves; entries = z .entries }) states words memo
+      → z .moves < z′ .moves → Prepared rules inner z′ entries′ moves′ (roundBefore z) states words memo
   prepared-next states words memo h bs bw m l =
       record {
         states-exist = subst StatesExist (sym (g .table-is inner)) (addAll-exist (automatonOf z inner entries moves) (newResults rules (automatonOf z inner entries moves)) h);
@@ -105,3 +109,30 @@ module _ (rules : List Rule) (inner : List ℕ) (z : Table) (entries moves : Lis
         by-words = by-words-same (z .moves) moves moves′ words same-rows bw;
         memo-before = memo-next m l;
       }
+
+pub prepared-same : (rules : List Rule) (inner : List ℕ) (z : Table) (entries moves : List ℕ) (t t′ : Before) (states words memo : List ℕ) → t′ ≡ t
+    → Prepared rules inner z entries moves t states words memo → Prepared rules inner z entries moves t′ states words memo
+prepared-same rules inner z entries moves t t′ states words memo e h = subst (λ (b : Before). Prepared rules inner z entries moves b states words memo) (sym e) h
+
+-- ---- a round can be worked out, once the moves are indexed
+
+pub ready : (z : Table) (inner entries moves : List ℕ) (t : Before) (states words states′ words′ : List ℕ) (count : ℕ) (body memo : List ℕ) {m e : ℕ} → Standing z m e inner entries moves
+    → ByState (z .moves) moves states′ → ByWords (z .moves) moves words′ → RulesStand count body → Prepared (rulesIn count body) inner z entries moves t states words memo
+    → RoundReady z inner entries moves states′ words′ t count body memo
+ready z inner entries moves t states words states′ words′ count body memo {m} {e} stands bs bw rules h =
+    record {
+      indexed = record {
+        edges-stand = stands .edges;
+        moves-indexed = record {
+          by-words = record {
+            entries-stand = standing-entries z m e inner entries moves stands;
+            moves-stand = standing-moves z m e inner entries moves stands;
+            by-words = bw;
+          };
+          by-state = bs;
+        };
+      };
+      rules-stand = rules;
+      settled-by = h .settled;
+      memo-before = h .memo-before;
+    }
