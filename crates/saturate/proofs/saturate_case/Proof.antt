@@ -44,9 +44,11 @@ saturate-tables-requires c κs =
     let loaded = c .before .before .before .before .before .before .before .before .before .before .before .before .before .before .before .before .load-case .ensures in
     let fits = sym (c .before .before .before .before .before .before .before .before .before .before .before .before .before .before .before .before .before .before .before .before .before .own-fits .ensures) ∙ not-false (c .before .before .before .before .before .before .before .before .before .before .before .before .before .before .before .before .before .before .before .before .before .own-fits .result) (c .before .before .before .before .before .before .before .before .before .before .before .before .before .before .before .before .before .before .before .before .if1 .left) in (
       given _ sound _ _ (c .before .before .before .before .before .before .before .before .before .before .before .before .before .before .before .before .load-case .result) _ _ _ (loaded .0) (omega (arith, c .before .before .before .before .before .before .before .before .before .before .before .before .before .before .before .before .before .before .before .before .before .before .before .before .before .before .before .before .pre .1 .inner-room, c .before .before .before .before .before .before .before .before .before .before .before .before .before .before .before .before .load-case .kept .1 .0)) (c .before .before .before .before .before .before .before .before .before .before .before .before .before .before .before .before .load-case .kept .1 .1 .0) (c .before .before .before .before .before .before .before .before .before .before .before .before .before .before .before .before .load-case .kept .1 .1 .1 .0) fits (loaded .1 .1 .1 .1),
-      rules-stand _ sound _ _ (holds-rules _ (case-in-place _ sound) (c .before .before .before .before .before .before .count-of .ensures .0) (c .before .before .before .before .before .before .before .before .put-rules .ensures)),
-      c .before .before .before .before .before .before .before .before .before .before .before .before .before .before .before .before .before .before .before .before .before .before .before .before .before .before .before .before .pre .1 .pending-room,
-      c .before .before .before .before .before .before .before .before .before .before .before .before .before .before .before .before .before .before .before .before .before .before .before .before .before .before .before .before .pre .1 .sizes-room,
+      record {
+        rules-stand = rules-stand _ sound _ _ (holds-rules _ (case-in-place _ sound) (c .before .before .before .before .before .before .count-of .ensures .0) (c .before .before .before .before .before .before .before .before .put-rules .ensures));
+        pending-lent = c .before .before .before .before .before .before .before .before .before .before .before .before .before .before .before .before .before .before .before .before .before .before .before .before .before .before .before .before .pre .1 .pending-room;
+        sizes-lent = c .before .before .before .before .before .before .before .before .before .before .before .before .before .before .before .before .before .before .before .before .before .before .before .before .before .before .before .before .pre .1 .sizes-room;
+      },
     )
 
 same-length : tie.Need-same-length
