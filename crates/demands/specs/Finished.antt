@@ -64,7 +64,7 @@ NeverFinal = (case : List ℕ) → caseRefusal case ≡ 0 → (m : ℕ) → Fina
 
 -- ---- runs
 
--- "No step leaves such a configuration": a run from it has no step.
+-- No step leaves a finished configuration: a run from it has none.
 abbrev pub NoStepLeaves : Type 0
 NoStepLeaves = (rules : List Rule) (c d : Configuration) (ns : List ℕ) → finished (c .stack) ≡ true → Run rules c ns d → (ns ≡ []) × (d ≡ c)
 
@@ -81,7 +81,7 @@ abbrev pub FinishedMarks : Type 0
 FinishedMarks = (x : JudgeInput) (d : JudgeDone) → JudgeMarks x d → Returned judgeRefusals x 0 → (n : ℕ) → n < length (startsOf (x .start))
     → finished (configurationAt (x .start) n .stack) ≡ true → FinishedWord x n (getD (d .answers) n 0)
 
--- "Tested where arrival is tested, before trace and cells": for a finished start marked yes guide has arrived without a step, with the start
+-- Arrival is tested before trace and cells: for a finished start marked yes guide has arrived without a step, with the start
 -- file's cells, where so many are lent, whatever trace is lent.
 pub record ArrivedAtOnce (x : GuideInput) (d : GuideDone) : Type 0 where
   pub reply-is : d .reply ≡ Walked (Arrived (record { steps = 0; cells = length (cellsOf (x .start)) }))

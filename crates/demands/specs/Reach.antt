@@ -51,7 +51,7 @@ pub record WonIn (case start : List ℕ) (n r : ℕ) : Type 0 where
 
 -- ---- rounds
 
--- "Round m + 1 would add a move",
+-- "Round n + 1 would add a move", n being m,
 abbrev pub AddsMove : List ℕ → ℕ → Type 0
 AddsMove case m = length (roundTable case m .moves) < length (roundTable case (suc m) .moves)
 

@@ -1,4 +1,4 @@
--- Cells in lent bytes: "six a cell, in the form of start body 2".
+-- Cells in lent bytes: six a cell, in the form of start body 2.
 -- Assumes nothing.
 pub mod Laws
 use Prim.Native.Nat.{ℕ, _*_, _/_, _%_}

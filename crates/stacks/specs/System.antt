@@ -26,7 +26,7 @@ unfoldable pub entered : ℕ → Option Stack2 → Option Configuration
 entered p′ none = none
 entered p′ (some w) = some (record { control = p′; stack = w })
 
--- "A rule applies when the control is p and the top symbol a." "No rule applies to an empty stack or an empty top order-1 stack."
+-- "A rule (p, a, operation, b, p') applies when the control is p and the top symbol a." "No rule applies to an empty stack or an empty top order-1 stack."
 unfoldable pub stepOn : Rule → ℕ → Stack2 → Option Configuration
 stepOn ρ p nil2 = none
 stepOn ρ p (cons2 nil1 t) = none

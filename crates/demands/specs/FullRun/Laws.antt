@@ -108,7 +108,7 @@ module _ {case start : List ℕ} {rounds n : ℕ} where
         arrives = sym (full-next case rounds e w) ∙ r .arrives;
       }
 
-  -- "That one run": the case file, the start file, the number of the start and the number of rounds leave only one.
+  -- It is one run: the case file, the start file, the number of the start and the number of rounds leave only one.
   pub one-full-run : {ns ms : List ℕ} {w v : Walk} → FullRun case start rounds n ns w → FullRun case start rounds n ms v → (ns ≡ ms) × (w ≡ v)
   one-full-run {ns} {ms} {w} {v} r s =
       let (T, e) = full-table r in

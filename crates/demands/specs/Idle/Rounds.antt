@@ -90,7 +90,7 @@ guide-no-for-open d e s =
     let (_, _, adds, _) = demand1-guide (guideOne 2) .answered in
     adds-not caseA 1 adds still
 
--- ---- open where nothing is left to add: "n = 2 for model A must say no"
+-- ---- open where nothing is left to add: after two rounds of model A start 2 is no
 
 pub open-for-no : (d : JudgeDone) → getD (d .answers) 2 0 ≡ openWord → JudgeMarks inputTwo d → ⊥
 unfolding computed inputTwo
