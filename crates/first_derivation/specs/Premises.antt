@@ -14,15 +14,16 @@ use lib.Dec.{eqb}
 use Rattle.words.specs.Sets.{members}
 use Rattle.words.specs.Order.{same}
 use Rattle.stacks.specs.Stack.{Operation, rewrite, push1, push2, copy, pop1, pop2, collapse1, collapse2}
+use Rattle.stacks.specs.System.{Rule}
 use Rattle.automata.specs.Automaton.{Automaton, Move, noEntry, moveAt, entryOf, entrySet}
 use Rattle.automata.specs.Derivation.{Result, Joins, joinsOf, named}
 use Rattle.walks.specs.Guide.{firstOrZero}
 use Rattle.first_reading.specs.First.{onlyIf, isSome}
-use Rattle.first_reading.specs.Answer.{writtenAll, Answers}
+use Rattle.first_reading.specs.Answer.{writtenAll, Answer, Answers}
 use Rattle.first_reading.specs.Search.{joinsKey, wanted, Numbers, onlyMoves, firstReading}
 use Rattle.first_derivation.specs.declared.Premise.{Premise}
 use Rattle.first_derivation.specs.declared.Premise.the-variants.{Nothing, By}
-use Rattle.first_derivation.specs.Search.{PremiseNumbers, withPremise, byMove, byEntry}
+use Rattle.first_derivation.specs.Search.{PremiseNumbers, withPremise, byMove, byEntry, firstMove, firstStep, byRule}
 
 -- a move of an entry with set S gives x by a rewrite
 unfoldable pub rewritten : ℕ → Move → Result → Bool
@@ -66,9 +67,13 @@ writesEdges A op i n ws = writtenAll (edgeStates A op i) (n .edges) ws
 unfoldable pub writesMoves : Automaton → Operation → ℕ → Numbers → List ℕ → List ℕ
 writesMoves A op i n ws = writtenAll (readStates A op i (n .edges)) (n .moves) ws
 
--- a search for a derivation by the operation from premise i answers t, and writes what it chose
-abbrev pub FindsDerivation : Automaton → Operation → ℕ → Option Numbers → Bool → List ℕ → List ℕ → List ℕ → List ℕ → Type 0
-FindsDerivation A op i o t es₀ es ms₀ ms = Answers o (writesEdges A op i) (writesMoves A op i) t es₀ es ms₀ ms
+-- The search for a derivation of x by a push of order k from move m answers t, and makes the words ms of ms₀.
+abbrev pub FindsPush : Automaton → ℕ → Result → ℕ → ℕ → ℕ → Move → Bool → List ℕ → List ℕ → Type 0
+FindsPush A a x k S r m t ms₀ ms = Answer (pushed A a x k S r m) (readsMoves (members (m .R))) t ms₀ ms
+
+-- The search for a derivation of x by the operation from move i answers t, and writes what it chose.
+abbrev pub FindsDerivation : Automaton → ℕ → Result → Operation → ℕ → Bool → List ℕ → List ℕ → List ℕ → List ℕ → Type 0
+FindsDerivation A a x op i t es₀ es ms₀ ms = Answers (byMove A a x op i) (writesEdges A op i) (writesMoves A op i) t es₀ es ms₀ ms
 
 -- ---- steps, which name their premise
 
@@ -87,11 +92,31 @@ moveGives A a x op p′ b i = onlyIf (eqb (moveAt A i .symbol) b && entryOf A p�
 unfoldable pub entryGives : Automaton → Result → (ℕ → Joins) → ℕ → ℕ → Option PremiseNumbers
 entryGives A x joins p′ e = onlyIf (eqb (getD (A .entries) e noEntry .control) p′) (Option·map (withPremise e) (byEntry A x joins e))
 
+-- The same for a rule to control p′ that reads b, of which move i may be the premise.
+abbrev pub TriesPremise : Automaton → ℕ → Result → Operation → ℕ → ℕ → ℕ → Bool → List ℕ → List ℕ → List ℕ → List ℕ → Type 0
+TriesPremise A a x op p′ b i t es₀ es ms₀ ms = Answers (moveGives A a x op p′ b i) (stepEdges A op) (stepMoves A op) t es₀ es ms₀ ms
+
+-- the number of the premise that was found (0 where the rule has none): in the code, and by the definition
 abbrev pub premiseIn : Premise → Option ℕ
 premiseIn Nothing = none
 premiseIn (By i) = some i
 
+abbrev pub premiseOf : Option PremiseNumbers → Option ℕ
+premiseOf o = Option·map (λ s. firstOrZero (s .premise)) o
+
 -- A search for a step by the operation answers r: the number of the step's premise, or nothing; and it writes what it chose.
 pub record Finds (A : Automaton) (op : Operation) (o : Option PremiseNumbers) (r : Premise) (es₀ es ms₀ ms : List ℕ) : Type 0 where
-  pub number : premiseIn r ≡ Option·map (λ s. firstOrZero (s .premise)) o
+  pub number : premiseIn r ≡ premiseOf o
   pub written : Answers o (stepEdges A op) (stepMoves A op) (isSome (premiseIn r)) es₀ es ms₀ ms
+
+-- It is the search for the first move on b of an entry of p′ that gives x.
+abbrev pub FindsMove : Automaton → ℕ → Result → Operation → ℕ → ℕ → Premise → List ℕ → List ℕ → List ℕ → List ℕ → Type 0
+FindsMove A a x op p′ b r es₀ es ms₀ ms = Finds A op (firstMove A a x op p′ b) r es₀ es ms₀ ms
+
+-- It is the search for the first step to x by a rule on a with this operation, to control p′.
+abbrev pub FindsStep : Automaton → ℕ → Result → Operation → ℕ → Premise → List ℕ → List ℕ → List ℕ → List ℕ → Type 0
+FindsStep A a x op p′ r es₀ es ms₀ ms = Finds A op (firstStep A a x op p′) r es₀ es ms₀ ms
+
+-- It is the search for the first step to x by this rule.
+abbrev pub FindsByRule : Automaton → Result → Rule → Premise → List ℕ → List ℕ → List ℕ → List ℕ → Type 0
+FindsByRule A x ρ r es₀ es ms₀ ms = Finds A (ρ .operation) (byRule A x ρ) r es₀ es ms₀ ms

@@ -1,28 +1,25 @@
 // The first derivation of a known result, found by a search nested over rules, premises, edges and moves.
 ghost use mathlib.Core.Path.{_≡_};
-ghost use mathlib.Core.Option.{Option·map};
 ghost use mathlib.Core.List.{[]};
 ghost use Prim.Native.Nat.{_<_, _≤_, _+_, _*_};
 ghost use lib.ListN.{length};
 ghost use lib.Dec.{eqb};
-ghost use Rattle.words.specs.Sets.{single, members};
+ghost use Rattle.words.specs.Sets.{single};
 ghost use Rattle.words.specs.Order.{same};
 ghost use Rattle.automata.specs.Derivation.{noJoins};
 ghost use Rattle.tables.specs.Records.{asMove, asResult};
 ghost use Rattle.tables.specs.Held.{automatonOf, tableOf, EntriesStand};
-ghost use Rattle.walks.specs.Guide.{firstOrZero};
 ghost use Rattle.first_reading.specs.First.{isSome};
 ghost use Rattle.first_reading.specs.Search.{joinsKey, wanted};
-ghost use Rattle.first_reading.specs.Answer.{Answer, Answers};
-ghost use Rattle.first_reading.specs.Words.{movesIn, TablesWithin};
+ghost use Rattle.first_reading.specs.Words.{movesIn, ReadyToRead, ReadyToSearch};
 ghost use Rattle.case_records.specs.Values.{theOperation, theRule};
 ghost use Rattle.results.specs.Collecting.{rulesIn};
-ghost use Rattle.first_derivation.specs.Search.{byMove, firstMove, firstEntry, entryJoins, byNone, firstStep, byRule};
-ghost use Rattle.first_derivation.specs.Premises.{rewritten, pushed, readsMoves, FindsDerivation, stepEdges, stepMoves, moveGives, entryGives, premiseIn, Finds};
+ghost use Rattle.first_derivation.specs.Search.{firstEntry, entryJoins, byNone};
+ghost use Rattle.first_derivation.specs.Premises.{rewritten, entryGives, premiseIn, premiseOf};
+ghost use Rattle.first_derivation.specs.Premises.{FindsPush, FindsDerivation, TriesPremise, FindsMove, FindsStep, FindsByRule};
 ghost use Rattle.first_derivation.specs.Derived.{FindsFirst, StatesSmall};
 use case_records::Operation;
 use case_records::Rule;
-use joins::Joins;
 use limits::Limits;
 use tables::Move;
 use tables::Result;
@@ -53,8 +50,8 @@ fn by_push(
     x: Result,
     chosen: &mut [u16],
 ) -> bool
-    requires { ⌜ (n * 5 ≤ length (now moves)) × (n ≤ 1024) × (length (now chosen) ≡ 64) ⌝ }
-    ensures { λ t. ⌜ Answer (pushed (movesIn n (now (moves .entry))) a (asResult x) k s r (asMove m)) (readsMoves (members (m .r))) t (now (chosen .entry)) (now (chosen .exit)) ⌝ }
+    requires { ⌜ ReadyToRead n (now moves) (now chosen) ⌝ }
+    ensures { λ t. ⌜ FindsPush (movesIn n (now (moves .entry))) a (asResult x) k s r (asMove m) t (now (chosen .entry)) (now (chosen .exit)) ⌝ }
 {
     if !premises::order_fits(k, m.order) {
         return false;
@@ -79,8 +76,9 @@ fn by_move(
     edges: &mut [u16],
     chosen: &mut [u16],
 ) -> bool
-    requires { ⌜ TablesWithin z (now inner) (now entries) (now moves) × (i < z .moves) × (length (now edges) ≡ 64) × (length (now chosen) ≡ 64) ⌝ }
-    ensures { λ t. ⌜ FindsDerivation (automatonOf z (now (inner .entry)) (now (entries .entry)) (now (moves .entry))) (theOperation op) i (byMove (automatonOf z (now (inner .entry)) (now (entries .entry)) (now (moves .entry))) a (asResult x) (theOperation op) i) t (now (edges .entry)) (now (edges .exit)) (now (chosen .entry)) (now (chosen .exit)) ⌝ }
+    requires { ⌜ ReadyToSearch z (now inner) (now entries) (now moves) (now edges) (now chosen) × (i < z .moves) ⌝ }
+    ensures { λ t. ⌜ FindsDerivation (automatonOf z (now (inner .entry)) (now (entries .entry)) (now (moves .entry))) a (asResult x) (theOperation op) i t
+        (now (edges .entry)) (now (edges .exit)) (now (chosen .entry)) (now (chosen .exit)) ⌝ }
 {
     let n = z.moves;
     let m = tables::move_at(moves, i);
@@ -98,11 +96,9 @@ fn by_move(
             s,
             0,
             0,
-            Joins {
-                order: m.order,
-                b: m.b,
-                r: m.r,
-            },
+            m.order,
+            m.b,
+            m.r,
             x,
             edges,
             chosen,
@@ -135,8 +131,9 @@ fn try_move(
     edges: &mut [u16],
     chosen: &mut [u16],
 ) -> bool
-    requires { ⌜ TablesWithin z (now inner) (now entries) (now moves) × (i < z .moves) × (length (now edges) ≡ 64) × (length (now chosen) ≡ 64) ⌝ }
-    ensures { λ t. ⌜ Answers (moveGives (automatonOf z (now (inner .entry)) (now (entries .entry)) (now (moves .entry))) a (asResult x) (theOperation op) p b i) (stepEdges (automatonOf z (now (inner .entry)) (now (entries .entry)) (now (moves .entry))) (theOperation op)) (stepMoves (automatonOf z (now (inner .entry)) (now (entries .entry)) (now (moves .entry))) (theOperation op)) t (now (edges .entry)) (now (edges .exit)) (now (chosen .entry)) (now (chosen .exit)) ⌝ }
+    requires { ⌜ ReadyToSearch z (now inner) (now entries) (now moves) (now edges) (now chosen) × (i < z .moves) ⌝ }
+    ensures { λ t. ⌜ TriesPremise (automatonOf z (now (inner .entry)) (now (entries .entry)) (now (moves .entry))) a (asResult x) (theOperation op) p b i t
+        (now (edges .entry)) (now (edges .exit)) (now (chosen .entry)) (now (chosen .exit)) ⌝ }
 {
     let m = tables::move_at(moves, i);
     if m.symbol != b {
@@ -162,8 +159,9 @@ fn first_move(
     edges: &mut [u16],
     chosen: &mut [u16],
 ) -> Premise
-    requires { ⌜ TablesWithin z (now inner) (now entries) (now moves) × (length (now edges) ≡ 64) × (length (now chosen) ≡ 64) ⌝ }
-    ensures { λ r. ⌜ Finds (automatonOf z (now (inner .entry)) (now (entries .entry)) (now (moves .entry))) (theOperation op) (firstMove (automatonOf z (now (inner .entry)) (now (entries .entry)) (now (moves .entry))) a (asResult x) (theOperation op) p b) r (now (edges .entry)) (now (edges .exit)) (now (chosen .entry)) (now (chosen .exit)) ⌝ }
+    requires { ⌜ ReadyToSearch z (now inner) (now entries) (now moves) (now edges) (now chosen) ⌝ }
+    ensures { λ r. ⌜ FindsMove (automatonOf z (now (inner .entry)) (now (entries .entry)) (now (moves .entry))) a (asResult x) (theOperation op) p b r
+        (now (edges .entry)) (now (edges .exit)) (now (chosen .entry)) (now (chosen .exit)) ⌝ }
 {
     let n = z.moves;
     let mut i: usize = 0;
@@ -242,7 +240,7 @@ fn try_entry(z: Table, entries: &[u64], collapse: bool, p: u64, e: usize, x: Res
 // The first entry that is a premise of a rule to control p by pop 1 or by collapse 1, and gives x.
 fn first_entry(z: Table, entries: &[u64], collapse: bool, p: u64, x: Result) -> Premise
     requires { ⌜ EntriesStand z (now entries) ⌝ }
-    ensures { λ r. ⌜ premiseIn r ≡ Option·map (λ s. firstOrZero (s .premise)) (firstEntry (tableOf z (now (entries .entry)) []) (asResult x) (entryJoins collapse) p) ⌝ }
+    ensures { λ r. ⌜ premiseIn r ≡ premiseOf (firstEntry (tableOf z (now (entries .entry)) []) (asResult x) (entryJoins collapse) p) ⌝ }
 {
     let n = z.entries;
     let mut e: usize = 0;
@@ -257,7 +255,7 @@ fn first_entry(z: Table, entries: &[u64], collapse: bool, p: u64, x: Result) -> 
 
 // Pop 2, to control p.
 fn by_pop2(p: u64, x: Result) -> Premise
-    ensures { λ r. ⌜ premiseIn r ≡ Option·map (λ s. firstOrZero (s .premise)) (byNone (asResult x) (single p) noJoins) ⌝ }
+    ensures { λ r. ⌜ premiseIn r ≡ premiseOf (byNone (asResult x) (single p) noJoins) ⌝ }
 {
     if !is_single(p, x.s) {
         return Premise::Nothing;
@@ -270,7 +268,7 @@ fn by_pop2(p: u64, x: Result) -> Premise
 
 // Collapse 2, to control p.
 fn by_collapse2(p: u64, x: Result) -> Premise
-    ensures { λ r. ⌜ premiseIn r ≡ Option·map (λ s. firstOrZero (s .premise)) (byNone (asResult x) 0 (record { order = 2; B = single p; R = 0 })) ⌝ }
+    ensures { λ r. ⌜ premiseIn r ≡ premiseOf (byNone (asResult x) 0 (record { order = 2; B = single p; R = 0 })) ⌝ }
 {
     if 0 != x.s {
         return Premise::Nothing;
@@ -296,8 +294,9 @@ fn first_step(
     edges: &mut [u16],
     chosen: &mut [u16],
 ) -> Premise
-    requires { ⌜ TablesWithin z (now inner) (now entries) (now moves) × (length (now edges) ≡ 64) × (length (now chosen) ≡ 64) ⌝ }
-    ensures { λ r. ⌜ Finds (automatonOf z (now (inner .entry)) (now (entries .entry)) (now (moves .entry))) (theOperation op) (firstStep (automatonOf z (now (inner .entry)) (now (entries .entry)) (now (moves .entry))) a (asResult x) (theOperation op) p) r (now (edges .entry)) (now (edges .exit)) (now (chosen .entry)) (now (chosen .exit)) ⌝ }
+    requires { ⌜ ReadyToSearch z (now inner) (now entries) (now moves) (now edges) (now chosen) ⌝ }
+    ensures { λ r. ⌜ FindsStep (automatonOf z (now (inner .entry)) (now (entries .entry)) (now (moves .entry))) a (asResult x) (theOperation op) p r
+        (now (edges .entry)) (now (edges .exit)) (now (chosen .entry)) (now (chosen .exit)) ⌝ }
 {
     match op {
         Operation::Rewrite(b) => first_move(
@@ -334,8 +333,9 @@ fn by_rule(
     edges: &mut [u16],
     chosen: &mut [u16],
 ) -> Premise
-    requires { ⌜ TablesWithin z (now inner) (now entries) (now moves) × (length (now edges) ≡ 64) × (length (now chosen) ≡ 64) ⌝ }
-    ensures { λ r. ⌜ Finds (automatonOf z (now (inner .entry)) (now (entries .entry)) (now (moves .entry))) (theOperation (rule .operation)) (byRule (automatonOf z (now (inner .entry)) (now (entries .entry)) (now (moves .entry))) (asResult x) (theRule rule)) r (now (edges .entry)) (now (edges .exit)) (now (chosen .entry)) (now (chosen .exit)) ⌝ }
+    requires { ⌜ ReadyToSearch z (now inner) (now entries) (now moves) (now edges) (now chosen) ⌝ }
+    ensures { λ r. ⌜ FindsByRule (automatonOf z (now (inner .entry)) (now (entries .entry)) (now (moves .entry))) (asResult x) (theRule rule) r
+        (now (edges .entry)) (now (edges .exit)) (now (chosen .entry)) (now (chosen .exit)) ⌝ }
 {
     if rule.control != x.control {
         return Premise::Nothing;
@@ -377,8 +377,9 @@ pub fn first_derivation(
     edges: &mut [u16],
     chosen: &mut [u16],
 ) -> First
-    requires { ⌜ TablesWithin z (now inner) (now entries) (now moves) × (count * 5 ≤ length (now body)) × (length (now edges) ≡ 64) × (length (now chosen) ≡ 64) ⌝ }
-    ensures { λ r. ⌜ FindsFirst (automatonOf z (now (inner .entry)) (now (entries .entry)) (now (moves .entry))) (rulesIn count (now (body .entry))) (asResult x) r (now (edges .entry)) (now (edges .exit)) (now (chosen .entry)) (now (chosen .exit)) ⌝ }
+    requires { ⌜ ReadyToSearch z (now inner) (now entries) (now moves) (now edges) (now chosen) × (count * 5 ≤ length (now body)) ⌝ }
+    ensures { λ r. ⌜ FindsFirst (automatonOf z (now (inner .entry)) (now (entries .entry)) (now (moves .entry))) (rulesIn count (now (body .entry))) (asResult x) r
+        (now (edges .entry)) (now (edges .exit)) (now (chosen .entry)) (now (chosen .exit)) ⌝ }
     ensures small { λ r. ⌜ StatesSmall (automatonOf z (now (inner .entry)) (now (entries .entry)) (now (moves .entry))) ⌝ }
 {
     let mut i: usize = 0;

@@ -1,20 +1,19 @@
 // The first reading, and the first choice of edges with a reading, whose joined sets are those of a known result. Each is found by recursion
 // over the states left, with the joins carried along. A reading is searched no further where the states left can not reach the result.
 ghost use mathlib.Core.Path.{_≡_};
-ghost use mathlib.Core.List.{_∷_};
 ghost use Prim.Native.Nat.{_<_, _≤_, _+_, _*_};
 ghost use lib.ListN.{length};
 ghost use Rattle.words.specs.Sets.{members};
 ghost use Rattle.words.specs.Order.{same};
 ghost use Rattle.tables.specs.Held.{automatonOf};
 ghost use Rattle.tables.specs.Records.{asMove, asResult};
-ghost use Rattle.joins.specs.Joining.{theJoins, asJoins, asJoined};
-ghost use Rattle.first_reading.specs.Search.{joinsKey, wanted, within, firstReading, firstEdges};
-ghost use Rattle.first_reading.specs.Words.{movesIn, tried, followed, writesEdges, writesMoves, TablesWithin};
-ghost use Rattle.first_reading.specs.Answer.{writtenAll, Answer, Answers};
+ghost use Rattle.joins.specs.Joining.{theJoins, asJoined};
+ghost use Rattle.first_reading.specs.Search.{joinsKey, wanted, within};
+ghost use Rattle.first_reading.specs.Words.{movesIn, ReadyToRead, ReadyToSearch, TriesMove, FindsReading, FollowsEdge, FindsEdges};
 ghost use Rattle.first_reading.specs.Reach.{reachWith, canFill};
 use joins::Joined;
 use joins::Joins;
+use sets::Split;
 use tables::Move;
 use tables::Result;
 use tables::Table;
@@ -55,9 +54,9 @@ pub struct Reach {
     pub r: u64,
 }
 
-// What z and move m reach, where m is a move on a of a state left that joins to j within the sets of x, and z otherwise.
-fn reach_with(z: Reach, m: Move, a: u64, left: u64, j: Joins, x: Result) -> Reach
-    ensures { λ y. ⌜ y ≡ reachWith a (asResult x) left (asJoins j) z (asMove m) ⌝ }
+// What z and move m reach, where m is a move on a of a state left that joins to (order, b, r) within the sets of x, and z otherwise.
+fn reach_with(z: Reach, m: Move, a: u64, left: u64, order: u64, b: u64, r: u64, x: Result) -> Reach
+    ensures { λ y. ⌜ y ≡ reachWith a (asResult x) left (theJoins order b r) z (asMove m) ⌝ }
 {
     let q = m.state;
     if 64 <= q {
@@ -66,6 +65,7 @@ fn reach_with(z: Reach, m: Move, a: u64, left: u64, j: Joins, x: Result) -> Reac
     if !sets::has(left, q) {
         return z;
     }
+    let j = Joins { order, b, r };
     let Joined::To(_) = parts_within(joins::candidate(m, q, a, j), x) else {
         return z;
     };
@@ -91,11 +91,10 @@ fn can_fill(
     requires { ⌜ n * 5 ≤ length (now moves) ⌝ }
     ensures { λ t. ⌜ t ≡ canFill (movesIn n (now (moves .entry))) a (asResult x) left (theJoins order b r) ⌝ }
 {
-    let j = Joins { order, b, r };
     let mut z = Reach { states: 0, b, r };
     let mut i: usize = 0;
     while i < n {
-        z = reach_with(z, tables::move_at(moves, i), a, left, j, x);
+        z = reach_with(z, tables::move_at(moves, i), a, left, order, b, r, x);
         i += 1;
     }
     if !sets::part_of(left, z.states) {
@@ -107,13 +106,12 @@ fn can_fill(
     sets::part_of(x.r, z.r)
 }
 
-// Reads on with move i for state q, the states `others` being left. On success the numbers of the moves stand in `chosen`.
+// Reads on with move i for a state, the others being left. On success the numbers of the moves stand in `chosen`.
 fn read_with(
     moves: &[u64],
     n: usize,
     a: u64,
-    q: u64,
-    others: u64,
+    part: Split,
     i: usize,
     order: u64,
     b: u64,
@@ -121,15 +119,17 @@ fn read_with(
     x: Result,
     chosen: &mut [u16],
 ) -> bool
-    requires { ⌜ (n * 5 ≤ length (now moves)) × (n ≤ 1024) × (i < n) × (q < 64) × (length (now chosen) ≡ 64) ⌝ }
-    ensures { λ t. ⌜ Answer (tried (movesIn n (now (moves .entry))) a (wanted (asResult x)) q (members others) (theJoins order b r) i) (writtenAll (q ∷ members others)) t (now (chosen .entry)) (now (chosen .exit)) ⌝ }
+    requires { ⌜ ReadyToRead n (now moves) (now chosen) × (i < n) × (part .member < 64) ⌝ }
+    ensures { λ t. ⌜ TriesMove (movesIn n (now (moves .entry))) a (asResult x) (part .member) (members (part .others)) (theJoins order b r) i t
+        (now (chosen .entry)) (now (chosen .exit)) ⌝ }
 {
     let m = tables::move_at(moves, i);
+    let q = part.member;
     let j = Joins { order, b, r };
     let Joined::To(k) = parts_within(joins::candidate(m, q, a, j), x) else {
         return false;
     };
-    if first_reading(moves, n, a, others, k.order, k.b, k.r, x, chosen) {
+    if first_reading(moves, n, a, part.others, k.order, k.b, k.r, x, chosen) {
         let at = q as usize;
         chosen[at] = i as u16;
         return true;
@@ -150,8 +150,9 @@ pub fn first_reading(
     x: Result,
     chosen: &mut [u16],
 ) -> bool
-    requires { ⌜ (n * 5 ≤ length (now moves)) × (n ≤ 1024) × (length (now chosen) ≡ 64) ⌝ }
-    ensures { λ t. ⌜ Answer (firstReading (movesIn n (now (moves .entry))) a (wanted (asResult x)) (members left) (theJoins order b r)) (writtenAll (members left)) t (now (chosen .entry)) (now (chosen .exit)) ⌝ }
+    requires { ⌜ ReadyToRead n (now moves) (now chosen) ⌝ }
+    ensures { λ t. ⌜ FindsReading (movesIn n (now (moves .entry))) a (asResult x) (members left) (theJoins order b r) t
+        (now (chosen .entry)) (now (chosen .exit)) ⌝ }
 {
     if left == 0 {
         return is_wanted(order, b, r, x);
@@ -159,12 +160,10 @@ pub fn first_reading(
     if !can_fill(moves, n, a, left, order, b, r, x) {
         return false;
     }
-    let d = sets::least_member(left);
-    let q = d.member;
-    let others = d.others;
+    let part = sets::least_member(left);
     let mut i: usize = 0;
     while i < n {
-        if read_with(moves, n, a, q, others, i, order, b, r, x, chosen) {
+        if read_with(moves, n, a, part, i, order, b, r, x, chosen) {
             return true;
         }
         i += 1;
@@ -172,27 +171,31 @@ pub fn first_reading(
     false
 }
 
-// Goes on with edge e for state q, the states `others` being left. On success the numbers of the edges stand in `edges` and those of the
-// moves in `chosen`.
+// Goes on with edge e for a state, the others being left. On success the numbers of the edges stand in `edges` and those of the moves in
+// `chosen`.
 fn follow(
     z: Table,
     inner: &[u64],
     entries: &[u64],
     moves: &[u64],
     a: u64,
-    q: u64,
-    others: u64,
+    part: Split,
     e: usize,
     names: u64,
     s: u64,
-    j: Joins,
+    order: u64,
+    b: u64,
+    r: u64,
     x: Result,
     edges: &mut [u16],
     chosen: &mut [u16],
 ) -> bool
-    requires { ⌜ TablesWithin z (now inner) (now entries) (now moves) × (e < z .edges + z .entries) × (q < 64) × (length (now edges) ≡ 64) × (length (now chosen) ≡ 64) ⌝ }
-    ensures { λ t. ⌜ Answers (followed (automatonOf z (now (inner .entry)) (now (entries .entry)) (now (moves .entry))) a (wanted (asResult x)) (asJoins j) (x .s) q (members others) names s e) (writesEdges (q ∷ members others)) (writesMoves (automatonOf z (now (inner .entry)) (now (entries .entry)) (now (moves .entry))) names) t (now (edges .entry)) (now (edges .exit)) (now (chosen .entry)) (now (chosen .exit)) ⌝ }
+    requires { ⌜ ReadyToSearch z (now inner) (now entries) (now moves) (now edges) (now chosen)
+        × (e < z .edges + z .entries) × (part .member < 64) ⌝ }
+    ensures { λ t. ⌜ FollowsEdge (automatonOf z (now (inner .entry)) (now (entries .entry)) (now (moves .entry))) a (asResult x) (theJoins order b r)
+        (part .member) (members (part .others)) names s e t (now (edges .entry)) (now (edges .exit)) (now (chosen .entry)) (now (chosen .exit)) ⌝ }
 {
+    let q = part.member;
     let g = tables::edge_of(z, inner, entries, e);
     if g.state != q {
         return false;
@@ -208,10 +211,12 @@ fn follow(
         entries,
         moves,
         a,
-        others,
+        part.others,
         named,
         below,
-        j,
+        order,
+        b,
+        r,
         x,
         edges,
         chosen,
@@ -224,8 +229,8 @@ fn follow(
 }
 
 // The first choice of an edge for each of the states left whose sets, joined to s, are that of x, with the first reading of a from the
-// states that these edges and `names` name: whether there is one. On success the numbers of the edges stand in `edges` and those of the
-// moves in `chosen`.
+// states that these edges and `names` name, joined to (order, b, r): whether there is one. On success the numbers of the edges stand in
+// `edges` and those of the moves in `chosen`.
 pub fn first_edges(
     z: Table,
     inner: &[u64],
@@ -235,23 +240,24 @@ pub fn first_edges(
     left: u64,
     names: u64,
     s: u64,
-    j: Joins,
+    order: u64,
+    b: u64,
+    r: u64,
     x: Result,
     edges: &mut [u16],
     chosen: &mut [u16],
 ) -> bool
-    requires { ⌜ TablesWithin z (now inner) (now entries) (now moves) × (length (now edges) ≡ 64) × (length (now chosen) ≡ 64) ⌝ }
-    ensures { λ t. ⌜ Answers (firstEdges (automatonOf z (now (inner .entry)) (now (entries .entry)) (now (moves .entry))) a (wanted (asResult x)) (asJoins j) (x .s) (members left) names s) (writesEdges (members left)) (writesMoves (automatonOf z (now (inner .entry)) (now (entries .entry)) (now (moves .entry))) names) t (now (edges .entry)) (now (edges .exit)) (now (chosen .entry)) (now (chosen .exit)) ⌝ }
+    requires { ⌜ ReadyToSearch z (now inner) (now entries) (now moves) (now edges) (now chosen) ⌝ }
+    ensures { λ t. ⌜ FindsEdges (automatonOf z (now (inner .entry)) (now (entries .entry)) (now (moves .entry))) a (asResult x) (theJoins order b r)
+        (members left) names s t (now (edges .entry)) (now (edges .exit)) (now (chosen .entry)) (now (chosen .exit)) ⌝ }
 {
     if left == 0 {
         if s != x.s {
             return false;
         }
-        return first_reading(moves, z.moves, a, names, j.order, j.b, j.r, x, chosen);
+        return first_reading(moves, z.moves, a, names, order, b, r, x, chosen);
     }
-    let d = sets::least_member(left);
-    let q = d.member;
-    let others = d.others;
+    let part = sets::least_member(left);
     let n = z.edges + z.entries;
     let mut e: usize = 0;
     while e < n {
@@ -261,12 +267,13 @@ pub fn first_edges(
             entries,
             moves,
             a,
-            q,
-            others,
+            part,
             e,
             names,
             s,
-            j,
+            order,
+            b,
+            r,
             x,
             edges,
             chosen,

@@ -53,19 +53,28 @@ enum-told-8 : tie.Need-enum-told-8
 enum-told-8 c = search needs
 
 returns : tie.Need-returns
-returns c = rewrite-derives _ _ _ _ _ _ _ (c .before .before .before .before .before .before .before .before .before .before .pre .1) _ (c .before .before .before .before .move-at .ensures) _ (c .before .before .before .entry-set .ensures) _ _ (ap theOperation (c .before .enum-told .given .1)) (c .by-rewrite .ensures)
+returns c =
+    let m = c .before .before .before .before .move-at .ensures in
+    let s = c .before .before .before .entry-set .ensures in
+    rewrite-derives _ _ _ _ _ _ _ (c .before .before .before .before .before .before .before .before .before .before .pre .1) _ m _ s _ _ (ap theOperation (c .before .enum-told .given .1)) (c .by-rewrite .ensures)
 
 same-length : tie.Need-same-length
 same-length c = search needs
 
 returns-2 : tie.Need-returns-2
-returns-2 c = push1-derives _ _ _ _ _ _ _ (c .before .before .before .before .before .before .before .before .before .before .before .before .before .pre .1) _ (c .before .before .before .before .before .before .before .move-at .ensures) _ (c .before .before .before .before .before .before .entry-set .ensures) _ (ap theOperation (c .before .before .before .before .enum-told2 .given .1)) (c .before .before .by-push .ensures)
+returns-2 c =
+    let m = c .before .before .before .before .before .before .before .move-at .ensures in
+    let s = c .before .before .before .before .before .before .entry-set .ensures in
+    push1-derives _ _ _ _ _ _ _ (c .before .before .before .before .before .before .before .before .before .before .before .before .before .pre .1) _ m _ s _ (ap theOperation (c .before .before .before .before .enum-told2 .given .1)) (c .before .before .by-push .ensures)
 
 same-length-2 : tie.Need-same-length-2
 same-length-2 c = search needs
 
 returns-3 : tie.Need-returns-3
-returns-3 c = push2-derives _ _ _ _ _ _ _ (c .before .before .before .before .before .before .before .before .before .before .before .before .before .before .pre .1) _ (c .before .before .before .before .before .before .before .before .move-at .ensures) _ (c .before .before .before .before .before .before .before .entry-set .ensures) _ (ap theOperation (c .before .before .before .before .before .enum-told3 .given .1)) (c .before .before .before .before .join .ensures) (c .before .before .by-push2 .ensures)
+returns-3 c =
+    let m = c .before .before .before .before .before .before .before .before .move-at .ensures in
+    let s = c .before .before .before .before .before .before .before .entry-set .ensures in
+    push2-derives _ _ _ _ _ _ _ (c .before .before .before .before .before .before .before .before .before .before .before .before .before .before .pre .1) _ m _ s _ (ap theOperation (c .before .before .before .before .before .enum-told3 .given .1)) (c .before .before .before .before .join .ensures) (c .before .before .by-push2 .ensures)
 
 same-length-3 : tie.Need-same-length-3
 same-length-3 c = search needs
@@ -74,7 +83,10 @@ same-length-4 : tie.Need-same-length-4
 same-length-4 c = search needs
 
 returns-4 : tie.Need-returns-4
-returns-4 c = copy-derives _ _ _ _ _ _ _ (c .before .before .before .before .before .before .before .before .before .before .before .before .before .before .before .before .pre .1) _ (c .before .before .before .before .before .before .before .before .before .before .move-at .ensures) _ (c .before .before .before .before .before .before .before .before .before .entry-set .ensures) (ap theOperation (c .before .before .before .before .before .before .before .enum-told4 .given .1)) (c .before .before .before .before .first-edges .ensures)
+returns-4 c =
+    let m = c .before .before .before .before .before .before .before .before .before .before .move-at .ensures in
+    let s = c .before .before .before .before .before .before .before .before .before .entry-set .ensures in
+    copy-derives _ _ _ _ _ _ _ (c .before .before .before .before .before .before .before .before .before .before .before .before .before .before .before .before .pre .1) _ m _ s (ap theOperation (c .before .before .before .before .before .before .before .enum-told4 .given .1)) (c .before .before .before .before .first-edges .ensures)
 
 returns-5 : tie.Need-returns-5
 returns-5 c = no-move _ _ _ _ _ _ (ap theOperation (c .enum-told5 .given .1)) (no-move-by _ _ _ _ .0)

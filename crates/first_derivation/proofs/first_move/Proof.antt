@@ -8,6 +8,7 @@ use Rattle.tables.specs.Held.{automatonOf}
 use Rattle.case_records.specs.Values.{theOperation}
 use Rattle.first_reading.specs.Answer.{NotFoundBelow, Unchanged}
 use Rattle.first_reading.specs.Answer.Laws.{answers-is, answers-fails, answers-from, same-refl, same-after, passed-none, passed-more, passed-all}
+use Rattle.first_reading.specs.Words.Laws.{ready-still}
 use Rattle.first_derivation.specs.Premises.{moveGives}
 use Rattle.first_derivation.specs.Premises.Loops.{moves-below, move-found, finds-from, finds-nothing}
 use Rattle.first_derivation.proofs.first_move.Statement.{statement}
@@ -18,14 +19,15 @@ Inv-loop z inner entries moves a op p b x edges₀ chosen₀ n i₀ edges chosen
     NotFoundBelow n (moveGives (automatonOf z inner entries moves) a (asResult x) (theOperation op) p b) i × Unchanged edges₀ edges × Unchanged chosen₀ chosen
 
 abbrev μ-loop : tie.MeasureT-loop
-μ-loop z inner entries moves a op p b x edges₀ chosen₀ n i₀ edges chosen i =
-    n - i
+μ-loop z inner entries moves a op p b x edges₀ chosen₀ n i₀ edges chosen i = n - i
 
 loop-holds : tie.Need-loop-holds Inv-loop μ-loop
 loop-holds c = (passed-none, same-refl _, same-refl _)
 
 try-move-requires : tie.Need-try-move-requires Inv-loop μ-loop
-try-move-requires c κs = search needs
+try-move-requires c κs =
+    let inv = c .before .before .before .loop .inv in
+    (ready-still (c .before .before .before .before .before .before .before .before .before .pre) (inv .1) (inv .2), c .before .before .loop-test .taken)
 
 same-length : tie.Need-same-length Inv-loop μ-loop
 same-length c = search needs
@@ -34,7 +36,9 @@ same-length-2 : tie.Need-same-length-2 Inv-loop μ-loop
 same-length-2 c = search needs
 
 returns : tie.Need-returns Inv-loop μ-loop
-returns c = move-found _ _ _ _ _ _ _ _ _ (c .before .before .before .before .before .before .before .before .before .loop .inv .0) (c .before .before .before .before .before .before .before .before .loop-test .taken) (answers-from (c .before .before .before .before .before .before .before .before .before .loop .inv .1) (c .before .before .before .before .before .before .before .before .before .loop .inv .2) (answers-is (c .if1 .taken) (c .before .before .before .before .before .try-move .ensures)))
+returns c =
+    let inv = c .before .before .before .before .before .before .before .before .before .loop .inv in
+    move-found _ _ _ _ _ _ _ _ _ (inv .0) (c .before .before .before .before .before .before .before .before .loop-test .taken) (answers-from (inv .1) (inv .2) (answers-is (c .if1 .taken) (c .before .before .before .before .before .try-move .ensures)))
 
 add-i : tie.Need-add-i Inv-loop μ-loop
 add-i c = search needs
@@ -43,7 +47,10 @@ loop-less : tie.Need-loop-less Inv-loop μ-loop
 loop-less c = search needs
 
 loop-again : tie.Need-loop-again Inv-loop μ-loop
-loop-again c = let f = answers-fails (answers-is (c .if1 .left) (c .before .before .before .before .before .try-move .ensures)) in (passed-more (c .before .before .before .before .before .before .before .before .before .loop .inv .0) (c .before .before .before .before .before .before .before .before .loop-test .taken) (f .0), same-after (c .before .before .before .before .before .before .before .before .before .loop .inv .1) (f .1), same-after (c .before .before .before .before .before .before .before .before .before .loop .inv .2) (f .2))
+loop-again c =
+    let inv = c .before .before .before .before .before .before .before .before .before .loop .inv in
+    let f = answers-fails (answers-is (c .if1 .left) (c .before .before .before .before .before .try-move .ensures)) in
+    (passed-more (inv .0) (c .before .before .before .before .before .before .before .before .loop-test .taken) (f .0), same-after (inv .1) (f .1), same-after (inv .2) (f .2))
 
 same-length-3 : tie.Need-same-length-3 Inv-loop μ-loop
 same-length-3 c = search needs
@@ -52,7 +59,10 @@ same-length-4 : tie.Need-same-length-4 Inv-loop μ-loop
 same-length-4 c = search needs
 
 returns-2 : tie.Need-returns-2 Inv-loop μ-loop
-returns-2 c = finds-from _ _ (c .before .loop .inv .1) (c .before .loop .inv .2) (finds-nothing _ _ _ _ (moves-below _ _ _ _ _ _ _ _ _ ∙ passed-all (c .before .loop .inv .0) (c .loop-test .left)))
+returns-2 c =
+    let inv = c .before .loop .inv in
+    let missed = moves-below _ _ _ _ _ _ _ _ _ ∙ passed-all (inv .0) (c .loop-test .left) in
+    finds-from _ _ (inv .1) (inv .2) (finds-nothing _ _ _ _ missed)
 
 pub first-move-spec : {M : Type 1} → statement M
 first-move-spec =

@@ -18,7 +18,9 @@ entry-of-requires : tie.Need-entry-of-requires
 entry-of-requires c κs = search needs
 
 returns-2 : tie.Need-returns-2
-returns-2 c = answers-none _ _ (other-entry _ _ _ _ _ _ _ _ _ _ (c .before .before .before .before .before .before .before .before .before .before .pre .1) _ (c .before .before .before .before .move-at .ensures) (c .before .before .if1 .left) (sym (c .before .entry-of .ensures) ∙ not-true _ (c .if2 .taken)))
+returns-2 c =
+    let of-none = sym (c .before .entry-of .ensures) ∙ not-true _ (c .if2 .taken) in
+    answers-none _ _ (other-entry _ _ _ _ _ _ _ _ _ _ (c .before .before .before .before .before .before .before .before .before .before .pre .1) _ (c .before .before .before .before .move-at .ensures) (c .before .before .if1 .left) of-none)
 
 by-move-requires : tie.Need-by-move-requires
 by-move-requires c κs = search needs
@@ -30,7 +32,9 @@ same-length-2 : tie.Need-same-length-2
 same-length-2 c = search needs
 
 returns-3 : tie.Need-returns-3
-returns-3 c = move-gives _ _ _ _ _ _ _ _ _ _ (c .before .before .before .before .before .before .before .before .before .before .before .before .before .before .before .before .before .pre .1) _ (c .before .before .before .before .before .before .before .before .before .before .before .move-at .ensures) (c .before .before .before .before .before .before .before .before .before .if1 .left) (sym (c .before .before .before .before .before .before .before .before .entry-of .ensures) ∙ not-false _ (c .before .before .before .before .before .before .before .if2 .left)) (c .before .before .before .before .by-move .ensures)
+returns-3 c =
+    let of-it = sym (c .before .before .before .before .before .before .before .before .entry-of .ensures) ∙ not-false _ (c .before .before .before .before .before .before .before .if2 .left) in
+    move-gives _ _ _ _ _ _ _ _ _ _ (c .before .before .before .before .before .before .before .before .before .before .before .before .before .before .before .before .before .pre .1) _ (c .before .before .before .before .before .before .before .before .before .before .before .move-at .ensures) (c .before .before .before .before .before .before .before .before .before .if1 .left) of-it (c .before .before .before .before .by-move .ensures)
 
 pub try-move-spec : {M : Type 1} → statement M
 try-move-spec =

@@ -28,7 +28,7 @@ use Rattle.first_derivation.specs.declared.First.the-variants.{Missing, 
 use Rattle.first_derivation.specs.Search as Search
 use Rattle.first_derivation.specs.Search.{derived, byRule, firstFrom}
 use Rattle.first_derivation.specs.Search.Laws.{derivation-first}
-use Rattle.first_derivation.specs.Premises.{edgeStates, readStates, writesEdges, writesMoves, stepEdges, stepMoves, premiseIn, Finds}
+use Rattle.first_derivation.specs.Premises.{edgeStates, readStates, writesEdges, writesMoves, stepEdges, stepMoves, premiseIn, premiseOf, FindsByRule}
 use Rattle.first_derivation.specs.Derived.{operationBy, derivationEdges, derivationMoves, stepOf, FindsFirst, ruleGives}
 
 -- the first of the numbers below n, from the left
@@ -80,7 +80,7 @@ module _ (A : Automaton) (x : Result) (body : List ℕ) (k : ℕ) (ρ : Rule) (i
   gives-is = ap (λ (r : Rule). Option·map (derived k x) (byRule A x r)) (sym is)
 
   -- rule k does not give x
-  pub rule-fails : {r : Premise} {es₀ es ms₀ ms : List ℕ} → r ≡ Nothing → Finds A (ρ .operation) (byRule A x ρ) r es₀ es ms₀ ms
+  pub rule-fails : {r : Premise} {es₀ es ms₀ ms : List ℕ} → r ≡ Nothing → FindsByRule A x ρ r es₀ es ms₀ ms
       → (ruleGives A x body k ≡ none) × (es ≡ es₀) × (ms ≡ ms₀)
   unfolding isSome
   rule-fails {r} e h =
@@ -88,7 +88,7 @@ module _ (A : Automaton) (x : Result) (body : List ℕ) (k : ℕ) (ρ : Rule) (i
       (gives-is ∙ ap (Option·map (derived k x)) (f .0), f .1, f .2)
 
 -- the numbers of a step by rule k
-same-step : (x : Result) (k i : ℕ) (o : Option Search.PremiseNumbers) → some i ≡ Option·map (λ s. firstOrZero (s .premise)) o
+same-step : (x : Result) (k i : ℕ) (o : Option Search.PremiseNumbers) → some i ≡ premiseOf o
     → some (record { rule = k; premise = i }) ≡ Option·map stepOf (Option·map (derived k x) o)
 same-step x k i none e = absurd (Option·some-ne-none i e)
 same-step x k i (some s) e = ap (λ (j : ℕ). some (record { rule = k; premise = j })) (Option·some-injective i (firstOrZero (s .premise)) e)
@@ -116,12 +116,12 @@ module _ (A : Automaton) (x : Result) (n : ℕ) (body : List ℕ) where
 
   -- rule k gives x
   pub rule-found : (k : ℕ) (ρ : Rule) → ρ ≡ ruleOf (ruleBytes (recordAt 5 k body)) → {i : ℕ} {r : Premise} {es₀ es ms₀ ms : List ℕ} → r ≡ By i
-      → NotFoundBelow n (ruleGives A x body) k → k < n → Finds A (ρ .operation) (byRule A x ρ) r es₀ es ms₀ ms
+      → NotFoundBelow n (ruleGives A x body) k → k < n → FindsByRule A x ρ r es₀ es ms₀ ms
       → FindsFirst A R x (Found k i) es₀ es ms₀ ms
   unfolding isSome ruleIn derivationEdges derivationMoves stepEdges stepMoves writesEdges writesMoves
   rule-found k ρ is {i} {r} {es₀} {es} {ms₀} {ms} is-by h below g =
-      let f : Finds A (ρ .operation) (byRule A x ρ) (By i) es₀ es ms₀ ms =
-      subst (λ (q : Premise). Finds A (ρ .operation) (byRule A x ρ) q es₀ es ms₀ ms) is-by g in
+      let f : FindsByRule A x ρ (By i) es₀ es ms₀ ms =
+      subst (λ (q : Premise). FindsByRule A x ρ q es₀ es ms₀ ms) is-by g in
       let op : operationBy R k ≡ ρ .operation = operation-in n body k below ∙ ap (λ (r : Rule). r .operation) (sym is) in
       let gives : ruleGives A x body k ≡ Option·map (derived k x) (byRule A x ρ) = gives-is A x body k ρ is in
       let s : isSome (ruleGives A x body k) ≡ true = ap isSome gives ∙ isSome-map (derived k x) (byRule A x ρ) ∙ sym (f .written .edges .success) in

@@ -15,10 +15,11 @@ use Rattle.automata.specs.Automaton.{Automaton, Move}
 use Rattle.automata.specs.Derivation.{Result, joinsOf}
 use Rattle.first_reading.specs.First.{onlyIf}
 use Rattle.first_reading.specs.First.Laws.{onlyIf-yes, onlyIf-no, onlyIf-none}
-use Rattle.first_reading.specs.Answer.{writtenAll, Answer}
+use Rattle.first_reading.specs.Answer.{writtenAll}
 use Rattle.first_reading.specs.Answer.Laws.{answer-eq, answer-map}
-use Rattle.first_reading.specs.Search.{joinsKey, wanted, onlyMoves, firstReading}
-use Rattle.first_derivation.specs.Premises.{rewritten, pushed, readsMoves}
+use Rattle.first_reading.specs.Words.{FindsReading}
+use Rattle.first_reading.specs.Search.{joinsKey, wanted, onlyMoves}
+use Rattle.first_derivation.specs.Premises.{rewritten, pushed, readsMoves, FindsPush}
 
 -- ---- a rewrite
 
@@ -43,8 +44,8 @@ module _ (A : Automaton) (a : ℕ) (x : Result) (k S r : ℕ) (m : Move) where
   pushed-set h = ap (onlyIf (eqb (m .order) 0 || eqb (m .order) k)) (onlyIf-no _ _ (ne-eqb S (x .S) h)) ∙ onlyIf-none _
 
   pub pushed-read : {t : Bool} {ws₀ ws : List ℕ} → eqb (m .order) 0 || eqb (m .order) k ≡ true → S ≡ x .S
-      → Answer (firstReading A a (wanted x) (members (m .R)) (record { order = 0; B = 0; R = r })) (writtenAll (members (m .R))) t ws₀ ws
-      → Answer (pushed A a x k S r m) (readsMoves (members (m .R))) t ws₀ ws
+      → FindsReading A a x (members (m .R)) (record { order = 0; B = 0; R = r }) t ws₀ ws
+      → FindsPush A a x k S r m t ws₀ ws
   unfolding pushed readsMoves
   pushed-read h e h′ =
       answer-eq (onlyIf-yes _ _ h ∙ onlyIf-yes _ _ (eq-eqb S (x .S) e))

@@ -29,26 +29,26 @@ use Rattle.first_reading.specs.Search.{joinsKey, wanted, Numbers, noNumbers}
 use Rattle.first_derivation.specs.declared.Premise.{Premise}
 use Rattle.first_derivation.specs.declared.Premise.the-variants.{Nothing, By}
 use Rattle.first_derivation.specs.Search.{PremiseNumbers, withPremise, byMove, byEntry, firstMove, firstEntry}
-use Rattle.first_derivation.specs.Premises.{writesEdges, writesMoves, FindsDerivation, stepEdges, stepMoves, moveGives, entryGives, Finds}
+use Rattle.first_derivation.specs.Premises.{writesEdges, writesMoves, FindsDerivation, stepEdges, stepMoves, moveGives, entryGives, Finds, TriesPremise, premiseOf, FindsMove}
 
 -- ---- a premise is found, or none
 
 number-of : (i : ℕ) (t : Bool) (o : Option Numbers) → isSome (onlyIf t (Option·map (withPremise i) o)) ≡ true
-    → some i ≡ Option·map (λ s. firstOrZero (s .premise)) (onlyIf t (Option·map (withPremise i) o))
+    → some i ≡ premiseOf (onlyIf t (Option·map (withPremise i) o))
 unfolding isSome onlyIf firstOrZero
 number-of i true none h = absurd (false≢true h)
 number-of i true (some n) h = refl
 number-of i false o h = absurd (false≢true h)
 
 module _ (A : Automaton) (op : Operation) where
-  pub finds-by : {o : Option PremiseNumbers} {es₀ es ms₀ ms : List ℕ} (i : ℕ) → some i ≡ Option·map (λ s. firstOrZero (s .premise)) o
+  pub finds-by : {o : Option PremiseNumbers} {es₀ es ms₀ ms : List ℕ} (i : ℕ) → some i ≡ premiseOf o
       → Answers o (stepEdges A op) (stepMoves A op) true es₀ es ms₀ ms → Finds A op o (By i) es₀ es ms₀ ms
   unfolding isSome
   finds-by i e h = record { number = e; written = h }
 
   pub finds-nothing : {o : Option PremiseNumbers} (es ms : List ℕ) → o ≡ none → Finds A op o Nothing es es ms ms
   unfolding isSome
-  finds-nothing es ms e = record { number = ap (Option·map (λ s. firstOrZero (s .premise))) (sym e); written = answers-none es ms e }
+  finds-nothing es ms e = record { number = ap premiseOf (sym e); written = answers-none es ms e }
 
   pub finds-from : {o : Option PremiseNumbers} {r : Premise} {es₀ es fs ms₀ ms ns : List ℕ} → Unchanged es₀ es → Unchanged ms₀ ms → Finds A op o r es fs ms ns → Finds A op o r es₀ fs ms₀ ns
   finds-from h k f = record { number = f .number; written = answers-from h k (f .written) }
@@ -67,14 +67,14 @@ module _ (z : Table) (inner entries moves : List ℕ) (a : ℕ) (x : Result) (op
 
   -- the premise that the loop found
   pub move-found : {i : ℕ} {es₀ es ms₀ ms : List ℕ} → NotFoundBelow (z .moves) (moveGives A a x op p′ b) i → i < z .moves
-      → Answers (moveGives A a x op p′ b i) (stepEdges A op) (stepMoves A op) true es₀ es ms₀ ms
-      → Finds A op (firstMove A a x op p′ b) (By i) es₀ es ms₀ ms
+      → TriesPremise A a x op p′ b i true es₀ es ms₀ ms
+      → FindsMove A a x op p′ b (By i) es₀ es ms₀ ms
   unfolding moveGives
   move-found {i} h l g =
       let s : isSome (moveGives A a x op p′ b i) ≡ true = sym (g .edges .success) in
       let e : firstMove A a x op p′ b ≡ moveGives A a x op p′ b i = moves-below ∙ passed-hit h l s in
       finds-by A op i
-      (number-of i (eqb (moveAt A i .symbol) b && entryOf A p′ (moveAt A i .state)) (byMove A a x op i) s ∙ ap (Option·map (λ u. firstOrZero (u .premise))) (sym e))
+      (number-of i (eqb (moveAt A i .symbol) b && entryOf A p′ (moveAt A i .state)) (byMove A a x op i) s ∙ ap premiseOf (sym e))
       (answers-eq e g)
 
   module _ (i : ℕ) (below : i < z .moves) (m : Move) (is : m ≡ rowAt moveRow moves i) where
@@ -93,7 +93,7 @@ module _ (z : Table) (inner entries moves : List ℕ) (a : ℕ) (x : Result) (op
     other-entry e h = gives-is ∙ onlyIf-no _ _ (ap₂ _&&_ (eq-eqb (m .symbol) b e) h)
 
     pub move-gives : {t : Bool} {es₀ es ms₀ ms : List ℕ} → m .symbol ≡ b → entryOf (tableOf z entries []) p′ (m .state) ≡ true
-        → FindsDerivation A op i (byMove A a x op i) t es₀ es ms₀ ms → Answers (moveGives A a x op p′ b i) (stepEdges A op) (stepMoves A op) t es₀ es ms₀ ms
+        → FindsDerivation A a x op i t es₀ es ms₀ ms → TriesPremise A a x op p′ b i t es₀ es ms₀ ms
     unfolding entryOf entryAt stepEdges stepMoves firstOrZero
     move-gives e h g =
         answers-eq (gives-is ∙ onlyIf-yes _ _ (ap₂ _&&_ (eq-eqb (m .symbol) b e) h))
@@ -122,11 +122,11 @@ module _ (z : Table) (entries : List ℕ) (x : Result) (joins : ℕ → Joins) (
       ∙ ap (λ (k : ℕ). firstBelow k (entryGives E x joins p′)) (length-rowsIn entryRow (z .entries) entries)
 
   pub entry-found : {e : ℕ} → NotFoundBelow (z .entries) (entryGives E x joins p′) e → e < z .entries → isSome (entryGives E x joins p′ e) ≡ true
-      → some e ≡ Option·map (λ s. firstOrZero (s .premise)) (firstEntry E x joins p′)
+      → some e ≡ premiseOf (firstEntry E x joins p′)
   unfolding entryGives
   entry-found {e} h l s =
       number-of e (eqb (getD (E .entries) e noEntry .control) p′) (byEntry E x joins e) s
-      ∙ ap (Option·map (λ u. firstOrZero (u .premise))) (sym (entries-below ∙ passed-hit h l s))
+      ∙ ap premiseOf (sym (entries-below ∙ passed-hit h l s))
 
   module _ (e : ℕ) (below : e < z .entries) (g : Entry) (is : g ≡ rowAt entryRow entries e) where
     entry-is : getD (E .entries) e noEntry ≡ g

@@ -37,7 +37,7 @@ abbrev μ-first-reading : Measures 2 first-reading-kinds.ps ℕ
 μ-first-reading κs a = length (members (a .1 .1 .1 .0)) * 2
 
 abbrev μ-read-with : Measures 2 read-with-kinds.ps ℕ
-μ-read-with κs a = length (members (a .1 .1 .1 .1 .0)) * 2 + 1
+μ-read-with κs a = length (members (a .1 .1 .1 .0 .others)) * 2 + 1
 
 abbrev first-reading-at : ℕ → In 2 first-reading-kinds.ps
 first-reading-at t =
@@ -85,10 +85,11 @@ read-with-claims t = (
 )
 
 abbrev first-reading-Inv-loop : first-reading-lts.InvT-loop
-first-reading-Inv-loop moves n a left order b r x chosen₀ q others i₀ chosen i = NotFoundBelow n (tried (movesIn n moves) a (wanted (asResult x)) q (members others) (theJoins order b r)) i × Unchanged chosen₀ chosen
+first-reading-Inv-loop moves n a left order b r x chosen₀ part i₀ chosen i =
+    NotFoundBelow n (tried (movesIn n moves) a (wanted (asResult x)) (part .member) (members (part .others)) (theJoins order b r)) i × Unchanged chosen₀ chosen
 
 abbrev first-reading-μ-loop : first-reading-lts.MeasureT-loop
-first-reading-μ-loop moves n a left order b r x chosen₀ q others i₀ chosen i = n - i
+first-reading-μ-loop moves n a left order b r x chosen₀ part i₀ chosen i = n - i
 
 first-reading-is-wanted-requires : (t : ℕ) → first-reading-lts.Need-is-wanted-requires (first-reading-claims t) (first-reading-at t) first-reading.Post first-reading-Inv-loop first-reading-μ-loop
 first-reading-is-wanted-requires t c κs = search needs
@@ -150,7 +151,7 @@ read-with-enum-told t c = search needs
 read-with-returns : (t : ℕ) → read-with-lts.Need-returns (read-with-claims t) (read-with-at t) read-with.Post
 read-with-returns t c =
     let x = c .before .before in
-    tried-nothing _ _ _ _ _ _ _ _ (x .before .before .before .before .before .pre .1 .2) _ _ _ (x .before .before .move-at .ensures) (x .before .candidate .ensures) (x .parts-within .ensures) _ (ap asJoined (c .enum-told .given .1))
+    tried-nothing _ _ _ _ _ _ _ _ (x .before .before .before .before .before .pre .1 .1) _ _ _ (x .before .before .move-at .ensures) (x .before .candidate .ensures) (x .parts-within .ensures) _ (ap asJoined (c .enum-told .given .1))
 
 read-with-first-reading-requires : (t : ℕ) → read-with-lts.Need-first-reading-requires (read-with-claims t) (read-with-at t) read-with.Post
 read-with-first-reading-requires t c κs = search needs
@@ -170,7 +171,7 @@ read-with-same-length t c = search needs
 read-with-returns-2 : (t : ℕ) → read-with-lts.Need-returns-2 (read-with-claims t) (read-with-at t) read-with.Post
 read-with-returns-2 t c =
     let x = c .before .before .before .before .before .before .before .before in
-    tried-yes _ _ _ _ _ _ _ _ (x .before .before .before .before .before .pre .1 .2) _ _ _ (x .before .before .move-at .ensures) (x .before .candidate .ensures) (x .parts-within .ensures) _ _ _ (ap asJoined (c .before .before .before .before .before .before .k .given .1))
+    tried-yes _ _ _ _ _ _ _ _ (x .before .before .before .before .before .pre .1 .1) _ _ _ (x .before .before .move-at .ensures) (x .before .candidate .ensures) (x .parts-within .ensures) _ _ _ (ap asJoined (c .before .before .before .before .before .before .k .given .1))
     (answer-is (c .if1 .taken) (c .before .before .before .first-reading .ensures))
 
 read-with-same-length-2 : (t : ℕ) → read-with-lts.Need-same-length-2 (read-with-claims t) (read-with-at t) read-with.Post
@@ -179,7 +180,7 @@ read-with-same-length-2 t c = search needs
 read-with-returns-3 : (t : ℕ) → read-with-lts.Need-returns-3 (read-with-claims t) (read-with-at t) read-with.Post
 read-with-returns-3 t c =
     let x = c .before .before .before .before .before .before .before .before in
-    tried-no _ _ _ _ _ _ _ _ (x .before .before .before .before .before .pre .1 .2) _ _ _ (x .before .before .move-at .ensures) (x .before .candidate .ensures) (x .parts-within .ensures) _ _ _ (ap asJoined (c .before .before .before .before .before .before .k .given .1))
+    tried-no _ _ _ _ _ _ _ _ (x .before .before .before .before .before .pre .1 .1) _ _ _ (x .before .before .move-at .ensures) (x .before .candidate .ensures) (x .parts-within .ensures) _ _ _ (ap asJoined (c .before .before .before .before .before .before .k .given .1))
     (answer-is (c .if1 .left) (c .before .before .before .first-reading .ensures))
 
 pub +first-reading+read-with-spec : {M : Type 1} → statement M

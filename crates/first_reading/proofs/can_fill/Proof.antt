@@ -11,10 +11,10 @@ use Rattle.first_reading.proofs.can_fill.Statement.{statement}
 use Rattle.first_reading.proofs.can_fill.Tie as tie
 
 abbrev Inv-loop : tie.InvT-loop
-Inv-loop moves n a left order b r x j z₀ i₀ z i = ReachBelow moves a (asResult x) left (theJoins order b r) n i z
+Inv-loop moves n a left order b r x z₀ i₀ z i = ReachBelow moves a (asResult x) left (theJoins order b r) n i z
 
 abbrev μ-loop : tie.MeasureT-loop
-μ-loop moves n a left order b r x j z₀ i₀ z i = n - i
+μ-loop moves n a left order b r x z₀ i₀ z i = n - i
 
 loop-holds : tie.Need-loop-holds Inv-loop μ-loop
 loop-holds c = reach-none _ _ _ _ _ _

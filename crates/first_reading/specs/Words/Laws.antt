@@ -1,17 +1,21 @@
 -- What holds of the words of the code.
 -- Assumes nothing.
+use Prim.Native.Nat.{ℕ}
 use mathlib.Core.Bool.{Bool, true, false, _&&_, and-true}
 use mathlib.Core.Path.{_≡_, refl, ap₂, _∙_}
 use mathlib.Core.Option.{none, some}
-use mathlib.Core.List.{[], _∷_}
+use mathlib.Core.List.{List, [], _∷_}
 use lib.Dec.{eqb}
 use borrow.Author.Tests.{eq-eqb, ne-eqb}
 use Rattle.words.specs.Sets.{partOf}
 use Rattle.words.specs.Order.{same}
 use Rattle.automata.specs.Derivation.{Result, Joins}
+use Rattle.tables.specs.declared.Table.{Table}
 use Rattle.first_reading.specs.First.{onlyIf}
+use Rattle.first_reading.specs.Answer.{Unchanged}
 use Rattle.first_reading.specs.Search.{joinsKey, wanted, within}
 use Rattle.first_reading.specs.Search.Laws.{same-cons}
+use Rattle.first_reading.specs.Words.{ReadyToSearch}
 
 -- ---- joins that are parts
 
@@ -49,3 +53,15 @@ module _ (j : Joins) (x : Result) where
       same-cons (j .order) (x .order) (j .B ∷ j .R ∷ []) (x .B ∷ x .R ∷ [])
       ∙ ap₂ _&&_ (eq-eqb (j .order) (x .order) e) (same-cons (j .B) (x .B) (j .R ∷ []) (x .R ∷ []) ∙ ap₂ _&&_ (eq-eqb (j .B) (x .B) f) (same-cons (j .R) (x .R) [] []))
       ∙ and-true (eqb (j .R) (x .R))
+
+-- ---- what the searches are given
+
+-- slices that are as they were have their words still
+pub ready-still : {z : Table} {inner entries moves es₀ es ms₀ ms : List ℕ} → ReadyToSearch z inner entries moves es₀ ms₀ → Unchanged es₀ es → Unchanged ms₀ ms
+    → ReadyToSearch z inner entries moves es ms
+ready-still h e m =
+    record {
+      tables-within = h .tables-within;
+      word-for-each-edge = e .long ∙ h .word-for-each-edge;
+      word-for-each-move = m .long ∙ h .word-for-each-move;
+    }

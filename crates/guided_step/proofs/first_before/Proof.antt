@@ -15,7 +15,11 @@ result-of-requires : tie.Need-result-of-requires
 result-of-requires c κs = search needs
 
 first-derivation-requires : tie.Need-first-derivation-requires
-first-derivation-requires c κs = (before-stands (c .before .before .before .before .before .before .before .before .before .before .before .before .args .z) _ _ _ _ _ _ (c .before .before .before .before .table-before .ensures) (c .before .before .before .before .before .before .before .before .before .before .before .before .pre .0 .0), c .before .before .before .before .before .before .before .before .before .before .before .before .pre .0 .1, c .before .before .before .before .before .before .before .before .before .before .before .before .pre .1 .0, c .before .before .before .before .before .before .before .before .before .before .before .before .pre .1 .1)
+first-derivation-requires c κs =
+    let start = c .before .before .before .before .before .before .before .before .before .before .before .before in
+    let asked = start .pre in
+    let tables = before-stands (start .args .z) _ _ _ _ _ _ (c .before .before .before .before .table-before .ensures) (asked .0 .0) in
+    (record { tables-within = tables; word-for-each-edge = asked .1 .0; word-for-each-move = asked .1 .1 }, asked .0 .1)
 
 same-length : tie.Need-same-length
 same-length c = search needs
