@@ -111,7 +111,7 @@ fn by_move(
 }
 
 // The number of a premise (0 where the rule has none), or that there is no derivation.
-pub enum Premise {
+enum Premise {
     Nothing,
     By(u64),
 }
@@ -180,7 +180,7 @@ fn first_move(
 fn is_single(n: u64, s: u64) -> bool
     ensures { λ t. ⌜ t ≡ eqb (single n) s ⌝ }
 {
-    if (Limits::STATES1 as u64) <= n {
+    if (Limits::WORD_BITS as u64) <= n {
         return false;
     }
     sets::one_bit(n) == s

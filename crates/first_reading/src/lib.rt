@@ -13,6 +13,7 @@ ghost use Rattle.first_reading.specs.Words.{movesIn, ReadyToRead, ReadyT
 ghost use Rattle.first_reading.specs.Reach.{reachWith, canFill};
 use joins::Joined;
 use joins::Joins;
+use limits::Limits;
 use sets::Split;
 use tables::Move;
 use tables::Result;
@@ -48,10 +49,10 @@ pub fn is_wanted(order: u64, b: u64, r: u64, x: Result) -> bool
 }
 
 // What moves reach together: the states that they are of, and their sets, joined.
-pub struct Reach {
-    pub states: u64,
-    pub b: u64,
-    pub r: u64,
+struct Reach {
+    states: u64,
+    b: u64,
+    r: u64,
 }
 
 // What z and move m reach, where m is a move on a of a state left that joins to (order, b, r) within the sets of x, and z otherwise.
@@ -59,7 +60,7 @@ fn reach_with(z: Reach, m: Move, a: u64, left: u64, order: u64, b: u64, r: u64, 
     ensures { λ y. ⌜ y ≡ reachWith a (asResult x) left (theJoins order b r) z (asMove m) ⌝ }
 {
     let q = m.state;
-    if 64 <= q {
+    if (Limits::WORD_BITS as u64) <= q {
         return z;
     }
     if !sets::has(left, q) {

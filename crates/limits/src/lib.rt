@@ -22,6 +22,9 @@ impl Limits {
 
     pub const STATES1: usize = 64;
 
+    // The bits of a word: the members that a set can have are below it.
+    pub const WORD_BITS: usize = 64;
+
     // ---- as many rounds are all rounds: each but the last adds a move
 
     pub const ALL_ROUNDS: u64 = 1025;
