@@ -171,8 +171,9 @@ follow-part-of-requires t c κs = search needs
 
 follow-returns-2 : (t : ℕ) → follow-lts.Need-returns-2 (follow-claims t) (follow-at t) follow.Post
 follow-returns-2 t c =
+    let s = c .before .before .before .before .before .before .before .before .before .before .before .args .s in
     let no-part = sym (c .before .part-of .ensures) ∙ not-true _ (c .if2 .taken) in
-    answers-none _ _ (followed-no-part _ _ _ _ _ _ _ _ _ _ _ _ _ (c .before .before .before .before .before .edge-of .ensures .0) (c .before .before .before .if1 .left) (c .before .before .join .ensures) no-part)
+    answers-none _ _ (followed-no-part _ _ _ _ _ _ _ _ _ _ s _ _ (c .before .before .before .before .before .edge-of .ensures .0) (c .before .before .before .if1 .left) (c .before .before .join .ensures) no-part)
 
 follow-one-bit-requires : (t : ℕ) → follow-lts.Need-one-bit-requires (follow-claims t) (follow-at t) follow.Post
 follow-one-bit-requires t c κs = search needs
