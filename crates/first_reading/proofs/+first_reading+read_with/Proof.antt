@@ -110,13 +110,19 @@ first-reading-loop-holds : (t : ℕ) → first-reading-lts.Need-loop-holds (firs
 first-reading-loop-holds t c = (passed-none, same-refl _)
 
 first-reading-read-with-requires : (t : ℕ) → first-reading-lts.Need-read-with-requires (first-reading-claims t) (first-reading-at t) first-reading.Post first-reading-Inv-loop first-reading-μ-loop
-first-reading-read-with-requires t c κs = (fewer-left _ _ _ _ (c .before .before .before .least-member .ensures .0) (c .before .before .before .before .before .before .before .before .before .pre .0), search needs)
+first-reading-read-with-requires t c κs =
+    (fewer-left _ _ _ _ (c .before .before .before .least-member .ensures .0) (c .before .before .before .before .before .before .before .before .before .pre .0), search needs)
 
 first-reading-same-length : (t : ℕ) → first-reading-lts.Need-same-length (first-reading-claims t) (first-reading-at t) first-reading.Post first-reading-Inv-loop first-reading-μ-loop
 first-reading-same-length t c = search needs
 
 first-reading-returns-3 : (t : ℕ) → first-reading-lts.Need-returns-3 (first-reading-claims t) (first-reading-at t) first-reading.Post first-reading-Inv-loop first-reading-μ-loop
-first-reading-returns-3 t c = answer-from (c .before .before .before .before .before .before .loop .inv .1) (answer-states (c .before .before .before .before .before .before .before .least-member .ensures .0) (answer-eq (reading-below _ _ _ _ _ _ _ _ (c .before .before .before .before .before .before .before .least-member .ensures .0) ∙ passed-hit (c .before .before .before .before .before .before .loop .inv .0) (c .before .before .before .before .before .loop-test .taken) (sym (c .before .before .before .read-with .ensures .success) ∙ c .if3 .taken)) (answer-is (c .if3 .taken) (c .before .before .before .read-with .ensures))))
+first-reading-returns-3 t c =
+    let inv = c .before .before .before .before .before .before .loop .inv in
+    let least = c .before .before .before .before .before .before .before .least-member .ensures .0 in
+    let found = c .before .before .before .read-with .ensures in
+    let hit = reading-below _ _ _ _ _ _ _ _ least ∙ passed-hit (inv .0) (c .before .before .before .before .before .loop-test .taken) (sym (found .success) ∙ c .if3 .taken) in
+    answer-from (inv .1) (answer-states least (answer-eq hit (answer-is (c .if3 .taken) found)))
 
 first-reading-add-i : (t : ℕ) → first-reading-lts.Need-add-i (first-reading-claims t) (first-reading-at t) first-reading.Post first-reading-Inv-loop first-reading-μ-loop
 first-reading-add-i t c = search needs
@@ -125,13 +131,19 @@ first-reading-loop-less : (t : ℕ) → first-reading-lts.Need-loop-less (first-
 first-reading-loop-less t c = search needs
 
 first-reading-loop-again : (t : ℕ) → first-reading-lts.Need-loop-again (first-reading-claims t) (first-reading-at t) first-reading.Post first-reading-Inv-loop first-reading-μ-loop
-first-reading-loop-again t c = let f = answer-fails (answer-is (c .if3 .left) (c .before .before .before .read-with .ensures)) in (passed-more (c .before .before .before .before .before .before .loop .inv .0) (c .before .before .before .before .before .loop-test .taken) (f .0), same-after (c .before .before .before .before .before .before .loop .inv .1) (f .1))
+first-reading-loop-again t c =
+    let inv = c .before .before .before .before .before .before .loop .inv in
+    let f = answer-fails (answer-is (c .if3 .left) (c .before .before .before .read-with .ensures)) in
+    (passed-more (inv .0) (c .before .before .before .before .before .loop-test .taken) (f .0), same-after (inv .1) (f .1))
 
 first-reading-same-length-2 : (t : ℕ) → first-reading-lts.Need-same-length-2 (first-reading-claims t) (first-reading-at t) first-reading.Post first-reading-Inv-loop first-reading-μ-loop
 first-reading-same-length-2 t c = search needs
 
 first-reading-returns-4 : (t : ℕ) → first-reading-lts.Need-returns-4 (first-reading-claims t) (first-reading-at t) first-reading.Post first-reading-Inv-loop first-reading-μ-loop
-first-reading-returns-4 t c = answer-from (c .before .loop .inv .1) (answer-none _ (reading-below _ _ _ _ _ _ _ _ (c .before .before .least-member .ensures .0) ∙ passed-all (c .before .loop .inv .0) (c .loop-test .left)))
+first-reading-returns-4 t c =
+    let inv = c .before .loop .inv in
+    let missed = reading-below _ _ _ _ _ _ _ _ (c .before .before .least-member .ensures .0) ∙ passed-all (inv .0) (c .loop-test .left) in
+    answer-from (inv .1) (answer-none _ missed)
 
 read-with-move-at-requires : (t : ℕ) → read-with-lts.Need-move-at-requires (read-with-claims t) (read-with-at t) read-with.Post
 read-with-move-at-requires t c κs = search needs
