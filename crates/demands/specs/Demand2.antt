@@ -22,6 +22,7 @@ use Rattle.services.specs.Guide.{GuideInput, guideLent, guideFiles, guideServic
 use Rattle.demands.specs.Reach.{Runs, acceptedIn, WonIn, AddsMove, AddsNothing, Marks}
 use Rattle.demands.specs.Size.{Exceeds, ExceedsIn}
 use Rattle.demands.specs.Refusals.{Returned, judgeRefusals, guideRefusals}
+use Rattle.demands.specs.Demand1.{JudgeStates}
 
 -- ---- words
 
@@ -76,17 +77,33 @@ unfoldable pub withRounds : JudgeInput → ℕ → JudgeInput
 withRounds x rounds =
     record { case = x .case; start = x .start; rounds = rounds; moves = x .moves; entries = x .entries; answers = x .answers }
 
--- "Raising n never changes a yes or a no while the table fits": where judge with more rounds does not refuse, it does not with fewer, and a word
--- that is not open stays.
-abbrev pub RaisingKeeps : Type 0
-RaisingKeeps = (x : JudgeInput) (more : ℕ) → x .rounds ≤ more → judgeService (withRounds x more) .code ≡ 0
-    → (judgeService x .code ≡ 0)
-    × ((n : ℕ) → n < length (startsOf (x .start)) → (getD (judgeService x .answers) n 0 ≡ openWord → ⊥)
-    → getD (judgeService (withRounds x more) .answers) n 0 ≡ getD (judgeService x .answers) n 0)
+-- "Raising n never changes a yes or a no while the table fits": where no number of the table of refusals applies to x with more rounds, the answer d
+-- to x and the answer e to x with more rounds are 0, and a word of d that is not open is the same in e.
+pub record WordsStay (x : JudgeInput) (d e : JudgeDone) : Type 0 where
+  pub judged : d .code ≡ 0
+  pub judged-raised : e .code ≡ 0
+  pub each-stays : (n : ℕ) → n < length (startsOf (x .start)) → (getD (d .answers) n 0 ≡ openWord → ⊥) → getD (e .answers) n 0 ≡ getD (d .answers) n 0
 
--- All rounds: where judge does not refuse, nothing is left to add after more than 1,024 rounds, nor after 1,024 if the case has a move of its own.
+abbrev pub RaisedStays : JudgeInput → ℕ → JudgeDone → JudgeDone → Type 0
+RaisedStays x more d e = x .rounds ≤ more → Returned judgeRefusals (withRounds x more) 0 → WordsStay x d e
+
+-- of any two answers that meet demand 1
+abbrev pub RaisingKeeps : Type 0
+RaisingKeeps = (x : JudgeInput) (more : ℕ) (d e : JudgeDone) → JudgeStates x d → JudgeStates (withRounds x more) e → RaisedStays x more d e
+
+-- All rounds: where no number applies, nothing is left to add after more than 1,024 rounds, nor after 1,024 if the case has a move of its own; the
+-- answer is 0, and no word of it is open.
+pub record NoneOpen (x : JudgeInput) (d : JudgeDone) : Type 0 where
+  pub judged : d .code ≡ 0
+  pub nothing-left : AddsNothing (x .case) (x .rounds)
+  pub each-decided : (n : ℕ) → getD (d .answers) n 0 ≡ openWord → ⊥
+
+abbrev pub AllRunDecides : JudgeInput → JudgeDone → Type 0
+AllRunDecides x d = Returned judgeRefusals x 0 → 1024 < x .rounds + length (ownOf (x .case) .moves) → NoneOpen x d
+
+-- of any answer that meets demand 1
 abbrev pub AllRounds : Type 0
-AllRounds = (x : JudgeInput) → judgeService x .code ≡ 0 → 1024 < x .rounds + length (ownOf (x .case) .moves) → AddsNothing (x .case) (x .rounds)
+AllRounds = (x : JudgeInput) (d : JudgeDone) → JudgeStates x d → AllRunDecides x d
 
 abbrev pub Demand2Rounds : Type 0
 Demand2Rounds = RoundsWithin × ((x : JudgeInput) → WordsWithin x (judgeService x .answers)) × RaisingKeeps × AllRounds

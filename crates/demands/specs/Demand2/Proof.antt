@@ -1,7 +1,7 @@
 -- Demand 2, proved: words and runs by what demand 1 says of each answer, rounds by those that add no move, and 9 by the size of the table of the
 -- rounds run.
 -- Assumes nothing.
-use Prim.Native.Nat.{ℕ, zero, suc, _≤_, _<_}
+use Prim.Native.Nat.{ℕ, zero, suc, _+_, _≤_, _<_}
 use mathlib.Core.Path.{_≡_, refl, ap, sym, _∙_, subst}
 use mathlib.Core.Logic.{_↔_}
 use mathlib.Core.Option.{Option, none, some, Option·none-ne-some}
@@ -9,7 +9,7 @@ use native.Mathlib.Nat.{lt-irrefl, lt-of-lt-of-le}
 use native.Mathlib.Omega.{arith}
 use mathlib.Core.Bool.{true, false≢true, false}
 use mathlib.Core.List.{List}
-use lib.ListN.{length, getD}
+use lib.ListN.{length, getD, List·getD-eq-default}
 use lib.Dec.{leb, ltb}
 use borrow.Author.Tests.{eqb-false, leb-true, leb-false, ltb-true, ltb-false}
 use Rattle.words.specs.Laws.Tests.{by-test}
@@ -40,7 +40,7 @@ use Rattle.demands.specs.Size.{Exceeds, ExceedsIn}
 use Rattle.demands.specs.Size.Laws.{none-exceeds, exceeds-none, none-exceeds-in, exceeds-in-none, in-exceeds}
 use Rattle.demands.specs.Refusals.{Returned, refusal, StartMissing, caseRefusals, startRefusals, judgeRefusals, guideRefusals}
 use Rattle.demands.specs.Refusals.Laws.{returned-one, unreturned, unlisted, returned-after}
-use Rattle.demands.specs.Demand1.{JudgeStates, Answered}
+use Rattle.demands.specs.Demand1.{Marked, JudgeStates, Answered}
 use Rattle.demands.specs.Demand1.Proof.{demand1-judge, demand1-guide}
 use Rattle.demands.specs.Demand2.{judgeFor, JudgeMarks, GuideRuns, Demand2, AddsNothing, RoundsWithin, WordsWithin, Demand2Rounds, SaturateSize, JudgeSize, GuideSize, Demand2Size, withRounds, RaisingKeeps, AllRounds}
 use Rattle.demands.specs.Laws.Accepted.{table-marks, WordOf, no-word, word-of, answer-word, is-saturated, table-after, mark-few}
@@ -231,20 +231,28 @@ raised-fits x more l c = go (judgeService (withRounds x more)) (judge-cases (wit
     go e (JudgeCase.size-exceeded s f h o) z = absurd (eqb-false 9 0 refl z)
     go e (judged T s f h o) z = fewer T s f h o (judgeService x) (judge-cases x)
 
+-- where no number applies, judge answers 0, and the other way round
+unrefused-judged : (x : JudgeInput) → Returned judgeRefusals x 0 → judgeService x .code ≡ 0
+unrefused-judged x r = returned-one judgeRefusals x (demand1-judge x .number) r
+
+judged-unrefused : (x : JudgeInput) → judgeService x .code ≡ 0 → Returned judgeRefusals x 0
+judged-unrefused x z = subst (Returned judgeRefusals x) z (demand1-judge x .number)
+
 pub raising-keeps : RaisingKeeps
 unfolding withRounds
-raising-keeps x more l c = (fits, λ n h o. raised (x .case) (x .start) (x .rounds) more n _ _ l (word x fits n h) (word (withRounds x more) c n h) o)
-  where
-    fits : judgeService x .code ≡ 0
-    fits = raised-fits x more l c
+raising-keeps x more d e s t l r =
+    let few = states-marks x d s (judged-unrefused x (raised-fits x more l (unrefused-judged (withRounds x more) r))) in
+    let many = states-marks (withRounds x more) e t r in
+    record {
+      judged = few .judged;
+      judged-raised = many .judged;
+      each-stays = λ n h o. raised (x .case) (x .start) (x .rounds) more n _ _ l (few .each-mark n h) (many .each-mark n h) o;
+    }
 
-    word : (y : JudgeInput) → judgeService y .code ≡ 0 → (n : ℕ) → n < length (startsOf (y .start))
-        → Marks (y .case) (y .start) (y .rounds) n (getD (judgeService y .answers) n 0)
-    word y z n h = judge-marks y (subst (Returned judgeRefusals y) z (demand1-judge y .number)) .each-mark n h
-
-pub all-rounds : AllRounds
+-- where judge does not refuse, nothing is left to add after all rounds
+all-run : (x : JudgeInput) → judgeService x .code ≡ 0 → 1024 < x .rounds + length (ownOf (x .case) .moves) → AddsNothing (x .case) (x .rounds)
 unfolding judgeLeft judgeLent
-all-rounds x c h = go (judgeService x) (judge-cases x) c
+all-run x c h = go (judgeService x) (judge-cases x) c
   where
     go : (d : JudgeDone) → JudgeCase x d → d .code ≡ 0 → AddsNothing (x .case) (x .rounds)
     go d (JudgeCase.case-refused bad) z = absurd (bad z)
@@ -254,6 +262,23 @@ all-rounds x c h = go (judgeService x) (judge-cases x) c
     go d (judged T s f k o) z =
         let closed = all-closed (rulesOf (x .case)) (lent (x .moves) (x .entries)) (ownOf (x .case)) (is-saturated (judgeLent x) (x .rounds) o) h in
         closed-is-nothing (x .case) (x .rounds) (subst (Closed (rulesOf (x .case))) (table-after (judgeLent x) (x .rounds) o) closed)
+
+pub all-rounds : AllRounds
+all-rounds x d s r h =
+    let z : d .code ≡ 0 = returned-one judgeRefusals x (s .number) r in
+    let still : AddsNothing (x .case) (x .rounds) = all-run x (unrefused-judged x r) h in
+    record { judged = z; nothing-left = still; each-decided = λ n o. decided still (s .done z) n o }
+  where
+    -- a start's word is not open, and behind those of the starts every word is 0
+    decided : AddsNothing (x .case) (x .rounds) → Marked x (d .answers) → (n : ℕ) → getD (d .answers) n 0 ≡ openWord → ⊥
+    decided still m n o =
+        let w : getD (m .marks) n 0 ≡ openWord =
+        sym (ap (λ (l : List ℕ). getD l n 0) (m .answers-are) ∙ getD-padded (x .answers) (m .marks) n) ∙ o in
+        by-test (ltb n (length (startsOf (x .start))))
+        (λ t. adds-not (x .case) (x .rounds) (m .each-mark n (ltb-true _ _ t) .is-open .0 w .1) still)
+        (λ t.
+        let l : length (startsOf (x .start)) ≤ n = ltb-false _ _ t in
+        eqb-false 0 openWord refl (sym (List·getD-eq-default (m .marks) 0 (subst (λ (k : ℕ). k ≤ n) (sym (m .one-a-start)) l)) ∙ w))
 
 pub demand2-rounds : Demand2Rounds
 demand2-rounds = (rounds-within, words-within, raising-keeps, all-rounds)

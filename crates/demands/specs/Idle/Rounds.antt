@@ -6,7 +6,7 @@ use mathlib.Core.Bool.{false≢true}
 use mathlib.Core.Path.{_≡_, refl, ap, sym, _∙_, subst}
 use mathlib.Core.List.{List, [], _∷_}
 use lib.ListN.{getD}
-use lib.Dec.{lit<}
+use lib.Dec.{lit<, lit≤}
 use borrow.Author.Tests.{eqb-false}
 use Rattle.automata.specs.Saturation.{allRounds}
 use Rattle.replies.specs.declared.Halt.{Halt}
@@ -23,11 +23,11 @@ use Rattle.demands.specs.Refusals.{Returned, judgeRefusals, guideRefusal
 use Rattle.demands.specs.Refusals.Laws.{returned-one}
 use Rattle.demands.specs.Demand1.{JudgeStates, Answered, GuideStates}
 use Rattle.demands.specs.Demand1.Proof.{demand1-judge, demand1-guide}
-use Rattle.demands.specs.Demand2.{judgeFor, JudgeMarks}
+use Rattle.demands.specs.Demand2.{judgeFor, JudgeMarks, withRounds, RaisedStays, AllRunDecides}
 use Rattle.demands.specs.Demand2.Proof.{judge-marks}
 use Rattle.demands.specs.Demand3.{MarkedYes, Guides}
 use Rattle.demands.specs.Determined.{judge-only, run-only}
-use Rattle.demands.specs.Instances.{inputA}
+use Rattle.demands.specs.Instances.{inputA, unrefused-A}
 
 -- ---- the inputs: model A in one round and in two, with two moves and two entries lent, or three
 
@@ -146,3 +146,14 @@ pub chooses-by-all-rounds : (d : GuideDone) → d .trace ≡ 1 ∷ 2 ∷ 0 ∷ [
 unfolding computed guideWays
 chooses-by-all-rounds d e g =
     eqb-false 1 0 refl (ap (λ (l : List ℕ). getD l 0 0) (sym e ∙ run-only guideWays d 3 marked-ways g .1))
+
+-- ---- everything refused, whatever the number: read alone, what is stated of raised rounds and of all rounds needs answers that are 0
+
+pub refuses-raised : (judge : JudgeInput → JudgeDone) → ((x : JudgeInput) → judge x .code ≡ 0 → ⊥)
+    → ((x : JudgeInput) (more : ℕ) → RaisedStays x more (judge x) (judge (withRounds x more))) → ⊥
+unfolding inputTwo withRounds
+refuses-raised judge bad stays = bad (withRounds inputTwo 1) (stays (withRounds inputTwo 1) 2 (lit≤ tt) unrefused-two .judged)
+
+pub refuses-all-rounds : (judge : JudgeInput → JudgeDone) → ((x : JudgeInput) → judge x .code ≡ 0 → ⊥) → ((x : JudgeInput) → AllRunDecides x (judge x)) → ⊥
+unfolding computed inputA
+refuses-all-rounds judge bad decides = bad inputA (decides inputA unrefused-A (lit< tt) .judged)
