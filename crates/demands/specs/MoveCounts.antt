@@ -1,16 +1,23 @@
--- Document 02, 7: "How many moves an entry has". What an answer of saturate tells of it in the words of the lent tables alone, and what the
--- listing's line `most` says of them. The proofs are in MoveCounts/Proof.antt.
+-- Document 02, 7: "How many moves an entry has". What every answer of saturate tells of it in the words of the lent tables alone, and what the second
+-- line of the listing says of them. The proofs are in MoveCounts/Proof.antt.
 -- Assumes nothing.
 pub mod Proof
 use Prim.Native.Nat.{ℕ, zero, suc, _+_, _*_, _≤_, _<_}
 use mathlib.Core.Bool.{true, false}
 use mathlib.Core.Path.{_≡_}
 use mathlib.Core.Logic.{_⊎_}
-use mathlib.Core.List.{List}
+use mathlib.Core.List.{List, _++_, List·Memᴰ}
 use lib.ListN.{getD, drop}
 use lib.Dec.{eqb}
+use Rattle.automata.specs.Saturation.{allRounds}
 use Rattle.files.specs.Case.{ownOf}
+use Rattle.files.specs.Start.{Files}
 use Rattle.services.specs.Saturate.{Lent, SaturateDone}
+use Rattle.services.specs.Listing.{ascii, decimal, listingLent, listingJudge, listingText}
+use Rattle.demands.specs.Refusals.{Returned, saturateRefusals, judgeRefusals}
+use Rattle.demands.specs.Demand1.{SaturateStates}
+
+-- ---- the third words of entries
 
 -- "the count by walking": of the first n records of a move table, those whose first word, the order-1 state, is r
 unfoldable pub walked : ℕ → ℕ → List ℕ → ℕ
@@ -25,7 +32,33 @@ thirdWord entries i = getD entries (i * 3 + 2) 0
 abbrev pub CountsWalked : Lent → SaturateDone → Type 0
 CountsWalked x d = (i : ℕ) → i < d .reply .entries → thirdWord (d .entries) i ≡ walked (ownOf (x .case) .J + i) (d .reply .moves) (d .moves)
 
+-- Where no number of the table of refusals applies, an answer that meets demand 1 is 0 and has these words.
+abbrev pub AllWalked : Type 0
+AllWalked = (x : Lent) (d : SaturateDone) → SaturateStates x d → Returned saturateRefusals x 0 → (d .reply .code ≡ 0) × CountsWalked x d
+
+-- ---- the listing
+
 -- "The largest such count, 0 without entries": no entry has more, and one has as many, or n is 0.
 pub record LargestCount (d : SaturateDone) (n : ℕ) : Type 0 where
   pub above : (i : ℕ) → i < d .reply .entries → thirdWord (d .entries) i ≤ n
   pub reached : (n ≡ 0) ⊎ ((i : ℕ) × (i < d .reply .entries) × (thirdWord (d .entries) i ≡ n))
+
+-- a line: bytes among which there is no line end, and then one
+pub record Line (bytes : List ℕ) : Type 0 where
+  pub words : List ℕ
+  pub no-end : List·Memᴰ 10 words → ⊥
+  pub then-ends : bytes ≡ words ++ ascii "\n"
+
+-- "A line after its first: `most` and the largest such count": the second line of the text names the largest third word of d's entries.
+pub record SecondIsMost (text : List ℕ) (d : SaturateDone) : Type 0 where
+  pub first : List ℕ
+  pub most : ℕ
+  pub rest : List ℕ
+  pub first-line : Line first
+  pub is-largest : LargestCount d most
+  pub text-is : text ≡ first ++ (ascii "most " ++ decimal most ++ ascii "\n") ++ rest
+
+-- Where no number applies to the files in all rounds, it is so of the listing's text and of any answer of saturate to the case, with the listing's tables
+-- lent, that meets demand 1.
+abbrev pub MostLargest : Type 0
+MostLargest = (f : Files) (d : SaturateDone) → SaturateStates (listingLent f) d → Returned judgeRefusals (listingJudge f allRounds) 0 → SecondIsMost (listingText f) d

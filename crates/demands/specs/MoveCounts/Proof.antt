@@ -1,30 +1,39 @@
--- The words that saturate leaves with the entries are the counts by walking its moves, and the listing's line names the largest of them.
+-- The words that saturate leaves with the entries are the counts by walking its moves, and the second line of the listing names the largest of them.
 -- Assumes nothing.
-use Prim.Native.Nat.{ℕ, suc, _+_, _*_, _≤_, _<_}
+use Prim.Native.Nat.{ℕ, zero, suc, _+_, _*_, _/_, _%_, _≤_, _<_}
+use mathlib.Core.Bool.{true, false≢true}
 use mathlib.Core.Path.{_≡_, refl, ap, sym, _∙_, subst}
 use mathlib.Core.Logic.{_⊎_, inl, inr}
 use mathlib.Core.List.{List, [], _∷_, _++_}
-use mathlib.Core.Option.{some}
+use mathlib.Core.Option.{some, Option·none-ne-some}
 use native.Mathlib.Omega.{arith}
 use lib.ListN.{length, getD}
-use lib.Dec.{eqb}
-use borrow.Author.Tests.{eqb-false}
-use Rattle.words.specs.Lists.{each, only}
-use Rattle.words.specs.Lists.Laws.{only-yes, only-no}
+use lib.Dec.{eqb, leb}
+use borrow.Author.Tests.{eqb-false, eq-eqb, le-leb}
+use Rattle.words.specs.Lists.{each, only, every}
+use Rattle.words.specs.Lists.Laws.{only-yes, only-no, every-append, every-in}
 use Rattle.words.specs.Laws.Tests.{by-test}
 use Rattle.automata.specs.Automaton.{Automaton, Move, noEntry}
 use Rattle.automata.specs.Saturation.{Saturated, allRounds}
+use Rattle.replies.specs.declared.Saturation.{Saturation}
 use Rattle.files.specs.Case.{caseRefusal, ownOf}
+use Rattle.files.specs.Start.{Files, startsOf}
 use Rattle.services.specs.Memory.{padded, moveCount, Counted, withCounts, counted, largest, moveWords, moveTable, entryTable}
 use Rattle.services.specs.Memory.Laws.{getD-padded, length-withCounts}
 use Rattle.services.specs.Memory.Counts.{third-word, withCounts-at, largest-above, largest-reached}
 use Rattle.services.specs.Saturate.{Lent, saturated, SaturateDone, saturateRefused, saturateFilled, saturateService}
 use Rattle.services.specs.Saturate.Laws.{SaturateCase, case-refused, size-exceeded, filled, saturate-cases}
-use Rattle.services.specs.Listing.{largestCount}
+use Rattle.services.specs.Judge.{JudgeDone, judgeLent, judgeLeft, judgeService}
+use Rattle.services.specs.Judge.Laws.{JudgeCase, start-refused, answers-short, judged, judge-cases}
+use Rattle.services.specs.Listing.{ascii, digitsBefore, decimal, listingLent, listingJudge, sizeLine, largestCount, mostLine, startLines, judgedText, listingText}
 use Rattle.demands.specs.Size.Laws.{saturated-table}
+use Rattle.demands.specs.Refusals.{Returned, saturateRefusals, judgeRefusals}
+use Rattle.demands.specs.Refusals.Laws.{returned-one}
 use Rattle.demands.specs.Demand1.{SaturateStates}
+use Rattle.demands.specs.Demand1.Proof.{demand1-saturate}
+use Rattle.demands.specs.Demand2.Proof.{judge-marks}
 use Rattle.demands.specs.Determined.{saturate-only}
-use Rattle.demands.specs.MoveCounts.{walked, thirdWord, CountsWalked, LargestCount}
+use Rattle.demands.specs.MoveCounts.{walked, thirdWord, CountsWalked, AllWalked, LargestCount, Line, SecondIsMost, MostLargest}
 
 -- ---- the words of a table
 
@@ -87,10 +96,11 @@ module _ (x : Lent) where
           let h : i < length (T .table .entries) = omega arith in
           inr (i, h, word-counted (T .table) (x .entries) i h ∙ e ∙ sym is)
 
+  -- every answer that demand 1 leaves, where no number applies
   by-case : (P : SaturateDone → Type 0) → ((T : Saturated) → caseRefusal (x .case) ≡ 0 → saturated x allRounds ≡ some T → P (saturateFilled x T))
-      → (d : SaturateDone) → SaturateStates x d → d .reply .code ≡ 0 → P d
+      → (d : SaturateDone) → SaturateStates x d → Returned saturateRefusals x 0 → P d
   unfolding saturateRefused
-  by-case P f d s c = subst P (sym is) (go (saturateService x) (saturate-cases x) (ap (λ (e : SaturateDone). e .reply .code) (sym is) ∙ c))
+  by-case P f d s r = subst P (sym is) (go (saturateService x) (saturate-cases x) (returned-one saturateRefusals x (demand1-saturate x .number) r))
     where
       is : d ≡ saturateService x
       is = saturate-only x d s
@@ -100,10 +110,85 @@ module _ (x : Lent) where
       go e (size-exceeded _ _) z = absurd (eqb-false 9 0 refl z)
       go e (filled T sound o) z = f T sound o
 
-  -- every answer that demand 1 leaves
-  pub counts-walked : (d : SaturateDone) → SaturateStates x d → d .reply .code ≡ 0 → CountsWalked x d
-  counts-walked =
-      by-case (CountsWalked x) (λ T sound o. filled-walked T (sym (saturated-table x sound o .least-closed .contains-own .same-J)))
+  largest-count : (d : SaturateDone) → SaturateStates x d → Returned saturateRefusals x 0 → LargestCount d (largestCount x)
+  largest-count = by-case (λ (d : SaturateDone). LargestCount d (largestCount x)) (λ T sound o. filled-largest T o)
 
-  pub most-largest : (d : SaturateDone) → SaturateStates x d → d .reply .code ≡ 0 → LargestCount d (largestCount x)
-  most-largest = by-case (λ (d : SaturateDone). LargestCount d (largestCount x)) (λ T sound o. filled-largest T o)
+pub counts-walked : AllWalked
+counts-walked x d s r = (
+  returned-one saturateRefusals x (s .number) r,
+  by-case x (CountsWalked x) (λ T sound o. filled-walked x T (sym (saturated-table x sound o .least-closed .contains-own .same-J))) d s r,
+)
+
+-- ---- the listing's first line
+
+-- digits are no line ends, nor is any other byte from 32 on
+digits-printed : (k n : ℕ) (ds : List ℕ) → every (leb 32) ds ≡ true → every (leb 32) (digitsBefore k n ds) ≡ true
+unfolding digitsBefore every
+digits-printed zero n ds h = h
+digits-printed (suc k) n ds h =
+    let l : 32 ≤ 48 + n % 10 = omega arith in
+    let more : every (leb 32) ((48 + n % 10) ∷ ds) ≡ true = rw (every, le-leb 32 (48 + n % 10) l) h in
+    by-test (eqb (n / 10) 0)
+    (λ e. rw (digitsBefore, e) more)
+    (λ e. rw (digitsBefore, e) (digits-printed k (n / 10) ((48 + n % 10) ∷ ds) more))
+
+decimal-printed : (n : ℕ) → every (leb 32) (decimal n) ≡ true
+unfolding decimal every
+decimal-printed n = digits-printed (suc n) n [] refl
+
+both-printed : (xs ys : List ℕ) → every (leb 32) xs ≡ true → every (leb 32) ys ≡ true → every (leb 32) (xs ++ ys) ≡ true
+both-printed xs ys h k = rw (every-append (leb 32) xs ys, h) k
+
+size-line : (r : Saturation) → Line (sizeLine r)
+unfolding sizeLine ascii every
+size-line r =
+    let before : List ℕ = ascii "moves " ++ decimal (r .moves) ++ ascii " entries " in
+    let printed : every (leb 32) (before ++ decimal (r .entries)) ≡ true =
+    both-printed before (decimal (r .entries))
+    (both-printed (ascii "moves " ++ decimal (r .moves)) (ascii " entries ")
+    (both-printed (ascii "moves ") (decimal (r .moves)) refl (decimal-printed (r .moves)))
+    refl)
+    (decimal-printed (r .entries)) in
+    record { words = before ++ decimal (r .entries); no-end = λ m. false≢true (every-in (leb 32) printed m); then-ends = refl }
+
+-- ---- the listing
+
+module _ (f : Files) (r : Returned judgeRefusals (listingJudge f allRounds) 0) where
+  judged-zero : judgeService (listingJudge f allRounds) .code ≡ 0
+  judged-zero = judge-marks (listingJudge f allRounds) r .judged
+
+  judged-listed : listingText f ≡ judgedText f
+  unfolding listingText
+  judged-listed = rw (listingText, eq-eqb _ 0 judged-zero)
+
+  -- where judge in all rounds does not refuse, nor does saturate
+  unrefused-saturates : Returned saturateRefusals (listingLent f) 0
+  unfolding listingJudge listingLent judgeLent judgeLeft saturateFilled
+  unrefused-saturates = go (judgeService (listingJudge f allRounds)) (judge-cases (listingJudge f allRounds)) judged-zero
+    where
+      fills : {T : Saturated} → caseRefusal (f .case) ≡ 0 → saturated (listingLent f) allRounds ≡ some T
+          → (e : SaturateDone) → SaturateCase (listingLent f) e → e .reply .code ≡ 0
+      fills s o e (case-refused bad) = absurd (bad s)
+      fills {T} s o e (size-exceeded _ q) = absurd (Option·none-ne-some T (sym q ∙ o))
+      fills s o e (filled _ _ _) = refl
+
+      go : (d : JudgeDone) → JudgeCase (listingJudge f allRounds) d → d .code ≡ 0 → Returned saturateRefusals (listingLent f) 0
+      go d (JudgeCase.case-refused bad) z = absurd (bad z)
+      go d (start-refused s bad) z = absurd (bad z)
+      go d (answers-short s g h) z = absurd (eqb-false 8 0 refl z)
+      go d (JudgeCase.size-exceeded s g h o) z = absurd (eqb-false 9 0 refl z)
+      go d (judged T s g h o) z =
+          subst (Returned saturateRefusals (listingLent f)) (fills s o (saturateService (listingLent f)) (saturate-cases (listingLent f)))
+          (demand1-saturate (listingLent f) .number)
+
+pub most-largest : MostLargest
+unfolding judgedText mostLine
+most-largest f d s r =
+    record {
+      first = sizeLine (saturateService (listingLent f) .reply);
+      most = largestCount (listingLent f);
+      rest = startLines f 0 (length (startsOf (f .start)));
+      first-line = size-line (saturateService (listingLent f) .reply);
+      is-largest = largest-count (listingLent f) d s (unrefused-saturates f r);
+      text-is = judged-listed f r;
+    }
