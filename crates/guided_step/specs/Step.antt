@@ -10,15 +10,21 @@ use mathlib.Core.List.{List}
 use lib.ListN.{getElem?}
 use Rattle.stacks.specs.Stack.{Operation}
 use Rattle.stacks.specs.System.{Rule}
-use Rattle.automata.specs.Automaton.{Automaton}
-use Rattle.automata.specs.Derivation.{Derivation}
-use Rattle.automata.specs.Saturation.{Saturated}
+use Rattle.automata.specs.Automaton.{Automaton, moveAt}
+use Rattle.automata.specs.Derivation.{Derivation, resultOf}
+use Rattle.automata.specs.Saturation.{Saturated, before}
 use Rattle.walks.specs.Guide as walks
 use Rattle.cell_steps.specs.declared.Top.{Top}
 use Rattle.cell_steps.specs.Steps.Choices.{topState, rootEdge, HoldsNumbers}
+use Rattle.first_derivation.specs.declared.First.{First}
+use Rattle.first_derivation.specs.Derived.{FindsFirst}
 use Rattle.guided_step.specs.declared.Next.{Next}
 use Rattle.guided_step.specs.declared.Next.the-variants.{Arrived, Stuck, To}
 use Rattle.guided_step.specs.Walks.{topBy}
+
+-- The first derivation is found of the result that move i stands for, from the table before the move's round.
+abbrev pub FindsBefore : List Rule → Saturated → ℕ → First → List ℕ → List ℕ → List ℕ → List ℕ → Type 0
+FindsBefore rules T i r es₀ es ms₀ ms = FindsFirst (before T i) rules (resultOf (T .table) (moveAt (T .table) i)) r es₀ es ms₀ ms
 
 -- What is written into cells for premise p is small: the state that chooses it, its number, and the edge that the new root chooses.
 pub record StepSmall (A : Automaton) (op : Operation) (p : ℕ) : Type 0 where

@@ -3,7 +3,7 @@ ghost use mathlib.Core.Path.{_≡_};
 ghost use mathlib.Core.List.{[]};
 ghost use Prim.Native.Nat.{_<_, _≤_, _+_, _*_};
 ghost use lib.ListN.{length, getD, replicate};
-ghost use Rattle.automata.specs.Automaton.{noEdge, moveAt};
+ghost use Rattle.automata.specs.Automaton.{noEdge};
 ghost use Rattle.automata.specs.Derivation.{resultOf};
 ghost use Rattle.automata.specs.Saturation.{ownMoves, lastUpTo, before};
 ghost use Rattle.walks.specs.Guide.{noGuided, guidedAt, topOf, topOn};
@@ -13,13 +13,13 @@ ghost use Rattle.tables.specs.Held.{automatonOf, tableOf, edgesIn, EdgesStand, 
 ghost use Rattle.cell_memory.specs.Memory.{cellOf, guidedIn};
 ghost use Rattle.results.specs.Collecting.{rulesIn};
 ghost use Rattle.first_reading.specs.Words.{TablesWithin};
-ghost use Rattle.first_derivation.specs.Derived.{FindsFirst, StatesSmall};
+ghost use Rattle.first_derivation.specs.Derived.{StatesSmall};
 ghost use Rattle.saturation.specs.Sizes.{theSize, asSize};
 ghost use Rattle.saturation.specs.Layout.{sizeRow};
 ghost use Rattle.saturation.specs.Held.{saturatedIn};
 ghost use Rattle.guided_step.specs.Walks.{walkIn, tipOf};
 ghost use Rattle.guided_step.specs.Earlier.{tableUpTo};
-ghost use Rattle.guided_step.specs.Step.{AtTop, NextIs};
+ghost use Rattle.guided_step.specs.Step.{FindsBefore, AtTop, NextIs};
 use cell_memory::Cell;
 use cell_steps::Top;
 use first_derivation::First;
@@ -91,7 +91,7 @@ fn first_of(z: Table, inner: &[u64], entries: &[u64], n: u16) -> u64
 }
 
 // The top of a walk with the number of its chosen move, or that there is none: its stack or its top order-1 stack is empty.
-pub enum Tip {
+enum Tip {
     Nothing,
     At(Top, u16),
 }
@@ -123,7 +123,8 @@ fn top_on(cells: &[u16], w: Walk, c: u16, r: u64, t: u16) -> Tip
 // The top of a walk.
 fn top_of(z: Table, inner: &[u64], entries: &[u64], cells: &[u16], w: Walk) -> Tip
     requires { ⌜ EdgesStand z (now inner) × EntriesStand z (now entries) × (w .cells * 68 ≤ length (now cells)) ⌝ }
-    ensures { λ x. ⌜ tipOf x ≡ topOf (automatonOf z (now (inner .entry)) (now (entries .entry)) []) (walkIn w (now (cells .entry))) (guidedAt (walkIn w (now (cells .entry))) (w .root) .cell) ⌝ }
+    ensures { λ x. ⌜ tipOf x ≡ topOf (automatonOf z (now (inner .entry)) (now (entries .entry)) []) (walkIn w (now (cells .entry)))
+        (guidedAt (walkIn w (now (cells .entry))) (w .root) .cell) ⌝ }
 {
     let n = w.cells;
     let root = w.root;
@@ -234,7 +235,9 @@ fn first_before(
 ) -> First
     requires { ⌜ TablesWithin z (now inner) (now entries) (now moves) × (count * 5 ≤ length (now body)) × (k * 2 ≤ length (now sizes)) ⌝ }
     requires { ⌜ (length (now edges) ≡ 64) × (length (now chosen) ≡ 64) ⌝ }
-    ensures { λ r. ⌜ FindsFirst (before (saturatedIn z (now (inner .entry)) (now (entries .entry)) (now (moves .entry)) k (now (sizes .entry))) i) (rulesIn count (now (body .entry))) (resultOf (automatonOf z (now (inner .entry)) (now (entries .entry)) (now (moves .entry))) (moveAt (automatonOf z (now (inner .entry)) (now (entries .entry)) (now (moves .entry))) i)) r (now (edges .entry)) (now (edges .exit)) (now (chosen .entry)) (now (chosen .exit)) ⌝ }
+    ensures { λ r. ⌜ FindsBefore (rulesIn count (now (body .entry)))
+        (saturatedIn z (now (inner .entry)) (now (entries .entry)) (now (moves .entry)) k (now (sizes .entry))) i r
+        (now (edges .entry)) (now (edges .exit)) (now (chosen .entry)) (now (chosen .exit)) ⌝ }
     ensures small { λ r. ⌜ StatesSmall (before (saturatedIn z (now (inner .entry)) (now (entries .entry)) (now (moves .entry)) k (now (sizes .entry))) i) ⌝ }
 {
     let earlier = table_before(z, sizes, k, i);
@@ -271,7 +274,9 @@ fn step_of(
 ) -> Next
     requires { ⌜ TablesWithin z (now inner) (now entries) (now moves) × (count * 5 ≤ length (now body)) × (k * 2 ≤ length (now sizes)) ⌝ }
     requires { ⌜ (now edges ≡ replicate 64 0) × (now chosen ≡ replicate 64 0) ⌝ }
-    ensures { λ r. ⌜ AtTop (rulesIn count (now (body .entry))) (saturatedIn z (now (inner .entry)) (now (entries .entry)) (now (moves .entry)) k (now (sizes .entry))) x i r (now (edges .exit)) (now (chosen .exit)) ⌝ }
+    ensures { λ r. ⌜ AtTop (rulesIn count (now (body .entry)))
+        (saturatedIn z (now (inner .entry)) (now (entries .entry)) (now (moves .entry)) k (now (sizes .entry))) x i r (now (edges .exit))
+        (now (chosen .exit)) ⌝ }
 {
     if (i as u64) < own_moves(sizes, k) {
         return Next::Arrived;
@@ -313,7 +318,9 @@ pub fn next_step(
 ) -> Next
     requires { ⌜ TablesWithin z (now inner) (now entries) (now moves) × (count * 5 ≤ length (now body)) × (k * 2 ≤ length (now sizes)) × (w .cells * 68 ≤ length (now cells)) ⌝ }
     requires { ⌜ (now edges ≡ replicate 64 0) × (now chosen ≡ replicate 64 0) ⌝ }
-    ensures { λ r. ⌜ NextIs (rulesIn count (now (body .entry))) (saturatedIn z (now (inner .entry)) (now (entries .entry)) (now (moves .entry)) k (now (sizes .entry))) (walkIn w (now (cells .entry))) r (now (edges .exit)) (now (chosen .exit)) ⌝ }
+    ensures { λ r. ⌜ NextIs (rulesIn count (now (body .entry)))
+        (saturatedIn z (now (inner .entry)) (now (entries .entry)) (now (moves .entry)) k (now (sizes .entry))) (walkIn w (now (cells .entry))) r
+        (now (edges .exit)) (now (chosen .exit)) ⌝ }
 {
     let tip = top_of(z, inner, entries, cells, w);
     match tip {

@@ -38,7 +38,7 @@ fn entry_edge(z: Table, entry: u64) -> u16
 }
 
 // The number of the entry that order-1 state r is, and 0 where it is none.
-fn entry_number(z: Table, r: u64) -> u64
+fn entry_of_state(z: Table, r: u64) -> u64
     ensures { λ k. ⌜ k ≡ r - z .inner1 ⌝ }
 {
     if r < z.inner1 {
@@ -57,7 +57,7 @@ fn by_move(z: Table, moves: &[u64], next: u64, premise: u64) -> Choice
         state: m.state,
         number: premise as u16,
         control: next,
-        edge: entry_edge(z, entry_number(z, m.state)),
+        edge: entry_edge(z, entry_of_state(z, m.state)),
     }
 }
 
@@ -88,7 +88,7 @@ fn by_none(next: u64, premise: u64) -> Choice
 }
 
 // The choices of the operation's new cells.
-fn choice_of(z: Table, moves: &[u64], op: Operation, next: u64, premise: u64) -> Choice
+fn by_operation(z: Table, moves: &[u64], op: Operation, next: u64, premise: u64) -> Choice
     requires { ⌜ MovesStand z (now moves) × (z .edges ≤ 64) × (premise < 1024) × (topState (movesOnly z (now moves)) (theOperation op) premise < 64) ⌝ }
     ensures { λ r. ⌜ r ≡ choiceBy (movesOnly z (now (moves .entry))) next premise (theOperation op) ⌝ }
 {
@@ -117,12 +117,13 @@ fn take_step(
     edges: &[u16],
     chosen: &[u16],
 ) -> Walk
-    requires { ⌜ StepStands z (now moves) (theOperation op) next premise x × ((w .cells + newCells (theOperation op)) * 68 ≤ length (now cells)) × (w .cells ≤ 4096) × (w .steps + 1 < 2 ^ 64) ⌝ }
+    requires { ⌜ StepStands z (now moves) (theOperation op) next premise x × ((w .cells + newCells (theOperation op)) * 68 ≤ length (now cells))
+        × (w .cells ≤ 4096) × (w .steps + 1 < 2 ^ 64) ⌝ }
     requires { ⌜ (length (now edges) ≡ 64) × (length (now chosen) ≡ 64) ⌝ }
     ensures { λ r. ⌜ Steps (movesOnly z (now (moves .entry))) (theOperation op) next premise x (now (edges .entry)) (now (chosen .entry)) w (now (cells .entry)) r (now (cells .exit)) ⌝ }
 {
     let n = w.cells;
-    let choice = choice_of(z, moves, op, next, premise);
+    let choice = by_operation(z, moves, op, next, premise);
     cell_steps::put_step(cells, n, op, x, choice, edges, chosen);
     Walk {
         control: next,
@@ -145,7 +146,7 @@ fn counts(w: Walk) -> Counts
 }
 
 // What a turn answers: the walk halts, is stuck, or goes on.
-pub enum Going {
+enum Going {
     Halted(Halt),
     Stuck,
     On(Walk),
@@ -166,9 +167,11 @@ fn go_on(
     edges: &[u16],
     chosen: &[u16],
 ) -> Going
-    requires { ⌜ StepStands z (now moves) (theOperation (rule .operation)) (rule .next) premise x × (n < 2 ^ 16) × (most * 68 ≤ length (now cells)) × (most ≤ 4096) × Walking most w (now trace) ⌝ }
+    requires { ⌜ StepStands z (now moves) (theOperation (rule .operation)) (rule .next) premise x × (n < 2 ^ 16) × (most * 68 ≤ length (now cells))
+        × (most ≤ 4096) × Walking most w (now trace) ⌝ }
     requires { ⌜ (length (now edges) ≡ 64) × (length (now chosen) ≡ 64) ⌝ }
-    ensures { λ r. ⌜ StepAnswers most (movesOnly z (now (moves .entry))) (theOperation (rule .operation)) (rule .next) n premise x (now (edges .entry)) (now (chosen .entry)) w (now (cells .entry)) (now (trace .entry)) r (now (cells .exit)) (now (trace .exit)) ⌝ }
+    ensures { λ r. ⌜ StepAnswers most (movesOnly z (now (moves .entry))) (theOperation (rule .operation)) (rule .next) n premise x (now (edges .entry))
+        (now (chosen .entry)) w (now (cells .entry)) (now (trace .entry)) r (now (cells .exit)) (now (trace .exit)) ⌝ }
 {
     let steps = w.steps;
     if trace.len() <= steps {
@@ -198,7 +201,9 @@ fn advance(
     w: Walk,
 ) -> Going
     requires { ⌜ RunStands z (now inner) (now entries) (now moves) (now body) count (now sizes) k (now cells) most × Walking most w (now trace) ⌝ }
-    ensures { λ r. ⌜ TurnAnswers (rulesIn count (now (body .entry))) (saturatedIn z (now (inner .entry)) (now (entries .entry)) (now (moves .entry)) k (now (sizes .entry))) most w (now (cells .entry)) (now (trace .entry)) r (now (cells .exit)) (now (trace .exit)) ⌝ }
+    ensures { λ r. ⌜ TurnAnswers (rulesIn count (now (body .entry)))
+        (saturatedIn z (now (inner .entry)) (now (entries .entry)) (now (moves .entry)) k (now (sizes .entry))) most w (now (cells .entry))
+        (now (trace .entry)) r (now (cells .exit)) (now (trace .exit)) ⌝ }
 {
     let mut edges = [0u16; Limits::STATES1];
     let mut chosen = [0u16; Limits::STATES1];
@@ -257,7 +262,9 @@ pub fn walk(
 ) -> Reply
     requires { ⌜ RunStands z (now inner) (now entries) (now moves) (now body) count (now sizes) k (now cells) most ⌝ }
     requires { ⌜ (w .cells ≤ most) × (w .steps ≡ 0) × (now trace ≡ zeros (length (now trace))) ⌝ }
-    ensures { λ r. ⌜ Leaves (guided (rulesIn count (now (body .entry))) (saturatedIn z (now (inner .entry)) (now (entries .entry)) (now (moves .entry)) k (now (sizes .entry))) most (length (now (trace .entry))) [] (walkIn w (now (cells .entry)))) (length (now (trace .entry))) r (now (trace .exit)) ⌝ }
+    ensures { λ r. ⌜ Leaves (guided (rulesIn count (now (body .entry)))
+        (saturatedIn z (now (inner .entry)) (now (entries .entry)) (now (moves .entry)) k (now (sizes .entry))) most (length (now (trace .entry))) []
+        (walkIn w (now (cells .entry)))) (length (now (trace .entry))) r (now (trace .exit)) ⌝ }
 {
     let mut v = w;
     loop {

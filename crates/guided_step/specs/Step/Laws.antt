@@ -42,7 +42,7 @@ use Rattle.guided_step.specs.Walks.Laws.{topOf-moves}
 use Rattle.guided_step.specs.Earlier.{tableUpTo}
 use Rattle.guided_step.specs.Earlier.Laws.{table-upTo, upTo-stands, result-table}
 use Rattle.saturation.specs.Held.{saturatedIn}
-use Rattle.guided_step.specs.Step.{StepSmall, Taken, Gives, AtTop, NextIs}
+use Rattle.guided_step.specs.Step.{FindsBefore, StepSmall, Taken, Gives, AtTop, NextIs}
 use Rattle.guided_step.specs.Step.Chosen.{holds-kept, Sized, says-small}
 
 -- ---- the table before a move's round
@@ -67,7 +67,7 @@ module _ (z : Table) (inner entries moves : List ℕ) (k : ℕ) (sizes : List �
   pub finds-before : {rules : List Rule} {b : Table} {x : Result} {m : Move} {r : First} {es₀ es ms₀ ms : List ℕ}
       → b ≡ tableUpTo z (lastUpTo (theSize 0 0) (rowsIn sizeRow k sizes) i) → m ≡ getD (rowsIn moveRow (z .moves) moves) i noMove
       → x ≡ resultOf (tableOf z entries []) m → FindsFirst (automatonOf b inner entries moves) rules x r es₀ es ms₀ ms
-      → FindsFirst (before T i) rules (resultOf (T .table) (moveAt (T .table) i)) r es₀ es ms₀ ms
+      → FindsBefore rules T i r es₀ es ms₀ ms
   unfolding moveAt
   finds-before {rules} {b} {x} {m} {r} {es₀} {es} {ms₀} {ms} e f g h =
       let y : x ≡ resultOf (T .table) (moveAt (T .table) i) = g ∙ result-table z inner entries moves m ∙ ap (resultOf (T .table)) f in

@@ -14,8 +14,8 @@ move-of-requires c κs = search needs
 cast-t7 : tie.Need-cast-t7
 cast-t7 c = search needs
 
-entry-number-requires : tie.Need-entry-number-requires
-entry-number-requires c κs = search needs
+entry-of-state-requires : tie.Need-entry-of-state-requires
+entry-of-state-requires c κs = search needs
 
 entry-edge-requires : tie.Need-entry-edge-requires
 entry-edge-requires c κs =
@@ -24,8 +24,8 @@ entry-edge-requires c κs =
     search needs
 
 returns : tie.Need-returns
-returns c = move-choice _ _ (move-state (c .before .before .before .before .args .z) (c .before .before .before .before .args .moves .now) (c .before .before .before .before .args .premise) (c .before .before .move-of .ensures)) (c .before .entry-number .ensures) (c .entry-edge .ensures)
+returns c = move-choice _ _ (move-state (c .before .before .before .before .args .z) (c .before .before .before .before .args .moves .now) (c .before .before .before .before .args .premise) (c .before .before .move-of .ensures)) (c .before .entry-of-state .ensures) (c .entry-edge .ensures)
 
 pub by-move-spec : {M : Type 1} → statement M
 by-move-spec =
-    tie.close (tie.spec move-of-requires cast-t7 entry-number-requires entry-edge-requires returns)
+    tie.close (tie.spec move-of-requires cast-t7 entry-of-state-requires entry-edge-requires returns)

@@ -10,13 +10,13 @@ use borrow.Author.Needs.{needs}
 use Rattle.guided_walk.proofs.take_step.Statement.{statement}
 use Rattle.guided_walk.proofs.take_step.Tie as tie
 
-choice-of-requires : tie.Need-choice-of-requires
-choice-of-requires c κs = search needs
+by-operation-requires : tie.Need-by-operation-requires
+by-operation-requires c κs = search needs
 
 put-step-requires : tie.Need-put-step-requires
 put-step-requires c κs =
-    let e = ap (λ (k : Choice). k .state) (c .before .choice-of .ensures) in
-    let f = ap (λ (k : Choice). k .control) (c .before .choice-of .ensures) in
+    let e = ap (λ (k : Choice). k .state) (c .before .by-operation .ensures) in
+    let f = ap (λ (k : Choice). k .control) (c .before .by-operation .ensures) in
     search needs
 
 root-after-requires : tie.Need-root-after-requires
@@ -40,13 +40,13 @@ same-length : tie.Need-same-length
 same-length c = search needs
 
 returns : tie.Need-returns
-returns c = steps-are _ _ (c .before .before .before .before .before .before .before .before .before .before .before .before .args .w) (c .before .before .before .before .before .before .before .choice-of .ensures) (c .before .before .before .before .before .put-step .ensures) (c .before .before .root-after .ensures) (c .before .new-cells .ensures)
+returns c = steps-are _ _ (c .before .before .before .before .before .before .before .before .before .before .before .before .args .w) (c .before .before .before .before .before .before .before .by-operation .ensures) (c .before .before .before .before .before .put-step .ensures) (c .before .before .root-after .ensures) (c .before .new-cells .ensures)
 
 pub take-step-spec : {M : Type 1} → statement M
 take-step-spec =
     tie.close
     (tie.spec
-    choice-of-requires
+    by-operation-requires
     put-step-requires
     root-after-requires
     cast-t17

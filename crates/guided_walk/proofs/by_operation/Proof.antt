@@ -1,4 +1,4 @@
--- `guided_walk::choice_of` meets its contract.
+-- `guided_walk::by_operation` meets its contract.
 -- Assumes nothing.
 use mathlib.Core.Path.{refl, ap}
 use Rattle.case_records.specs.Values.{theOperation}
@@ -6,8 +6,8 @@ use Rattle.automata.specs.Automaton.{entryEdge}
 use Rattle.cell_steps.specs.Steps.Choices.{topState, rootEdge}
 use Rattle.guided_walk.specs.Stepped.Laws.{premise-small, choice-same}
 use borrow.Author.Needs.{needs}
-use Rattle.guided_walk.proofs.choice_of.Statement.{statement}
-use Rattle.guided_walk.proofs.choice_of.Tie as tie
+use Rattle.guided_walk.proofs.by_operation.Statement.{statement}
+use Rattle.guided_walk.proofs.by_operation.Tie as tie
 
 enum-told : tie.Need-enum-told
 enum-told c = search needs
@@ -93,8 +93,8 @@ returns-8 : tie.Need-returns-8
 unfolding topState rootEdge entryEdge
 returns-8 c = choice-same _ (ap theOperation (c .before .enum-told8 .given .1)) (c .by-none2 .ensures)
 
-pub choice-of-spec : {M : Type 1} → statement M
-choice-of-spec =
+pub by-operation-spec : {M : Type 1} → statement M
+by-operation-spec =
     tie.close
     (tie.spec
     enum-told
