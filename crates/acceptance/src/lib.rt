@@ -69,7 +69,8 @@ fn put_symbol(
     i: usize,
 )
     requires { ⌜ MovesNamed z (now moves) × (count * 2 ≤ length (now sizes)) × (count < 65535) × (u < i) × (s < i) × (i * 64 + 64 ≤ length (now rounds)) × RowZero (now rounds) i ⌝ }
-    ensures { λ _. ⌜ RowPut (now (rounds .entry)) i (symbolRound (rowsIn sizeRow count (now (sizes .entry))) a k (roundIn (now (rounds .entry)) u) (roundIn (now (rounds .entry)) s) (rowsIn moveRow (z .moves) (now (moves .entry)))) (now (rounds .exit)) ⌝ }
+    ensures { λ _. ⌜ RowPut (now (rounds .entry)) i (symbolRound (rowsIn sizeRow count (now (sizes .entry))) a k (roundIn (now (rounds .entry)) u)
+        (roundIn (now (rounds .entry)) s) (rowsIn moveRow (z .moves) (now (moves .entry)))) (now (rounds .exit)) ⌝ }
 {
     let mut round: usize = 0;
     let mut n: usize = 0;
@@ -90,8 +91,10 @@ fn put_above(
     rounds: &mut [u16],
     i: usize,
 )
-    requires { ⌜ EdgesStand z (now inner) × EntriesStand z (now entries) × EdgesNamed z (now inner) (now entries) × (w < i) × (t < i) × (i * 64 + 64 ≤ length (now rounds)) × RowZero (now rounds) i ⌝ }
-    ensures { λ _. ⌜ RowPut (now (rounds .entry)) i (aboveRound (roundIn (now (rounds .entry)) w) (roundIn (now (rounds .entry)) t) (edgesIn z (now (inner .entry)) (now (entries .entry)))) (now (rounds .exit)) ⌝ }
+    requires { ⌜ EdgesStand z (now inner) × EntriesStand z (now entries) × EdgesNamed z (now inner) (now entries) × (w < i) × (t < i)
+        × (i * 64 + 64 ≤ length (now rounds)) × RowZero (now rounds) i ⌝ }
+    ensures { λ _. ⌜ RowPut (now (rounds .entry)) i (aboveRound (roundIn (now (rounds .entry)) w) (roundIn (now (rounds .entry)) t)
+        (edgesIn z (now (inner .entry)) (now (entries .entry)))) (now (rounds .exit)) ⌝ }
 {
     let edges = z.edges + z.entries;
     let mut n: usize = 0;
@@ -132,8 +135,11 @@ fn put_cell(
     rounds: &mut [u16],
     i: usize,
 )
-    requires { ⌜ TablesNamed z (now inner) (now entries) (now moves) × (count * 2 ≤ length (now sizes)) × (count < 65535) × PartsBelow i (cellOf cell) × (i * 64 + 64 ≤ length (now rounds)) × RowZero (now rounds) i ⌝ }
-    ensures { λ _. ⌜ RowPut (now (rounds .entry)) i (cellRound (saturatedIn z (now (inner .entry)) (now (entries .entry)) (now (moves .entry)) count (now (sizes .entry))) k (now (rounds .entry)) (cellOf cell)) (now (rounds .exit)) ⌝ }
+    requires { ⌜ TablesNamed z (now inner) (now entries) (now moves) × (count * 2 ≤ length (now sizes)) × (count < 65535) × PartsBelow i (cellOf cell)
+        × (i * 64 + 64 ≤ length (now rounds)) × RowZero (now rounds) i ⌝ }
+    ensures { λ _. ⌜ RowPut (now (rounds .entry)) i
+        (cellRound (saturatedIn z (now (inner .entry)) (now (entries .entry)) (now (moves .entry)) count (now (sizes .entry))) k (now (rounds .entry)) (cellOf cell))
+        (now (rounds .exit)) ⌝ }
 {
     match cell {
         Cell::Empty1 => put_final(z.final1, rounds, i),
@@ -182,8 +188,10 @@ pub fn fill_rounds(
     n: usize,
     rounds: &mut [u16],
 )
-    requires { ⌜ TablesNamed z (now inner) (now entries) (now moves) × (count * 2 ≤ length (now sizes)) × (count < 65535) × (n * 6 ≤ length (now body)) × Formed (cellsIn n (now body)) × (n * 64 ≤ length (now rounds)) × (now rounds ≡ zeros (length (now rounds))) ⌝ }
-    ensures { λ _. ⌜ RoundsFilled (saturatedIn z (now (inner .entry)) (now (entries .entry)) (now (moves .entry)) count (now (sizes .entry))) (cellsIn n (now (body .entry))) (now (rounds .entry)) (now (rounds .exit)) n ⌝ }
+    requires { ⌜ TablesNamed z (now inner) (now entries) (now moves) × (count * 2 ≤ length (now sizes)) × (count < 65535) × (n * 6 ≤ length (now body))
+        × Formed (cellsIn n (now body)) × (n * 64 ≤ length (now rounds)) × (now rounds ≡ zeros (length (now rounds))) ⌝ }
+    ensures { λ _. ⌜ RoundsFilled (saturatedIn z (now (inner .entry)) (now (entries .entry)) (now (moves .entry)) count (now (sizes .entry)))
+        (cellsIn n (now (body .entry))) (now (rounds .entry)) (now (rounds .exit)) n ⌝ }
 {
     let mut i: usize = 0;
     while i < n {

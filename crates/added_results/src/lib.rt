@@ -41,7 +41,8 @@ fn add_result(
     most: usize,
     x: tables::Result,
 ) -> Grown
-    requires { ⌜ Growing z most (now entries) × StatesExist (automatonOf z [] (now entries) (now moves)) × CountsStand z (now entries) (now moves) × (z .moves * 5 + 5 ≤ length (now moves)) ⌝ }
+    requires { ⌜ Growing z most (now entries) × StatesExist (automatonOf z [] (now entries) (now moves)) × CountsStand z (now entries) (now moves)
+        × (z .moves * 5 + 5 ≤ length (now moves)) ⌝ }
     ensures { λ g. ⌜ Added z most (now (entries .entry)) (now (moves .entry)) (asResult x ∷ []) (g .fits) (g .table) (now (entries .exit)) (now (moves .exit)) ⌝ }
     ensures counted { λ g. ⌜ CountsStand (g .table) (now (entries .exit)) (now (moves .exit)) ⌝ }
 {
@@ -88,7 +89,8 @@ pub fn add_results(
     pending: &[u64],
     n: usize,
 ) -> Grown
-    requires { ⌜ Growing z most (now entries) × StatesExist (automatonOf z [] (now entries) (now moves)) × CountsStand z (now entries) (now moves) × ((z .moves + n) * 5 ≤ length (now moves)) × (n * 6 ≤ length (now pending)) ⌝ }
+    requires { ⌜ Growing z most (now entries) × StatesExist (automatonOf z [] (now entries) (now moves)) × CountsStand z (now entries) (now moves)
+        × ((z .moves + n) * 5 ≤ length (now moves)) × (n * 6 ≤ length (now pending)) ⌝ }
     ensures { λ g. ⌜ Added z most (now (entries .entry)) (now (moves .entry)) (rowsIn resultRow n (now (pending .entry))) (g .fits) (g .table) (now (entries .exit)) (now (moves .exit)) ⌝ }
     ensures counted { λ g. ⌜ CountsStand (g .table) (now (entries .exit)) (now (moves .exit)) ⌝ }
 {

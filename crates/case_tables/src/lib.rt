@@ -143,7 +143,8 @@ fn count_move(entries: &mut [u64], n: usize, inner1: u64, r: u64)
 fn load_moves(body: &[u8], n: usize, t: &mut [u64], inner1: u64, known: usize, entries: &mut [u64])
     requires { ⌜ (n * 19 ≤ length (now body)) × (n ≤ 1024) × (n * 5 ≤ length (now t)) × (known * entryWidth ≤ length (now entries)) × CountsAre inner1 known (now entries) [] ⌝ }
     ensures { λ _. ⌜ now (t .exit) ≡ written moveRow (now (t .entry)) 0 (map moveOf (records n 19 (now (body .entry)))) ⌝ }
-    ensures { λ _. ⌜ now (entries .exit) ≡ written countedRow (now (entries .entry)) 0 (withCounts (map moveOf (records n 19 (now (body .entry)))) inner1 (rowsIn entryRow known (now (entries .entry)))) ⌝ }
+    ensures { λ _. ⌜ now (entries .exit) ≡ written countedRow (now (entries .entry)) 0
+        (withCounts (map moveOf (records n 19 (now (body .entry)))) inner1 (rowsIn entryRow known (now (entries .entry)))) ⌝ }
 {
     let mut i: usize = 0;
     while i < n {

@@ -152,7 +152,8 @@ fn choose_top(cells: &mut [u16], n: usize, choice: Choice)
 // The choices after a push: those of the symbol below, then those of the new top.
 fn choose_pushed(cells: &mut [u16], n: usize, choice: Choice, chosen: &[u16])
     requires { ⌜ ((n + 3) * 68 ≤ length (now cells)) × (choice .state < 64) × (choice .control < 64) × (length (now chosen) ≡ 64) ⌝ }
-    ensures { λ r. ⌜ now (cells .exit) ≡ withAllChosen (now (cells .entry)) n (all (now (chosen .entry)) ∷ one (choice .state) (choice .number) ∷ one (choice .control) (choice .edge) ∷ []) ⌝ }
+    ensures { λ r. ⌜ now (cells .exit) ≡ withAllChosen (now (cells .entry)) n
+        (all (now (chosen .entry)) ∷ one (choice .state) (choice .number) ∷ one (choice .control) (choice .edge) ∷ []) ⌝ }
 {
     cell_memory::put_choices(cells, n, chosen);
     choose_top(cells, n + 1, choice);
@@ -161,7 +162,8 @@ fn choose_pushed(cells: &mut [u16], n: usize, choice: Choice, chosen: &[u16])
 // The choices after a copy: those of the symbol and the stack below, then those of the new top.
 fn choose_copied(cells: &mut [u16], n: usize, choice: Choice, edges: &[u16], chosen: &[u16])
     requires { ⌜ ((n + 4) * 68 ≤ length (now cells)) × (choice .state < 64) × (choice .control < 64) × (length (now edges) ≡ 64) × (length (now chosen) ≡ 64) ⌝ }
-    ensures { λ r. ⌜ now (cells .exit) ≡ withAllChosen (now (cells .entry)) n (stepChosen (choice .state) (choice .number) (choice .control) (choice .edge) (now (edges .entry)) (now (chosen .entry)) copy) ⌝ }
+    ensures { λ r. ⌜ now (cells .exit) ≡ withAllChosen (now (cells .entry)) n
+        (stepChosen (choice .state) (choice .number) (choice .control) (choice .edge) (now (edges .entry)) (now (chosen .entry)) copy) ⌝ }
 {
     cell_memory::put_choices(cells, n, chosen);
     cell_memory::put_choices(cells, n + 1, edges);
@@ -178,7 +180,8 @@ fn put_chosen(
     chosen: &[u16],
 )
     requires { ⌜ ((n + newCells (theOperation op)) * 68 ≤ length (now cells)) × (choice .state < 64) × (choice .control < 64) × (length (now edges) ≡ 64) × (length (now chosen) ≡ 64) ⌝ }
-    ensures { λ r. ⌜ now (cells .exit) ≡ withAllChosen (now (cells .entry)) n (stepChosen (choice .state) (choice .number) (choice .control) (choice .edge) (now (edges .entry)) (now (chosen .entry)) (theOperation op)) ⌝ }
+    ensures { λ r. ⌜ now (cells .exit) ≡ withAllChosen (now (cells .entry)) n
+        (stepChosen (choice .state) (choice .number) (choice .control) (choice .edge) (now (edges .entry)) (now (chosen .entry)) (theOperation op)) ⌝ }
 {
     match op {
         Operation::Rewrite(_) => choose_top(cells, n, choice),
@@ -206,7 +209,9 @@ pub fn put_step(
 )
     requires { ⌜ ((n + newCells (theOperation op)) * 68 ≤ length (now cells)) × (n ≤ 4096) × (symbolOf (theOperation op) < 2 ^ 16) ⌝ }
     requires { ⌜ (choice .state < 64) × (choice .control < 64) × (length (now edges) ≡ 64) × (length (now chosen) ≡ 64) ⌝ }
-    ensures { λ r. ⌜ guidedIn (n + newCells (theOperation op)) (now (cells .exit)) ≡ guidedIn n (now (cells .entry)) ++ guidedBy (cellsAfter (theOperation op) n (x .symbol) (x .annotation) (x .rest) (x .below)) (stepChoices (choice .state) (choice .number) (choice .control) (choice .edge) (now (edges .entry)) (now (chosen .entry)) (theOperation op)) ⌝ }
+    ensures { λ r. ⌜ guidedIn (n + newCells (theOperation op)) (now (cells .exit))
+        ≡ guidedIn n (now (cells .entry)) ++ guidedBy (cellsAfter (theOperation op) n (x .symbol) (x .annotation) (x .rest) (x .below))
+        (stepChoices (choice .state) (choice .number) (choice .control) (choice .edge) (now (edges .entry)) (now (chosen .entry)) (theOperation op)) ⌝ }
 {
     put_cells(cells, n, op, x);
     put_chosen(cells, n, op, choice, edges, chosen);

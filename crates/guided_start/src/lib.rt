@@ -10,14 +10,13 @@ ghost use Rattle.words.specs.Lists.{zeros};
 ghost use Rattle.replies.specs.Numbers.{answerWord};
 ghost use Rattle.rounds.specs.Won.{round2};
 ghost use Rattle.services.specs.Judge.{moreToAdd};
-ghost use Rattle.services.specs.Guide.{guideRun};
 ghost use Rattle.tables.specs.Held.{automatonOf};
 ghost use Rattle.saturation.specs.Held.{saturatedIn};
 ghost use Rattle.guided_walk.specs.Turns.{Leaves};
 ghost use Rattle.sound_files.specs.Sound.{StartSound};
 ghost use Rattle.guided_start.specs.Tables.{TablesStand};
-ghost use Rattle.guided_start.specs.Run.{tableInput, lentCells, shortAtStart, unaccepted};
-ghost use Rattle.guided_start.specs.Walk.{StartRounds, Ready};
+ghost use Rattle.guided_start.specs.Run.{guidedFrom, lentCells, shortAtStart, unaccepted};
+ghost use Rattle.guided_start.specs.Walk.{Ready};
 use guided_step::Walk;
 use limits::Limits;
 use replies::Acceptance;
@@ -84,8 +83,13 @@ fn walk_from(
     most: usize,
     trace: &mut [u16],
 ) -> Reply
-    requires { ⌜ Ready (now case) (now start) z (now inner) (now entries) (now moves) k (now sizes) (now rounds) × (x .root < 256) × (now trace ≡ zeros (length (now trace))) × (length (cellsOf (now start)) ≤ most) × (most * 68 ≤ length (now cells)) × (most ≤ 4096) ⌝ }
-    ensures { λ r. ⌜ Leaves (guided (rulesOf (now (case .entry))) (saturatedIn z (now (inner .entry)) (now (entries .entry)) (now (moves .entry)) k (now (sizes .entry))) most (length (now (trace .entry))) [] (startWalk (automatonOf z (now (inner .entry)) (now (entries .entry)) (now (moves .entry))) (cellsOf (now (start .entry))) (x .control) (x .root))) (length (now (trace .entry))) r (now (trace .exit)) ⌝ }
+    requires { ⌜ Ready (now case) (now start) z (now inner) (now entries) (now moves) k (now sizes) (now rounds) × (x .root < 256)
+        × (now trace ≡ zeros (length (now trace))) × (length (cellsOf (now start)) ≤ most) × (most * 68 ≤ length (now cells)) × (most ≤ 4096) ⌝ }
+    ensures { λ r. ⌜ Leaves
+        (guided (rulesOf (now (case .entry))) (saturatedIn z (now (inner .entry)) (now (entries .entry)) (now (moves .entry)) k (now (sizes .entry)))
+        most (length (now (trace .entry))) []
+        (startWalk (automatonOf z (now (inner .entry)) (now (entries .entry)) (now (moves .entry))) (cellsOf (now (start .entry))) (x .control) (x .root)))
+        (length (now (trace .entry))) r (now (trace .exit)) ⌝ }
 {
     let body = start_file::cell_body(start);
     let n = bytes_in::count_of(start, Limits::CELL_BODY);
@@ -127,8 +131,11 @@ pub fn guide_with_rounds(
     cells: &mut [u16],
     trace: &mut [u16],
 ) -> Reply
-    requires { ⌜ (caseRefusal (now case) ≡ 0) × StartSound (now start) × TablesStand z (now inner) (now entries) (now moves) k (now sizes) × StartRounds z (now inner) (now entries) (now moves) k (now sizes) (now start) (now rounds) × (number < length (startsOf (now start))) × (now trace ≡ zeros (length (now trace))) × (more ≡ moreToAdd (now case) (saturatedIn z (now inner) (now entries) (now moves) k (now sizes))) ⌝ }
-    ensures { λ r. ⌜ Leaves (guideRun (tableInput (now (case .entry)) (now (start .entry)) number (length (now (moves .entry))) (length (now (entries .entry))) (length (now (cells .entry))) (length (now (trace .entry)))) (saturatedIn z (now (inner .entry)) (now (entries .entry)) (now (moves .entry)) k (now (sizes .entry)))) (length (now (trace .entry))) r (now (trace .exit)) ⌝ }
+    requires { ⌜ Ready (now case) (now start) z (now inner) (now entries) (now moves) k (now sizes) (now rounds) × (number < length (startsOf (now start)))
+        × (now trace ≡ zeros (length (now trace))) × (more ≡ moreToAdd (now case) (saturatedIn z (now inner) (now entries) (now moves) k (now sizes))) ⌝ }
+    ensures { λ r. ⌜ Leaves
+        (guidedFrom (now (case .entry)) (now (start .entry)) number z (now (inner .entry)) (now (entries .entry)) (now (moves .entry)) k (now (sizes .entry))
+        (length (now (cells .entry))) (length (now (trace .entry)))) (length (now (trace .entry))) r (now (trace .exit)) ⌝ }
 {
     if !acceptance_words::is_won(sound_files::start_accepted(start, number, rounds)) {
         return not_accepted(more);
@@ -171,9 +178,14 @@ pub fn guide_start(
     cells: &mut [u16],
     trace: &mut [u16],
 ) -> Guided
-    requires { ⌜ (caseRefusal (now case) ≡ 0) × StartSound (now start) × TablesStand z (now inner) (now entries) (now moves) k (now sizes) × (number < length (startsOf (now start))) × (now trace ≡ zeros (length (now trace))) × (more ≡ moreToAdd (now case) (saturatedIn z (now inner) (now entries) (now moves) k (now sizes))) ⌝ }
-    ensures { λ r. ⌜ Leaves (guideRun (tableInput (now (case .entry)) (now (start .entry)) number (length (now (moves .entry))) (length (now (entries .entry))) (length (now (cells .entry))) (length (now (trace .entry)))) (saturatedIn z (now (inner .entry)) (now (entries .entry)) (now (moves .entry)) k (now (sizes .entry)))) (length (now (trace .entry))) (r .reply) (now (trace .exit)) ⌝ }
-    ensures won { λ r. ⌜ r .won ≡ round2 (saturatedIn z (now (inner .entry)) (now (entries .entry)) (now (moves .entry)) k (now (sizes .entry))) (configurationOf (now (start .entry)) (startAt (now (start .entry)) number) .stack) (startAt (now (start .entry)) number .control) ⌝ }
+    requires { ⌜ (caseRefusal (now case) ≡ 0) × StartSound (now start) × TablesStand z (now inner) (now entries) (now moves) k (now sizes)
+        × (number < length (startsOf (now start))) × (now trace ≡ zeros (length (now trace)))
+        × (more ≡ moreToAdd (now case) (saturatedIn z (now inner) (now entries) (now moves) k (now sizes))) ⌝ }
+    ensures { λ r. ⌜ Leaves
+        (guidedFrom (now (case .entry)) (now (start .entry)) number z (now (inner .entry)) (now (entries .entry)) (now (moves .entry)) k (now (sizes .entry))
+        (length (now (cells .entry))) (length (now (trace .entry)))) (length (now (trace .entry))) (r .reply) (now (trace .exit)) ⌝ }
+    ensures won { λ r. ⌜ r .won ≡ round2 (saturatedIn z (now (inner .entry)) (now (entries .entry)) (now (moves .entry)) k (now (sizes .entry)))
+        (configurationOf (now (start .entry)) (startAt (now (start .entry)) number) .stack) (startAt (now (start .entry)) number .control) ⌝ }
 {
     let mut rounds = [0u16; Limits::START_CELLS * Limits::STATES1];
     sound_files::start_rounds(z, inner, entries, moves, sizes, k, start, &mut rounds);

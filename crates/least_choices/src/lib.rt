@@ -61,7 +61,8 @@ fn put_move_choices(
     i: usize,
 )
     requires { ⌜ MovesNamed z (now moves) × Few z × (u * 64 + 64 ≤ length (now rounds)) × (s * 64 + 64 ≤ length (now rounds)) × (i * 68 + 68 ≤ length (now cells)) ⌝ }
-    ensures { λ _. ⌜ now (cells .exit) ≡ leastMet (λ m. m .state) (moveMet a k (roundIn (now (rounds .entry)) u) (roundIn (now (rounds .entry)) s)) i 0 (rowsIn moveRow (z .moves) (now (moves .entry))) (now (cells .entry)) ⌝ }
+    ensures { λ _. ⌜ now (cells .exit) ≡ leastMet (λ m. m .state) (moveMet a k (roundIn (now (rounds .entry)) u) (roundIn (now (rounds .entry)) s)) i 0
+        (rowsIn moveRow (z .moves) (now (moves .entry))) (now (cells .entry)) ⌝ }
 {
     let count = z.moves;
     let mut done: usize = 0;
@@ -85,8 +86,10 @@ fn put_edge_choices(
     cells: &mut [u16],
     i: usize,
 )
-    requires { ⌜ EdgesStand z (now inner) × EntriesStand z (now entries) × EdgesNamed z (now inner) (now entries) × Few z × (w * 64 + 64 ≤ length (now rounds)) × (t * 64 + 64 ≤ length (now rounds)) × (i * 68 + 68 ≤ length (now cells)) ⌝ }
-    ensures { λ _. ⌜ now (cells .exit) ≡ leastMet (λ e. e .state) (edgeMet (roundIn (now (rounds .entry)) w) (roundIn (now (rounds .entry)) t)) i 0 (edgesIn z (now (inner .entry)) (now (entries .entry))) (now (cells .entry)) ⌝ }
+    requires { ⌜ EdgesStand z (now inner) × EntriesStand z (now entries) × EdgesNamed z (now inner) (now entries) × Few z × (w * 64 + 64 ≤ length (now rounds))
+        × (t * 64 + 64 ≤ length (now rounds)) × (i * 68 + 68 ≤ length (now cells)) ⌝ }
+    ensures { λ _. ⌜ now (cells .exit) ≡ leastMet (λ e. e .state) (edgeMet (roundIn (now (rounds .entry)) w) (roundIn (now (rounds .entry)) t)) i 0
+        (edgesIn z (now (inner .entry)) (now (entries .entry))) (now (cells .entry)) ⌝ }
 {
     let edges = z.edges + z.entries;
     let mut done: usize = 0;
@@ -112,7 +115,8 @@ fn put_least_choices(
     i: usize,
 )
     requires { ⌜ TablesNamed z (now inner) (now entries) (now moves) × Few z × PartsBelow i (cellOf cell) × (i * 64 ≤ length (now rounds)) × (i * 68 + 68 ≤ length (now cells)) ⌝ }
-    ensures { λ _. ⌜ now (cells .exit) ≡ choicesBy (automatonOf z (now (inner .entry)) (now (entries .entry)) (now (moves .entry))) k (now (rounds .entry)) i (cellOf cell) (now (cells .entry)) ⌝ }
+    ensures { λ _. ⌜ now (cells .exit) ≡ choicesBy (automatonOf z (now (inner .entry)) (now (entries .entry)) (now (moves .entry))) k (now (rounds .entry)) i
+        (cellOf cell) (now (cells .entry)) ⌝ }
 {
     match cell {
         Cell::Empty1 => {}
@@ -147,7 +151,8 @@ fn put_start_cell(
     i: usize,
 )
     requires { ⌜ Prepared z (now inner) (now entries) (now moves) (now body) n (now rounds) × (i < n) × (n * 68 ≤ length (now cells)) ⌝ }
-    ensures { λ _. ⌜ now (cells .exit) ≡ withStart (automatonOf z (now (inner .entry)) (now (entries .entry)) (now (moves .entry))) (cellsIn n (now (body .entry))) (now (rounds .entry)) i (now (cells .entry)) ⌝ }
+    ensures { λ _. ⌜ now (cells .exit) ≡ withStart (automatonOf z (now (inner .entry)) (now (entries .entry)) (now (moves .entry)))
+        (cellsIn n (now (body .entry))) (now (rounds .entry)) i (now (cells .entry)) ⌝ }
 {
     let cell = start_records::cell_at(body, i);
     let k = acceptance::annotation_order(body, n, cell);

@@ -1,14 +1,10 @@
 // Whether a configuration lies in a case's target, by the case's own automaton, for a stack in cells of six bytes. Nothing is lent for it.
 ghost use mathlib.Core.Path.{_≡_};
-ghost use Prim.Native.Nat.{_<_, _≤_, _*_};
-ghost use lib.ListN.{length};
 ghost use Rattle.automata.specs.Acceptance.{inTarget};
-ghost use Rattle.walks.specs.Cell.Formed.{Formed, orderAt};
 ghost use Rattle.files.specs.Case.{caseRefusal, ownOf};
 ghost use Rattle.tables.specs.Held.{automatonOf};
 ghost use Rattle.acceptance.specs.Named.{TablesNamed};
-ghost use Rattle.start_records.specs.Body.{cellsIn};
-ghost use Rattle.own_target.specs.Target.{configurationIn};
+ghost use Rattle.own_target.specs.Target.{configurationIn, RootStands};
 use limits::Limits;
 use tables::Table;
 
@@ -24,7 +20,7 @@ fn root_accepted(
     control: u64,
     root: usize,
 ) -> bool
-    requires { ⌜ TablesNamed z (now inner) (now entries) (now moves) × (n * 6 ≤ length (now cells)) × (n ≤ 4096) × Formed (cellsIn n (now cells)) × (root < n) × (orderAt (cellsIn n (now cells)) root ≡ 2) × (control < 64) ⌝ }
+    requires { ⌜ TablesNamed z (now inner) (now entries) (now moves) × RootStands n (now cells) control root ⌝ }
     ensures { λ r. ⌜ r ≡ inTarget (automatonOf z (now (inner .entry)) (now (entries .entry)) (now (moves .entry))) (configurationIn n (now (cells .entry)) control root) ⌝ }
 {
     let mut rounds = [0u16; Limits::CELLS * Limits::STATES1];
@@ -35,7 +31,7 @@ fn root_accepted(
 
 // Control `control` with the stack of cell `root`, of the first n, lies in the target of a sound case.
 pub fn in_target(case: &[u8], cells: &[u8], n: usize, control: u64, root: usize) -> bool
-    requires { ⌜ (caseRefusal (now case) ≡ 0) × (n * 6 ≤ length (now cells)) × (n ≤ 4096) × Formed (cellsIn n (now cells)) × (root < n) × (orderAt (cellsIn n (now cells)) root ≡ 2) × (control < 64) ⌝ }
+    requires { ⌜ (caseRefusal (now case) ≡ 0) × RootStands n (now cells) control root ⌝ }
     ensures { λ r. ⌜ r ≡ inTarget (ownOf (now (case .entry))) (configurationIn n (now (cells .entry)) control root) ⌝ }
 {
     let mut inner = [0u64; Limits::INNER_TABLE];

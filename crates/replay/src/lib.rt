@@ -76,8 +76,10 @@ fn replay_sound(
     cells: &mut [u8],
     most: usize,
 ) -> Replayed
-    requires { ⌜ FilesSound (now case) (now start) × (number < length (startsOf (now start))) × (length (cellsOf (now start)) ≤ most) × (most * 6 ≤ length (now cells)) × (most ≤ 4096) ⌝ }
-    ensures { λ r. ⌜ r ≡ replayed (rulesOf (now (case .entry))) (ownOf (now (case .entry))) most 0 (length (cellsOf (now (start .entry)))) (configurationAt (now (start .entry)) number) (ruleNumbers (now (trace .entry))) ⌝ }
+    requires { ⌜ FilesSound (now case) (now start) × (number < length (startsOf (now start))) × (length (cellsOf (now start)) ≤ most)
+        × (most * 6 ≤ length (now cells)) × (most ≤ 4096) ⌝ }
+    ensures { λ r. ⌜ r ≡ replayed (rulesOf (now (case .entry))) (ownOf (now (case .entry))) most 0 (length (cellsOf (now (start .entry))))
+        (configurationAt (now (start .entry)) number) (ruleNumbers (now (trace .entry))) ⌝ }
 {
     let w = start_place(start, number, cells);
     let mut rules = [0u8; Limits::RULE_TABLE];

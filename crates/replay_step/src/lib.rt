@@ -25,7 +25,7 @@ pub struct Place {
 // ---- the top
 
 // The top of a stack in cells, or that it is empty or has an empty top order-1 stack.
-pub enum Found {
+enum Found {
     Nothing,
     At(Top),
 }
@@ -135,7 +135,8 @@ pub enum Stepped {
 
 // A step by this rule at top x, with at most so many cells.
 fn step_by(rule: Rule, x: Top, cells: &mut [u8], most: usize, w: Place) -> Stepped
-    requires { ⌜ PlaceStands w (now cells) × (foundTop (Found.At x) ≡ topIn (cellsIn (w .cells) (now cells)) (w .root)) × (rule .symbol < 256) × (symbolOf (theOperation (rule .operation)) < 256) × (rule .next < 64) ⌝ }
+    requires { ⌜ PlaceStands w (now cells) × (foundTop (Found.At x) ≡ topIn (cellsIn (w .cells) (now cells)) (w .root)) × (rule .symbol < 256)
+        × (symbolOf (theOperation (rule .operation)) < 256) × (rule .next < 64) ⌝ }
     requires { ⌜ (w .cells ≤ most) × (most * 6 ≤ length (now cells)) × (most ≤ 4096) ⌝ }
     ensures { λ r. ⌜ RuleAnswers (theRule rule) most w (now (cells .entry)) r (now (cells .exit)) ⌝ }
 {

@@ -34,8 +34,12 @@ guide-with-rounds-requires : tie.Need-guide-with-rounds-requires
 guide-with-rounds-requires c κs =
     let p = c .before .before .before .before .before .before .before .before .before .before .before .before .before .before .before .before .pre in
     let r = c .before .before .before .before .before .before .start-rounds .ensures in
-    let long = r .long in
-    (p .0, p .1, p .2, record { rounds-lent = omega arith; rounds-stand = r .filled }, p .3, p .4, p .5)
+    let long = r .long in (
+      record { case-sound = p .0; start-is = p .1; tables = p .2; start-rounds = record { rounds-lent = omega arith; rounds-stand = r .filled } },
+      p .3,
+      p .4,
+      p .5,
+    )
 
 same-length : tie.Need-same-length
 same-length c = search needs

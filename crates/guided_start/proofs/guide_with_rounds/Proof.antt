@@ -23,15 +23,15 @@ not-accepted-requires c κs = search needs
 returns : tie.Need-returns
 returns c =
     let p = c .before .before .before .before .before .before .before .before .before .before .before .before .before .pre in
-    let is = tested _ (p .4) (saturatedIn (c .before .before .before .before .before .before .before .before .before .before .before .before .before .args .z) _ _ _ _ _) (states-below (p .2 .stands)) (p .1) (p .3 .rounds-stand) (c .before .before .before .start-accepted .ensures .0)
+    let is = tested _ (p .1) (saturatedIn (c .before .before .before .before .before .before .before .before .before .before .before .before .before .args .z) _ _ _ _ _) (states-below (p .0 .tables .stands)) (p .0 .start-is) (p .0 .start-rounds .rounds-stand) (c .before .before .before .start-accepted .ensures .0)
     (c .before .before .is-won .ensures) in
-    leaves-not _ _ is (not-true (c .before .before .is-won .result) (c .before .if1 .taken)) (p .6) (c .not-accepted .ensures) (p .5)
+    leaves-not _ _ is (not-true (c .before .before .is-won .result) (c .before .if1 .taken)) (p .3) (c .not-accepted .ensures) (p .2)
 
 cells-lent-requires : tie.Need-cells-lent-requires
 cells-lent-requires c κs = search needs
 
 count-of-requires : tie.Need-count-of-requires
-count-of-requires c κs = let l = start-long _ (c .before .before .before .before .before .before .before .before .before .before .before .before .before .pre .1 .in-place) in omega arith
+count-of-requires c κs = let l = start-long _ (c .before .before .before .before .before .before .before .before .before .before .before .before .before .pre .0 .start-is .in-place) in omega arith
 
 short-at-start-requires : tie.Need-short-at-start-requires
 short-at-start-requires c κs = search needs
@@ -39,16 +39,16 @@ short-at-start-requires c κs = search needs
 returns-2 : tie.Need-returns-2
 returns-2 c =
     let p = c .before .before .before .before .before .before .before .before .before .before .before .before .before .before .before .before .pre in
-    let is = tested _ (p .4) (saturatedIn (c .before .before .before .before .before .before .before .before .before .before .before .before .before .before .before .before .args .z) _ _ _ _ _) (states-below (p .2 .stands)) (p .1) (p .3 .rounds-stand) (c .before .before .before .before .before .before .start-accepted .ensures .0)
+    let is = tested _ (p .1) (saturatedIn (c .before .before .before .before .before .before .before .before .before .before .before .before .before .before .before .before .args .z) _ _ _ _ _) (states-below (p .0 .tables .stands)) (p .0 .start-is) (p .0 .start-rounds .rounds-stand) (c .before .before .before .before .before .before .start-accepted .ensures .0)
     (c .before .before .before .before .before .is-won .ensures) in
     leaves-short _ _ is (not-false (c .before .before .before .before .before .is-won .result) (c .before .before .before .before .if1 .left)) (c .before .before .before .cells-lent .ensures)
-    (c .before .before .count-of .ensures .0 ∙ sym (cells-count _)) (c .before .if2 .taken) (c .short-at-start .ensures) (p .5)
+    (c .before .before .count-of .ensures .0 ∙ sym (cells-count _)) (c .before .if2 .taken) (c .short-at-start .ensures) (p .2)
 
 start-body-requires : tie.Need-start-body-requires
 start-body-requires c κs = search needs
 
 start-at-requires : tie.Need-start-at-requires
-start-at-requires c κs = let p = c .before .before .before .before .before .before .before .before .before .before .before .before .before .before .before .before .pre in start-lent _ (p .1) (p .4) (c .start-body .ensures)
+start-at-requires c κs = let p = c .before .before .before .before .before .before .before .before .before .before .before .before .before .before .before .before .pre in start-lent _ (p .0 .start-is) (p .1) (c .start-body .ensures)
 
 walk-from-requires : tie.Need-walk-from-requires
 walk-from-requires c κs =
@@ -56,9 +56,9 @@ walk-from-requires c κs =
     let count = c .before .before .before .before .before .count-of .ensures .0 ∙ sym (cells-count _) in
     let fits = c .before .before .before .before .if2 .left in
     let lent = lent-fit _ (c .before .before .before .before .before .before .cells-lent .ensures) in (
-      record { case-sound = p .0; start-is = p .1; tables = p .2; start-rounds = p .3 },
-      start-names _ (p .1) (p .4) (c .before .before .before .start-body .ensures) {words = 256} (omega arith) (c .before .before .start-at .ensures) .0,
-      p .5,
+      p .0,
+      start-names _ (p .0 .start-is) (p .1) (c .before .before .before .start-body .ensures) {words = 256} (omega arith) (c .before .before .start-at .ensures) .0,
+      p .2,
       omega arith,
       lent .0,
       lent .1,
@@ -73,9 +73,9 @@ same-length-2 c = search needs
 returns-3 : tie.Need-returns-3
 returns-3 c =
     let p = c .before .before .before .before .before .before .before .before .before .before .before .before .before .before .before .before .before .before .before .before .before .before .before .before .pre in
-    let is = tested _ (p .4) (saturatedIn (c .before .before .before .before .before .before .before .before .before .before .before .before .before .before .before .before .before .before .before .before .before .before .before .before .args .z) _ _ _ _ _) (states-below (p .2 .stands)) (p .1) (p .3 .rounds-stand) (c .before .before .before .before .before .before .before .before .before .before .before .before .before .before .start-accepted .ensures .0)
+    let is = tested _ (p .1) (saturatedIn (c .before .before .before .before .before .before .before .before .before .before .before .before .before .before .before .before .before .before .before .before .before .before .before .before .args .z) _ _ _ _ _) (states-below (p .0 .tables .stands)) (p .0 .start-is) (p .0 .start-rounds .rounds-stand) (c .before .before .before .before .before .before .before .before .before .before .before .before .before .before .start-accepted .ensures .0)
     (c .before .before .before .before .before .before .before .before .before .before .before .before .before .is-won .ensures) in
-    let x = named _ (p .4) (c .before .before .before .before .before .before .before .before .start-body .ensures) (c .before .before .before .before .before .before .before .start-at .ensures) in
+    let x = named _ (p .1) (c .before .before .before .before .before .before .before .before .start-body .ensures) (c .before .before .before .before .before .before .before .start-at .ensures) in
     leaves-walk _ _ is (not-false (c .before .before .before .before .before .before .before .before .before .before .before .before .before .is-won .result) (c .before .before .before .before .before .before .before .before .before .before .before .before .if1 .left)) (c .before .before .before .before .before .before .before .before .before .before .before .cells-lent .ensures)
     (c .before .before .before .before .before .before .before .before .before .before .count-of .ensures .0 ∙ sym (cells-count _)) (c .before .before .before .before .before .before .before .before .before .if2 .left) x (c .before .before .before .before .walk-from .ensures)
 

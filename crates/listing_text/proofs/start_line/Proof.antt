@@ -24,7 +24,7 @@ unfolding zeros
 guide-with-rounds-requires c κs =
     let p = c .before .before .before .before .before .before .before .before .before .before .pre in
     let s = p .0 .sound in
-    (s .sound-case, start-sound s, p .0 .tables, p .1, p .2, refl, sym (p .0 .nothing-left))
+    (record { case-sound = s .sound-case; start-is = start-sound s; tables = p .0 .tables; start-rounds = p .1 }, p .2, refl, sym (p .0 .nothing-left))
 
 start-accepted-requires : tie.Need-start-accepted-requires
 start-accepted-requires c κs = let p = c .before .before .before .before .before .before .before .before .before .before .before .before .before .pre in (start-sound (p .0 .sound), p .2, p .1 .rounds-lent)

@@ -36,7 +36,7 @@ root-accepted-requires : tie.Need-root-accepted-requires
 root-accepted-requires c κs =
     let p = c .before .before .before .before .before .before .before .before .before .before .before .before .pre in
     let t = c .before .before .before .before .before .before .load-case in
-    (own-named _ (p .0) (t .result) _ _ _ (t .ensures .0) (omega arith) (omega arith) (omega arith), p .1, p .2, p .3, p .4, p .5, p .6)
+    (own-named _ (p .0) (t .result) _ _ _ (t .ensures .0) (omega arith) (omega arith) (omega arith), p .1)
 
 returns : tie.Need-returns
 returns c = c .root-accepted .ensures ∙ ap₂ inTarget (c .before .before .before .before .before .before .before .load-case .ensures .0) refl

@@ -22,8 +22,8 @@ slice-aggregate-fill-rounds-2 c = sym (length-replicate {A = ℕ} 262144 0)
 fill-rounds-requires : tie.Need-fill-rounds-requires
 fill-rounds-requires c κs =
     let p = c .before .before .before .before .before .before .pre in
-    let few = p .2 in
-    (p .0, omega arith, omega arith, p .1, p .3, made-room 262144 _ _ refl (omega arith), made-zero 262144)
+    let few = p .1 .cells-few in
+    (p .0, omega arith, omega arith, p .1 .cells-there, p .1 .formed, made-room 262144 _ _ refl (omega arith), made-zero 262144)
 
 slice-aggregate-accepted : tie.Need-slice-aggregate-accepted
 slice-aggregate-accepted c = sym (c .before .before .fill-rounds .ensures .long ∙ length-replicate {A = ℕ} 262144 0)
@@ -31,9 +31,9 @@ slice-aggregate-accepted c = sym (c .before .before .fill-rounds .ensures .long 
 accepted-requires : tie.Need-accepted-requires
 accepted-requires c κs =
     let p = c .before .before .before .before .before .before .before .before .before .pre in
-    let few = p .2 in
-    let there = p .4 in
-    (made-room 262144 _ _ (c .before .before .fill-rounds .ensures .long) (omega arith), p .6)
+    let few = p .1 .cells-few in
+    let there = p .1 .root-exists in
+    (made-room 262144 _ _ (c .before .before .fill-rounds .ensures .long) (omega arith), p .1 .control-small)
 
 is-won-requires : tie.Need-is-won-requires
 is-won-requires c κs = search needs
@@ -43,7 +43,7 @@ returns c =
     let s = c .before .before .before .before .before .before .before .before .before .before .before in
     let r = c .before .before .before .before .fill-rounds in
     c .is-won .ensures ∙ ap isWon (c .before .accepted .ensures .0)
-    ∙ won-in-target (saturatedIn (s .args .z) _ _ _ _ _) (states-below (s .pre .0)) _ _ (r .ensures .filled) _ _ (s .pre .4) (s .pre .5)
+    ∙ won-in-target (saturatedIn (s .args .z) _ _ _ _ _) (states-below (s .pre .0)) _ _ (r .ensures .filled) _ _ (s .pre .1 .root-exists) (s .pre .1 .root-order)
 
 pub root-accepted-spec : {M : Type 1} → statement M
 root-accepted-spec =

@@ -11,7 +11,19 @@ cast-in-target : tie.Need-cast-in-target
 cast-in-target c = search needs
 
 in-target-requires : tie.Need-in-target-requires
-in-target-requires c κs = search needs
+in-target-requires c κs =
+    let p = c .before .before .before .pre in
+    let s = p .1 in (
+      p .0,
+      record {
+        cells-there = s .cells-there;
+        cells-few = p .2;
+        formed = s .formed;
+        root-exists = s .root-exists;
+        root-order = s .root-order;
+        control-small = s .control-small;
+      },
+    )
 
 returns : tie.Need-returns
 returns c = ap (λ (t : Bool). arrivalAnswer t (c .before .before .before .before .before .args .steps)) (sym (c .if1 .taken) ∙ c .before .in-target .ensures)
