@@ -49,16 +49,19 @@ pub record Line (bytes : List ℕ) : Type 0 where
   pub no-end : List·Memᴰ 10 words → ⊥
   pub then-ends : bytes ≡ words ++ ascii "\n"
 
--- "A line after its first: `most` and the largest such count": the second line of the text names the largest third word of d's entries.
-pub record SecondIsMost (text : List ℕ) (d : SaturateDone) : Type 0 where
+-- the second line of a text
+pub record SecondLine (text line : List ℕ) : Type 0 where
   pub first : List ℕ
-  pub most : ℕ
   pub rest : List ℕ
   pub first-line : Line first
-  pub is-largest : LargestCount d most
-  pub text-is : text ≡ first ++ (ascii "most " ++ decimal most ++ ascii "\n") ++ rest
+  pub text-is : text ≡ first ++ line ++ rest
 
--- Where no number applies to the files in all rounds, it is so of the listing's text and of any answer of saturate to the case, with the listing's tables
--- lent, that meets demand 1.
+-- "The listing gains a line after its first: `most` and the largest such count": the second line of the text names the largest third word of d's
+-- entries.
+abbrev pub NamesLargest : List ℕ → SaturateDone → Type 0
+NamesLargest text d = (n : ℕ) × LargestCount d n × SecondLine text (ascii "most " ++ decimal n ++ ascii "\n")
+
+-- Where no number applies to the files in all rounds, the listing does so, of any answer of saturate to the case, with the listing's tables lent, that
+-- meets demand 1.
 abbrev pub MostLargest : Type 0
-MostLargest = (f : Files) (d : SaturateDone) → SaturateStates (listingLent f) d → Returned judgeRefusals (listingJudge f allRounds) 0 → SecondIsMost (listingText f) d
+MostLargest = (f : Files) (d : SaturateDone) → SaturateStates (listingLent f) d → Returned judgeRefusals (listingJudge f allRounds) 0 → NamesLargest (listingText f) d

@@ -4,11 +4,11 @@ use Prim.Native.Nat.{ℕ, zero, suc, _+_, _*_, _/_, _%_, _≤_, _<_}
 use mathlib.Core.Bool.{true, false≢true}
 use mathlib.Core.Path.{_≡_, refl, ap, sym, _∙_, subst}
 use mathlib.Core.Logic.{_⊎_, inl, inr}
-use mathlib.Core.List.{List, [], _∷_, _++_}
+use mathlib.Core.List.{List, [], _∷_, _++_, append-assoc, List·Memᴰ, List·Memᴰ·head, List·Memᴰ·tail}
 use mathlib.Core.Option.{some, Option·none-ne-some}
 use native.Mathlib.Omega.{arith}
-use lib.ListN.{length, getD}
-use lib.Dec.{eqb, leb}
+use lib.ListN.{length, getD, drop}
+use lib.Dec.{eqb, leb, lit<}
 use borrow.Author.Tests.{eqb-false, eq-eqb, le-leb}
 use Rattle.words.specs.Lists.{each, only, every}
 use Rattle.words.specs.Lists.Laws.{only-yes, only-no, every-append, every-in}
@@ -26,6 +26,7 @@ use Rattle.services.specs.Saturate.Laws.{SaturateCase, case-refused, size-excee
 use Rattle.services.specs.Judge.{JudgeDone, judgeLent, judgeLeft, judgeService}
 use Rattle.services.specs.Judge.Laws.{JudgeCase, start-refused, answers-short, judged, judge-cases}
 use Rattle.services.specs.Listing.{ascii, digitsBefore, decimal, listingLent, listingJudge, sizeLine, largestCount, mostLine, startLines, judgedText, listingText}
+use Rattle.services.specs.Listing.Decimal.{decimal-told}
 use Rattle.demands.specs.Size.Laws.{saturated-table}
 use Rattle.demands.specs.Refusals.{Returned, saturateRefusals, judgeRefusals}
 use Rattle.demands.specs.Refusals.Laws.{returned-one}
@@ -33,7 +34,7 @@ use Rattle.demands.specs.Demand1.{SaturateStates}
 use Rattle.demands.specs.Demand1.Proof.{demand1-saturate}
 use Rattle.demands.specs.Demand2.Proof.{judge-marks}
 use Rattle.demands.specs.Determined.{saturate-only}
-use Rattle.demands.specs.MoveCounts.{walked, thirdWord, CountsWalked, AllWalked, LargestCount, Line, SecondIsMost, MostLargest}
+use Rattle.demands.specs.MoveCounts.{walked, thirdWord, CountsWalked, AllWalked, LargestCount, Line, SecondLine, MostLargest}
 
 -- ---- the words of a table
 
@@ -110,7 +111,7 @@ module _ (x : Lent) where
       go e (size-exceeded _ _) z = absurd (eqb-false 9 0 refl z)
       go e (filled T sound o) z = f T sound o
 
-  largest-count : (d : SaturateDone) → SaturateStates x d → Returned saturateRefusals x 0 → LargestCount d (largestCount x)
+  pub largest-count : (d : SaturateDone) → SaturateStates x d → Returned saturateRefusals x 0 → LargestCount d (largestCount x)
   largest-count = by-case (λ (d : SaturateDone). LargestCount d (largestCount x)) (λ T sound o. filled-largest T o)
 
 pub counts-walked : AllWalked
@@ -183,12 +184,53 @@ module _ (f : Files) (r : Returned judgeRefusals (listingJudge f allRounds) 0) w
 
 pub most-largest : MostLargest
 unfolding judgedText mostLine
-most-largest f d s r =
-    record {
-      first = sizeLine (saturateService (listingLent f) .reply);
-      most = largestCount (listingLent f);
-      rest = startLines f 0 (length (startsOf (f .start)));
-      first-line = size-line (saturateService (listingLent f) .reply);
-      is-largest = largest-count (listingLent f) d s (unrefused-saturates f r);
-      text-is = judged-listed f r;
-    }
+most-largest f d s r = (
+  largestCount (listingLent f),
+  largest-count (listingLent f) d s (unrefused-saturates f r),
+  record {
+    first = sizeLine (saturateService (listingLent f) .reply);
+    rest = startLines f 0 (length (startsOf (f .start)));
+    first-line = size-line (saturateService (listingLent f) .reply);
+    text-is = judged-listed f r;
+  },
+)
+
+-- ---- an answer has one largest count, and a text's second line names one number
+
+pub largest-one : {d : SaturateDone} {n m : ℕ} → LargestCount d n → LargestCount d m → n ≡ m
+largest-one {d} {n} {m} a b =
+    let l : n ≤ m = go n m (b .above) (a .reached) in
+    let k : m ≤ n = go m n (a .above) (b .reached) in
+    omega arith
+  where
+    go : (n m : ℕ) → ((i : ℕ) → i < d .reply .entries → thirdWord (d .entries) i ≤ m)
+        → (n ≡ 0) ⊎ ((i : ℕ) × (i < d .reply .entries) × (thirdWord (d .entries) i ≡ n)) → n ≤ m
+    go n m h (inl e) = omega arith
+    go n m h (inr (i, l, e)) = subst (λ (k : ℕ). k ≤ m) e (h i l)
+
+-- a line at the front tells what follows it
+lines-told : (a b x y : List ℕ) → (List·Memᴰ 10 a → ⊥) → (List·Memᴰ 10 b → ⊥) → a ++ (10 ∷ x) ≡ b ++ (10 ∷ y) → x ≡ y
+lines-told [] [] x y h k e = ap (drop 1) e
+lines-told [] (c ∷ b) x y h k e = absurd (k (List·Memᴰ·head (ap (λ (l : List ℕ). getD l 0 0) e)))
+lines-told (c ∷ a) [] x y h k e = absurd (h (List·Memᴰ·head (ap (λ (l : List ℕ). getD l 0 0) (sym e))))
+lines-told (c ∷ a) (_ ∷ b) x y h k e = lines-told a b x y (λ m. h (List·Memᴰ·tail m)) (λ m. k (List·Memᴰ·tail m)) (ap (drop 1) e)
+
+-- a text with its second line by bytes
+by-bytes : {text : List ℕ} (n : ℕ) (s : SecondLine text (ascii "most " ++ decimal n ++ ascii "\n"))
+    → text ≡ s .first-line .words ++ (10 ∷ (ascii "most " ++ (decimal n ++ (10 ∷ s .rest))))
+unfolding ascii
+by-bytes n s =
+    let words : List ℕ = s .first-line .words in
+    let line : List ℕ = ascii "most " ++ decimal n ++ ascii "\n" in
+    s .text-is
+    ∙ ap (λ (l : List ℕ). l ++ line ++ s .rest) (s .first-line .then-ends)
+    ∙ append-assoc (words ++ ascii "\n") line (s .rest)
+    ∙ append-assoc words (ascii "\n") (line ++ s .rest)
+    ∙ ap (λ (l : List ℕ). words ++ (10 ∷ (ascii "most " ++ l))) (append-assoc (decimal n) (ascii "\n") (s .rest))
+
+pub named-one : {text : List ℕ} (n m : ℕ) → SecondLine text (ascii "most " ++ decimal n ++ ascii "\n")
+    → SecondLine text (ascii "most " ++ decimal m ++ ascii "\n") → n ≡ m
+unfolding ascii
+named-one n m s t =
+    let e = lines-told _ _ _ _ (s .first-line .no-end) (t .first-line .no-end) (sym (by-bytes n s) ∙ by-bytes m t) in
+    decimal-told n m 10 10 (s .rest) (t .rest) (lit< tt) (lit< tt) (ap (drop 5) e) .0
