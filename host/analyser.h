@@ -223,10 +223,11 @@ uint64_t analyser_guide(
  * applies, are more than lent or than 4,096. The steps are taken in order: the
  * first one that fails, or that needs more cells than there are, decides.
  *
- * A trace is accepted exactly if it is a run of the case's rules from the start
- * that ends in the target, and its cells suffice. What the guide wrote for the same
- * files and start, if it arrived, after whichever number of rounds, is accepted if at
- * least as many cells are lent as the guide says it used.
+ * A trace is accepted exactly if none of 1 to 7, 10 and 12 applies, it is a run of
+ * the case's rules from the start that ends in the target, and its cells fit. An odd
+ * number of bytes is refused with 10 even where its whole words are a run. What the
+ * guide wrote for the same files and start, if it arrived, after whichever number of
+ * rounds, is accepted if at least as many cells are lent as the guide says it used.
  */
 uint64_t analyser_replay(
     const uint8_t *case_file, size_t case_length,
