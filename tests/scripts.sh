@@ -96,6 +96,8 @@ eight_at_once() { # what each of them prints
 
 # shellcheck source=tests/scripts/files.sh
 . tests/scripts/files.sh
+# shellcheck source=tests/scripts/models.sh
+. tests/scripts/models.sh
 # shellcheck source=tests/scripts/programs.sh
 . tests/scripts/programs.sh
 # shellcheck source=tests/scripts/building.sh

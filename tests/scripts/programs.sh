@@ -232,6 +232,9 @@ this_repository() {
     model_a
     guided_runs
     guided_by_rounds
+    listed_models
+    guided_models
+    without_files
     printed_stacks
     long_stacks
     refusals
