@@ -10,7 +10,8 @@ ghost use lib.Seq.{sets};
 ghost use Rattle.files.specs.Bytes.{records};
 ghost use Rattle.files.specs.Codes.{codesRight};
 ghost use Rattle.files.specs.Case;
-ghost use Rattle.files.specs.Case.{formOf, casePlaced, codesOf, headRight, ruleBytes, ruleRight, ruleRecords, edgeBytes, edgeRight, edgeRecords, entriesOf, moveOf, moveRight, moveKey, moveRecords, recordsRight, increasing, caseRefusal};
+ghost use Rattle.files.specs.Case.{formOf, casePlaced, codesOf, headRight, ruleBytes, ruleRight, ruleRecords};
+ghost use Rattle.files.specs.Case.{edgeBytes, edgeRight, edgeRecords, entriesOf, moveOf, moveRight, moveKey, moveRecords, recordsRight, increasing, caseRefusal};
 ghost use Rattle.bytes_in.specs.Records.{bodyOf};
 ghost use Rattle.case_records.specs.Values.{theHead, theEdge};
 ghost use Rattle.case_records.specs.Keys.{edgeOrder};
@@ -55,11 +56,14 @@ fn form_of(first: u64) -> Form
     ensures { λ r. ⌜ r .codes ≡ codesIn (formOf first) ⌝ }
 {
     if first == Limits::CASE_FIRST {
-        return Form { lines: 4, codes: 0 };
+        return Form {
+            lines: Limits::CASE_CONTENTS,
+            codes: 0,
+        };
     }
     if first == Limits::CODED_FIRST {
         return Form {
-            lines: 5,
+            lines: Limits::CODED_CONTENTS,
             codes: Limits::OPERATIONS,
         };
     }

@@ -15,17 +15,24 @@ pub enum Cell {
     Above(u16, u16),
 }
 
+// A 16-bit word as a number.
+fn wide(x: u16) -> u64
+    ensures { λ r. ⌜ r ≡ x ⌝ }
+{
+    x as u64
+}
+
 // Cell i.
 pub fn cell_at(cells: &[u16], i: usize) -> Cell
     requires { ⌜ i * 68 + 68 ≤ length (now cells) ⌝ }
     ensures { λ r. ⌜ r ≡ cellIn (now (cells .entry)) i ⌝ }
 {
     let at = i * Limits::CELL_WORDS;
-    let kind = cells[at];
+    let kind = wide(cells[at]);
     match kind {
-        2 => Cell::Symbol(cells[at + 1], cells[at + 2], cells[at + 3]),
-        3 => Cell::Empty2,
-        4 => Cell::Above(cells[at + 2], cells[at + 3]),
+        Limits::SYMBOL_CELL => Cell::Symbol(cells[at + 1], cells[at + 2], cells[at + 3]),
+        Limits::EMPTY2_CELL => Cell::Empty2,
+        Limits::ABOVE_CELL => Cell::Above(cells[at + 2], cells[at + 3]),
         _ => Cell::Empty1,
     }
 }
@@ -63,10 +70,10 @@ pub fn put_cell(cells: &mut [u16], i: usize, cell: Cell)
     let end = at + Limits::CELL_WORDS;
     zeroing::zero_u16(&mut cells[at..end]);
     match cell {
-        Cell::Empty1 => put_fields(cells, at, 1, 0, 0, 0),
-        Cell::Symbol(a, u, s) => put_fields(cells, at, 2, a, u, s),
-        Cell::Empty2 => put_fields(cells, at, 3, 0, 0, 0),
-        Cell::Above(w, t) => put_fields(cells, at, 4, 0, w, t),
+        Cell::Empty1 => put_fields(cells, at, Limits::EMPTY1_CELL as u16, 0, 0, 0),
+        Cell::Symbol(a, u, s) => put_fields(cells, at, Limits::SYMBOL_CELL as u16, a, u, s),
+        Cell::Empty2 => put_fields(cells, at, Limits::EMPTY2_CELL as u16, 0, 0, 0),
+        Cell::Above(w, t) => put_fields(cells, at, Limits::ABOVE_CELL as u16, 0, w, t),
     }
 }
 

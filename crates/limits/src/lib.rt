@@ -53,6 +53,24 @@ impl Limits {
 
     pub const START_FIRST: u64 = 2;
 
+    // ---- lines of the contents of a case, of a case with a record of operation codes, of a start file
+
+    pub const CASE_CONTENTS: usize = 4;
+
+    pub const CODED_CONTENTS: usize = 5;
+
+    pub const START_CONTENTS: usize = 2;
+
+    // ---- the kinds of a cell: an empty order-1 stack, a symbol, an empty order-2 stack, an order-1 stack on an order-2 stack
+
+    pub const EMPTY1_CELL: u64 = 1;
+
+    pub const SYMBOL_CELL: u64 = 2;
+
+    pub const EMPTY2_CELL: u64 = 3;
+
+    pub const ABOVE_CELL: u64 = 4;
+
     // ---- bytes of a line of a table of contents, and of a record of each body
 
     pub const LINE_BYTES: usize = 8;
@@ -136,7 +154,7 @@ impl Limits {
     // ---- the longest sound files
 
     pub const CASE_FILE: usize = 1
-        + 5 * Limits::LINE_BYTES
+        + Limits::CODED_CONTENTS * Limits::LINE_BYTES
         + Limits::HEAD_BYTES
         + Limits::RULES * Limits::RULE_BYTES
         + Limits::EDGES * Limits::EDGE_BYTES
@@ -144,7 +162,7 @@ impl Limits {
         + Limits::OPERATIONS;
 
     pub const START_FILE: usize = 1
-        + 2 * Limits::LINE_BYTES
+        + Limits::START_CONTENTS * Limits::LINE_BYTES
         + Limits::STARTS * Limits::START_BYTES
         + Limits::START_CELLS * Limits::CELL_BYTES;
 

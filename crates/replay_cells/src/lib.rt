@@ -47,10 +47,10 @@ fn put_cell(cells: &mut [u8], i: usize, cell: Cell)
 {
     let at = i * Limits::CELL_BYTES;
     match cell {
-        Cell::Empty1 => put_fields(cells, at, 1, 0, 0, 0),
-        Cell::Symbol(a, u, s) => put_fields(cells, at, 2, a as u8, u, s),
-        Cell::Empty2 => put_fields(cells, at, 3, 0, 0, 0),
-        Cell::Above(w, t) => put_fields(cells, at, 4, 0, w, t),
+        Cell::Empty1 => put_fields(cells, at, Limits::EMPTY1_CELL as u8, 0, 0, 0),
+        Cell::Symbol(a, u, s) => put_fields(cells, at, Limits::SYMBOL_CELL as u8, a as u8, u, s),
+        Cell::Empty2 => put_fields(cells, at, Limits::EMPTY2_CELL as u8, 0, 0, 0),
+        Cell::Above(w, t) => put_fields(cells, at, Limits::ABOVE_CELL as u8, 0, w, t),
     }
 }
 

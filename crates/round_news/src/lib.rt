@@ -17,7 +17,7 @@ pub fn new_symbols(moves: &[u64], from: usize, to: usize) -> u64
     let mut i = from;
     while i < to {
         let m = tables::move_at(moves, i);
-        s = sets::join(s, sets::one_bit(m.symbol % Limits::STATES1 as u64));
+        s = sets::join(s, sets::one_bit(m.symbol % Limits::WORD_BITS as u64));
         i += 1;
     }
     s
@@ -27,7 +27,7 @@ pub fn new_symbols(moves: &[u64], from: usize, to: usize) -> u64
 pub fn has_symbol(symbols: u64, a: u64) -> bool
     ensures { λ r. ⌜ r ≡ member symbols (a % 64) ⌝ }
 {
-    sets::has(symbols, a % Limits::STATES1 as u64)
+    sets::has(symbols, a % Limits::WORD_BITS as u64)
 }
 
 // The states s, without the state of move m where m is on symbol a.
@@ -37,7 +37,7 @@ fn unsettle(s: u64, m: tables::Move, a: u64) -> u64
     if m.symbol != a {
         return s;
     }
-    let q = m.state % Limits::STATES1 as u64;
+    let q = m.state % Limits::WORD_BITS as u64;
     if !sets::has(s, q) {
         return s;
     }
@@ -50,7 +50,7 @@ pub fn settled_states(moves: &[u64], from: usize, to: usize, a: u64) -> u64
     requires { ⌜ to * 5 ≤ length (now moves) ⌝ }
     ensures { λ s. ⌜ NoneHas (now (moves .entry)) from to a s ⌝ }
 {
-    let mut s = 18446744073709551615u64;
+    let mut s = sets::full();
     let mut n = from;
     while n < to {
         s = unsettle(s, tables::move_at(moves, n), a);

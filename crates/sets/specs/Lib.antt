@@ -1,3 +1,4 @@
+pub mod Full
 pub mod Halving
 pub mod Laws
 pub mod Without

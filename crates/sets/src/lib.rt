@@ -2,7 +2,7 @@
 ghost use mathlib.Core.Path.{_≡_};
 ghost use mathlib.Core.Bool.{true};
 ghost use mathlib.Core.List.{_∷_};
-ghost use Prim.Native.Nat.{_<_, _^_};
+ghost use Prim.Native.Nat.{ℕ, _<_, _^_, _-_};
 ghost use lib.Dec.{ltb, leb};
 ghost use Rattle.sets.specs.Without.{without};
 ghost use Rattle.words.specs.Lists.{every};
@@ -15,6 +15,14 @@ pub fn one_bit(n: u64) -> u64
     ensures set { λ r. ⌜ r ≡ single n ⌝ }
 {
     1u64 << n
+}
+
+// The set of all that can be a member: every n from 0 to 63.
+pub fn full() -> u64
+    ensures { λ r. ⌜ r ≡ 2 ^ 64 - 1 ⌝ }
+    ensures all { λ r. ⌜ ((n : ℕ) → n < 64 → member r n ≡ true) ⌝ }
+{
+    18446744073709551615
 }
 
 // The set of all that is a member of a or of b.

@@ -83,9 +83,9 @@ fn cell_of(x: Fields) -> Cell
 {
     let kind = x.kind;
     match kind {
-        1 => Cell::Empty1,
-        2 => Cell::Symbol(x.symbol as u16, x.first as u16, x.second as u16),
-        3 => Cell::Empty2,
+        Limits::EMPTY1_CELL => Cell::Empty1,
+        Limits::SYMBOL_CELL => Cell::Symbol(x.symbol as u16, x.first as u16, x.second as u16),
+        Limits::EMPTY2_CELL => Cell::Empty2,
         _ => Cell::Above(x.first as u16, x.second as u16),
     }
 }
@@ -127,7 +127,7 @@ pub fn order_at(body: &[u8], n: usize, i: usize) -> u64
 fn order_of(kind: u64) -> u64
     ensures { λ r. ⌜ r ≡ orderOf kind ⌝ }
 {
-    if kind <= 2 {
+    if kind <= Limits::SYMBOL_CELL {
         return 1;
     }
     2
@@ -177,7 +177,7 @@ fn above_right(body: &[u8], n: usize, x: Fields) -> bool
     requires { ⌜ (n * 6 ≤ length (now body)) × (n ≤ 256) ⌝ }
     ensures { λ r. ⌜ r ≡ aboveRight (map cellBytes (records n 6 (now (body .entry)))) n (theFields x) ⌝ }
 {
-    if x.kind != 4 {
+    if x.kind != Limits::ABOVE_CELL {
         return false;
     }
     if x.symbol != 0 {
@@ -195,13 +195,13 @@ pub fn cell_right(symbols: u64, body: &[u8], n: usize, x: Fields) -> bool
     ensures { λ r. ⌜ r ≡ cellRight symbols (map cellBytes (records n 6 (now (body .entry)))) n (theFields x) ⌝ }
 {
     let kind = x.kind;
-    if kind == 1 {
+    if kind == Limits::EMPTY1_CELL {
         return empty_right(x);
     }
-    if kind == 2 {
+    if kind == Limits::SYMBOL_CELL {
         return symbol_right(symbols, body, n, x);
     }
-    if kind == 3 {
+    if kind == Limits::EMPTY2_CELL {
         return empty_right(x);
     }
     above_right(body, n, x)

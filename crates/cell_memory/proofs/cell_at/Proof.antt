@@ -1,6 +1,6 @@
 -- `cell_memory::cell_at` meets its contract.
 -- Assumes nothing.
-use mathlib.Core.Path.{sym}
+use mathlib.Core.Path.{sym, _∙_}
 use borrow.Author.Needs.{needs}
 use Rattle.cell_memory.specs.Memory.Laws.{cellIn-symbol, cellIn-empty2, cellIn-above, cellIn-empty1}
 use Rattle.cell_memory.proofs.cell_at.Statement.{statement}
@@ -9,11 +9,14 @@ use Rattle.cell_memory.proofs.cell_at.Tie as tie
 mul-at : tie.Need-mul-at
 mul-at c = search needs
 
-mul-kind : tie.Need-mul-kind
-mul-kind c = search needs
+mul-wide : tie.Need-mul-wide
+mul-wide c = search needs
 
-shared-slice-read-kind : tie.Need-shared-slice-read-kind
-shared-slice-read-kind c = search needs
+shared-slice-read-wide : tie.Need-shared-slice-read-wide
+shared-slice-read-wide c = search needs
+
+wide-requires : tie.Need-wide-requires
+wide-requires c κs = search needs
 
 add-t9 : tie.Need-add-t9
 add-t9 c = search needs
@@ -61,24 +64,28 @@ shared-slice-read-t28 : tie.Need-shared-slice-read-t28
 shared-slice-read-t28 c = search needs
 
 returns : tie.Need-returns
-returns c = sym (cellIn-symbol _ _ (c .before .before .before .match .keys1))
+returns c = sym (cellIn-symbol _ _ (sym (c .before .before .before .before .wide .ensures) ∙ c .before .before .before .match .keys1))
 
 returns-2 : tie.Need-returns-2
-returns-2 c = sym (cellIn-empty2 _ _ (c .match .keys2))
+returns-2 c = sym (cellIn-empty2 _ _ (sym (c .before .wide .ensures) ∙ c .match .keys2))
 
 returns-3 : tie.Need-returns-3
-returns-3 c = sym (cellIn-above _ _ (c .before .before .match .keys3))
+returns-3 c = sym (cellIn-above _ _ (sym (c .before .before .before .wide .ensures) ∙ c .before .before .match .keys3))
 
 returns-4 : tie.Need-returns-4
-returns-4 c = sym (cellIn-empty1 _ _ (c .match .rest .0 .0 .1) (c .match .rest .0 .1) (c .match .rest .1))
+returns-4 c =
+    let is = c .before .wide .ensures in
+    let r = c .match .rest in
+    sym (cellIn-empty1 _ _ (λ z. r .0 .0 .1 (is ∙ z)) (λ z. r .0 .1 (is ∙ z)) (λ z. r .1 (is ∙ z)))
 
 pub cell-at-spec : {M : Type 1} → statement M
 cell-at-spec =
     tie.close
     (tie.spec
     mul-at
-    mul-kind
-    shared-slice-read-kind
+    mul-wide
+    shared-slice-read-wide
+    wide-requires
     add-t9
     mul-t10
     shared-slice-read-t12

@@ -35,11 +35,17 @@ zero-u16-requires c κs = search needs
 enum-told : tie.Need-enum-told
 enum-told c = search needs
 
+cast-put-fields : tie.Need-cast-put-fields
+cast-put-fields c = search needs
+
 put-fields-requires : tie.Need-put-fields-requires
 put-fields-requires c κs = search needs
 
 enum-known-cell : tie.Need-enum-known-cell
 enum-known-cell c = search needs
+
+cast-put-fields-2 : tie.Need-cast-put-fields-2
+cast-put-fields-2 c = search needs
 
 put-fields-requires-2 : tie.Need-put-fields-requires-2
 put-fields-requires-2 c κs = search needs
@@ -47,11 +53,17 @@ put-fields-requires-2 c κs = search needs
 enum-told-2 : tie.Need-enum-told-2
 enum-told-2 c = search needs
 
+cast-put-fields-3 : tie.Need-cast-put-fields-3
+cast-put-fields-3 c = search needs
+
 put-fields-requires-3 : tie.Need-put-fields-requires-3
 put-fields-requires-3 c κs = search needs
 
 enum-known-cell-2 : tie.Need-enum-known-cell-2
 enum-known-cell-2 c = search needs
+
+cast-put-fields-4 : tie.Need-cast-put-fields-4
+cast-put-fields-4 c = search needs
 
 put-fields-requires-4 : tie.Need-put-fields-requires-4
 put-fields-requires-4 c κs = search needs
@@ -120,12 +132,16 @@ put-cell-spec =
     part-zero-u16-end
     zero-u16-requires
     enum-told
+    cast-put-fields
     put-fields-requires
     enum-known-cell
+    cast-put-fields-2
     put-fields-requires-2
     enum-told-2
+    cast-put-fields-3
     put-fields-requires-3
     enum-known-cell-2
+    cast-put-fields-4
     put-fields-requires-4
     same-length
     returns

@@ -15,15 +15,21 @@ mul-at c = search needs
 enum-told : tie.Need-enum-told
 enum-told c = search needs
 
+cast-put-fields : tie.Need-cast-put-fields
+cast-put-fields c = search needs
+
 put-fields-requires : tie.Need-put-fields-requires
 put-fields-requires c κs = search needs
 
 enum-known-cell : tie.Need-enum-known-cell
 enum-known-cell c = search needs
 
-cast-put-fields : tie.Need-cast-put-fields
+cast-put-fields-2 : tie.Need-cast-put-fields-2
+cast-put-fields-2 c = search needs
+
+cast-put-fields-3 : tie.Need-cast-put-fields-3
 unfolding cellOf cellSymbol
-cast-put-fields c =
+cast-put-fields-3 c =
     let e : cellSymbol (cellOf (c .before .before .before .before .before .args .cell)) ≡ c .before .before .cell .given .0 .0 = ap (λ (d : Cell). cellSymbol (cellOf d)) (c .before .before .cell .given .1) in
     search needs
 
@@ -33,11 +39,17 @@ put-fields-requires-2 c κs = search needs
 enum-told-2 : tie.Need-enum-told-2
 enum-told-2 c = search needs
 
+cast-put-fields-4 : tie.Need-cast-put-fields-4
+cast-put-fields-4 c = search needs
+
 put-fields-requires-3 : tie.Need-put-fields-requires-3
 put-fields-requires-3 c κs = search needs
 
 enum-known-cell-2 : tie.Need-enum-known-cell-2
 enum-known-cell-2 c = search needs
+
+cast-put-fields-5 : tie.Need-cast-put-fields-5
+cast-put-fields-5 c = search needs
 
 put-fields-requires-4 : tie.Need-put-fields-requires-4
 put-fields-requires-4 c κs = search needs
@@ -76,13 +88,17 @@ put-cell-spec =
     (tie.spec
     mul-at
     enum-told
+    cast-put-fields
     put-fields-requires
     enum-known-cell
-    cast-put-fields
+    cast-put-fields-2
+    cast-put-fields-3
     put-fields-requires-2
     enum-told-2
+    cast-put-fields-4
     put-fields-requires-3
     enum-known-cell-2
+    cast-put-fields-5
     put-fields-requires-4
     same-length
     returns

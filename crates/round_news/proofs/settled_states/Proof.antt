@@ -13,6 +13,9 @@ Inv-loop moves from to a s₀ n₀ s n = NoneHas moves from n a s
 abbrev μ-loop : tie.MeasureT-loop
 μ-loop moves from to a s₀ n₀ s n = to - n
 
+full-requires : tie.Need-full-requires Inv-loop μ-loop
+full-requires c κs = search needs
+
 loop-holds : tie.Need-loop-holds Inv-loop μ-loop
 loop-holds c = none-start _ _ _ _
 
@@ -40,6 +43,7 @@ settled-states-spec =
     (tie.spec
     Inv-loop
     μ-loop
+    full-requires
     loop-holds
     move-at-requires
     unsettle-requires
