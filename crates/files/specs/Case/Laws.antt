@@ -170,10 +170,6 @@ module _ (file : List ℕ) (sound : caseRefusal file ≡ 0) where
   unfolding caseRefusal caseTests numbered every
   case-head = head-bounds (head file) (not-false (headRight (head file)) (unrefused file refl sound (List·Memᴰ·tail (List·Memᴰ·head refl))))
 
-  pub case-codes : codesRight (codesOf file) ≡ true
-  unfolding caseRefusal caseTests numbered every
-  case-codes = not-false (codesRight (codesOf file)) (unrefused file refl sound (List·Memᴰ·tail (List·Memᴰ·tail (List·Memᴰ·head refl))))
-
   pub case-bounds : CaseBounds file
   unfolding caseRefusal caseTests numbered every
   case-bounds = records-bounds file
@@ -187,9 +183,6 @@ module _ (file : List ℕ) (sound : caseRefusal file ≡ 0) where
   edges-increasing : rising edgeKey (edgeRecords file) && rising entryKey (entriesOf (head file) (edgeRecords file)) ≡ true
   unfolding increasing
   edges-increasing = and-left (rising edgeKey (edgeRecords file) && rising entryKey (entriesOf (head file) (edgeRecords file))) _ case-increasing
-
-  pub case-edges-rising : rising edgeKey (edgeRecords file) ≡ true
-  case-edges-rising = and-left (rising edgeKey (edgeRecords file)) _ edges-increasing
 
   pub case-entries-rising : rising entryKey (entriesOf (head file) (edgeRecords file)) ≡ true
   case-entries-rising = and-right (rising edgeKey (edgeRecords file)) _ edges-increasing

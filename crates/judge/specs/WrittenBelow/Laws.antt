@@ -6,7 +6,7 @@ use mathlib.Core.List.{List, [], _∷_, _++_}
 use native.Mathlib.Numerals.{add-one}
 use native.Mathlib.Omega.{arith}
 use lib.ListN.{length, getD, take, drop, set, length-set}
-use lib.Seq.{length-take-le, take-suc, take-all, take-at, drop-cons, set-at, append-snoc}
+use lib.Seq.{length-take-le, take-suc, take-all, drop-cons, set-at, append-snoc}
 use Rattle.judge.specs.WrittenBelow.{WrittenBelow}
 
 pub written-none : (all w : List ℕ) → WrittenBelow all w w 0
@@ -34,7 +34,3 @@ written-all {all} {w₀} {i = i} {n = n} h e l =
     let b : i ≤ length all = h .within in
     let z : i ≡ n = omega arith in
     h .is ∙ ap (λ (x : List ℕ). x ++ drop i w₀) (take-all i all (omega arith)) ∙ ap (λ (k : ℕ). all ++ drop k w₀) z
-
--- what is written is known
-pub written-front : {all w₀ w : List ℕ} {i : ℕ} → WrittenBelow all w₀ w i → take i w ≡ take i all
-written-front {all} {w₀} {i = i} h = ap (take i) (h .is) ∙ take-at (take i all) (drop i w₀) i (length-take-le i all (h .within))

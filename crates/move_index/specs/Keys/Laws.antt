@@ -20,10 +20,6 @@ pub state-below : (r a : ℕ) → stateKey r a < 2048
 unfolding stateKey
 state-below r a = omega arith
 
-pub words-below : (m : Move) → wordsKey m < 2048
-unfolding wordsKey
-words-below m = omega arith
-
 -- ---- moves compared
 
 pub same-moves : (m n : Move) → sameMove m n ≡ true → m ≡ n

@@ -90,11 +90,6 @@ put-more bytes n c h =
 
 -- ---- cells one after another
 
-length-puts : (cs : List Cell) (bytes : List ℕ) (n : ℕ) → length (putFrom putBytes bytes n cs) ≡ length bytes
-unfolding putFrom
-length-puts [] bytes n = refl
-length-puts (c ∷ cs) bytes n = length-puts cs (putBytes bytes n c) (n + 1) ∙ length-put bytes n c
-
 pub cellsIn-puts : (cs : List Cell) (bytes : List ℕ) (n : ℕ) → (n + length cs) * 6 ≤ length bytes
     → cellsIn (n + length cs) (putFrom putBytes bytes n cs) ≡ cellsIn n bytes ++ cs
 unfolding putFrom

@@ -5,8 +5,8 @@ use mathlib.Core.Path.{_≡_, ap, sym, _∙_}
 use mathlib.Core.List.{List, [], _∷_, _++_}
 use native.Mathlib.Nat.{add-zero, add-assoc}
 use native.Mathlib.Omega.{arith}
-use lib.ListN.{length, take, drop, set, length-append}
-use lib.Seq.{sets, sets-eq, length-sets, length-take-le}
+use lib.ListN.{length, set, length-append}
+use lib.Seq.{sets, length-sets}
 use Rattle.text.specs.Written.{Written}
 use Rattle.words.specs.Copied.{Copied}
 use Rattle.words.specs.Copied.Laws.{copied-sets}
@@ -33,15 +33,6 @@ module _ {before a middle : List ℕ} {at between : ℕ} (first : Written before
 
   pub written-length : length middle ≡ length before
   written-length = ap length (first .is) ∙ length-sets before at a
-
-  module _ (room : at + length a ≤ length before) where
-    pub written-parts : middle ≡ take at before ++ a ++ drop (at + length a) before
-    written-parts = first .is ∙ sets-eq a before at room
-
-    written-front : length (take at before ++ a) ≡ between
-    written-front =
-        let z : at ≤ length before = omega arith in
-        length-append (take at before) a ∙ ap (λ (k : ℕ). k + length a) (length-take-le at before z) ∙ sym (first .place)
 
 -- a text that is the same
 pub written-same : {before a b after : List ℕ} {at end : ℕ} → a ≡ b → Written before at a after end → Written before at b after end

@@ -1,7 +1,7 @@
 -- What holds of the lists of Lists.antt. Membership is data: `List·Memᴰ x l` is a place of x in l.
 -- Assumes nothing.
 use Prim.Native.Nat.{ℕ, zero, suc, _+_, _-_, _*_, _<_, _≤_, suc-le-suc}
-use mathlib.Core.Bool.{Bool, true, false, not, _&&_, _||_, false≢true, and-assoc, or-assoc, or-true, or-false}
+use mathlib.Core.Bool.{Bool, true, false, not, _&&_, _||_, false≢true, and-assoc, or-true}
 use mathlib.Core.Path.{_≡_, refl, ap, ap₂, sym, _∙_, subst}
 use mathlib.Core.Logic.{_⊎_, inl, inr, ⊎-elim}
 use mathlib.Core.Option.{Option, some, Option·some-injective, Option·none-ne-some, Option·some-ne-none}
@@ -150,19 +150,6 @@ module _ {A : Type 0} where
   every-append test (x ∷ xs) ys =
       every-cons test x (xs ++ ys) ∙ ap (λ (t : Bool). test x && t) (every-append test xs ys)
       ∙ sym (and-assoc (test x) (every test xs) (every test ys)) ∙ ap (λ (t : Bool). t && every test ys) (sym (every-cons test x xs))
-
-  pub some-of-append : (test : A → Bool) (xs ys : List A) → some-of test (xs ++ ys) ≡ some-of test xs || some-of test ys
-  unfolding some-of
-  some-of-append test [] ys = refl
-  some-of-append test (x ∷ xs) ys =
-      some-of-cons test x (xs ++ ys) ∙ ap (λ (t : Bool). test x || t) (some-of-append test xs ys)
-      ∙ sym (or-assoc (test x) (some-of test xs) (some-of test ys)) ∙ ap (λ (t : Bool). t || some-of test ys) (sym (some-of-cons test x xs))
-
-  pub some-of-take : (test : A → Bool) (l : List A) (i : ℕ) (d : A) → i < length l → some-of test (take (suc i) l) ≡ some-of test (take i l) || test (getD l i d)
-  unfolding some-of
-  some-of-take test l i d h =
-      ap (some-of test) (take-suc l i d h) ∙ some-of-append test (take i l) (getD l i d ∷ [])
-      ∙ ap (λ (t : Bool). some-of test (take i l) || t) (some-of-cons test (getD l i d) [] ∙ or-false (test (getD l i d)))
 
   pub every-in : (test : A → Bool) {l : List A} {x : A} → every test l ≡ true → List·Memᴰ x l → test x ≡ true
   every-in test h (List·Memᴰ·head {x = z} {xs = zs} e) = ap test e ∙ and-left (test z) (every test zs) (sym (every-cons test z zs) ∙ h)
