@@ -68,7 +68,7 @@ pub struct Body {
 }
 
 // Where the body after this one begins, or that this one's line is wrong.
-pub enum NextBody {
+enum NextBody {
     At(usize),
     Wrong,
 }

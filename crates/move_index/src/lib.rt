@@ -19,7 +19,7 @@ pub fn state_key(r: u64, a: u64) -> usize
 }
 
 // The key of a move by all its words.
-pub fn words_key(m: tables::Move) -> usize
+fn words_key(m: tables::Move) -> usize
     ensures { λ k. ⌜ k ≡ wordsKey (asMove m) ⌝ }
     ensures below { λ k. ⌜ k < 2048 ⌝ }
 {
