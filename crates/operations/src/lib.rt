@@ -1,7 +1,7 @@
 // The table of operations, and the codes that a tool's record gives in the place of ours.
 ghost use mathlib.Core.Path.{_≡_};
 ghost use mathlib.Core.List.{[], _∷_, map};
-ghost use Prim.Native.Nat.{_≤_, _+_, _*_};
+ghost use Prim.Native.Nat.{_<_, _≤_, _+_, _*_};
 ghost use lib.ListN.{length};
 ghost use lib.Seq.{sets};
 ghost use Rattle.files.specs.Bytes.{records};
@@ -85,9 +85,9 @@ pub fn line_of(code: u64) -> Line
     OPERATIONS[code as usize - 1]
 }
 
-// Whether b is right for our code, where there are so many symbols.
+// Whether b is right for our code, where there are so many symbols, at least one.
 pub fn operand_right(code: u64, symbols: u64, b: u64) -> bool
-    requires { ⌜ (1 ≤ code) × (code ≤ 8) ⌝ }
+    requires { ⌜ (1 ≤ code) × (code ≤ 8) × (0 < symbols) ⌝ }
     ensures { λ r. ⌜ r ≡ operandRight code symbols b ⌝ }
 {
     let operand = line_of(code).operand;
@@ -112,7 +112,7 @@ pub fn put_our_codes(codes: &mut [u8])
 // ---- codes
 
 // Our code for the tool's code x, by the codes of a record: x's number there, from 1, and 0 where it is not there.
-pub fn our_code(codes: &[u8], x: u64) -> u64
+fn our_code(codes: &[u8], x: u64) -> u64
     ensures { λ r. ⌜ r ≡ ourCode (now (codes .entry)) x ⌝ }
 {
     let mut i: usize = 0;

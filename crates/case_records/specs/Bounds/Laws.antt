@@ -1,10 +1,10 @@
 -- A record keeps its bounds exactly if each part does.
 -- Assumes nothing.
-use Prim.Native.Nat.{ℕ, zero, suc, _+_, _≤_}
+use Prim.Native.Nat.{ℕ, zero, suc, _+_, _≤_, _<_}
 use mathlib.Core.Bool.{false, _&&_}
 use mathlib.Core.Path.{_≡_, refl}
 use lib.Dec.{ltb, leb}
-use borrow.Author.Tests.{eq-eqb, ne-eqb}
+use borrow.Author.Tests.{eq-eqb, ne-eqb, lt-ltb, le-leb}
 use native.Mathlib.Omega.{arith}
 use Rattle.words.specs.Sets.{members}
 use Rattle.words.specs.Lists.{every}
@@ -19,16 +19,12 @@ pub inner2-parts : (h : Head) (s : ℕ) → inner2 h s ≡ every (λ q. leb (h .
 unfolding inner2 existing2
 inner2-parts h s = every-both (λ q. leb (h .P) q) (λ q. ltb q (h .P + h .I)) (members s)
 
-pub rule-parts : (h : Head) (x : RuleBytes)
-    → ruleRight h x
-    ≡ ltb (x .p) (h .P)
-    && ltb (x .a) (h .A)
-    && leb 1 (x .code)
-    && leb (x .code) 8
-    && ltb (x .next) (h .P)
-    && operandRight (x .code) (h .A) (x .b)
+-- where all else of a rule is right, b decides
+pub rule-operand : (h : Head) (x : RuleBytes) → x .p < h .P → x .a < h .A → 1 ≤ x .code → x .code ≤ 8 → x .next < h .P
+    → ruleRight h x ≡ operandRight (x .code) (h .A) (x .b)
 unfolding ruleRight operandRight
-rule-parts h x = refl
+rule-operand h x p a l m n =
+    rw (lt-ltb _ _ p, lt-ltb _ _ a, le-leb _ _ l, le-leb _ _ m, lt-ltb _ _ n, lt-ltb 0 (h .A) (omega arith)) refl
 
 pub edge-parts : (h : Head) (x : EdgeBytes) → edgeRight h x ≡ firstRight h x && ltb (x .state) (h .P + h .I) && inner2 h (x .S)
 unfolding edgeRight firstRight

@@ -15,10 +15,10 @@ enum-told-2 : tie.Need-enum-told-2
 enum-told-2 c = search needs
 
 returns : tie.Need-returns
-returns c = operand-symbol _ _ _ (c .before .before .line-of .ensures) (c .enum-told .given .1)
+returns c = operand-symbol _ _ _ (c .before .before .before .pre .2) (c .before .before .line-of .ensures) (c .enum-told .given .1)
 
 returns-2 : tie.Need-returns-2
-returns-2 c = operand-zero _ _ _ (c .before .before .line-of .ensures) (c .enum-told2 .given .1)
+returns-2 c = operand-zero _ _ _ (c .before .before .before .pre .2) (c .before .before .line-of .ensures) (c .enum-told2 .given .1)
 
 pub operand-right-spec : {M : Type 1} → statement M
 operand-right-spec = tie.close (tie.spec line-of-requires enum-told enum-told-2 returns returns-2)

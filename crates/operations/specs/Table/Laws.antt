@@ -1,21 +1,22 @@
 -- The rule of the table of operations, by one test over the whole table.
 -- Assumes nothing.
 use Prim.Native.Nat.{ℕ, zero, suc, _+_, _-_, _<_, _≤_}
-use mathlib.Core.Bool.{Bool, true, false, not, _&&_}
+use mathlib.Core.Bool.{Bool, true, _&&_}
 use mathlib.Core.Path.{_≡_, refl, ap, sym, _∙_, subst}
 use mathlib.Core.List.{List, [], _∷_}
 use native.Mathlib.Omega.{arith}
 use native.Mathlib.Nat.{add-zero}
 use lib.ListN.{length, getD}
 use lib.Dec.{eqb, ltb}
-use borrow.Author.Tests.{eqb-true, not-true}
-use Rattle.words.specs.Laws.Tests.{by-test, and-left, and-right}
+use borrow.Author.Tests.{eqb-true, lt-ltb}
+use Rattle.words.specs.Laws.Tests.{and-left, and-right}
 use Rattle.stacks.specs.Stack.{newCells}
-use Rattle.files.specs.Case.{operationOf}
+use Rattle.files.specs.Case.{ruleRight, operationOf}
 use Rattle.files.specs.Codes.{ourCodes}
+use Rattle.operations.specs.declared.Operand.{Operand}
 use Rattle.operations.specs.declared.Operand.the-variants.{Symbol, Zero}
 use Rattle.operations.specs.declared.Line.{Line}
-use Rattle.operations.specs.Table.{isSymbol, LineOf, operandRight}
+use Rattle.operations.specs.Table.{operandRight, isOperand, LineOf}
 
 -- ---- a test over a whole table
 
@@ -36,12 +37,9 @@ module _ {A : Type 0} (right : ℕ → A → Bool) where
 
 -- ---- the line of a code
 
--- the line has this code, the use of b and the new cells of its operation
+-- the line has this code, and the new cells of its operation
 unfoldable lineRight : ℕ → Line → Bool
-lineRight code x =
-    eqb (x .code) code
-    && elim (ltb code 4) [ true ↦ isSymbol (x .operand) | false ↦ not (isSymbol (x .operand)) ]
-    && eqb (x .cells) (newCells (operationOf code 0))
+lineRight code x = eqb (x .code) code && eqb (x .cells) (newCells (operationOf code 0))
 
 -- the new cells do not depend on b
 cells-any : (code b : ℕ) → newCells (operationOf code 0) ≡ newCells (operationOf code b)
@@ -56,19 +54,6 @@ cells-any (suc (suc (suc (suc (suc (suc zero)))))) b = refl
 cells-any (suc (suc (suc (suc (suc (suc (suc zero))))))) b = refl
 cells-any (suc (suc (suc (suc (suc (suc (suc (suc k)))))))) b = refl
 
-line-right : (code : ℕ) (x : Line) → lineRight code x ≡ true → LineOf code x
-unfolding lineRight
-line-right code x e =
-    let a : Bool = eqb (x .code) code in
-    let b : Bool = elim (ltb code 4) [ true ↦ isSymbol (x .operand) | false ↦ not (isSymbol (x .operand)) ] in
-    let ab = and-left (a && b) _ e in
-    let eb = and-right a _ ab in
-    record {
-      code-is = eqb-true (x .code) code (and-left a _ ab);
-      operand-is = by-test (ltb code 4) (λ t. (rw t at eb) ∙ sym t) (λ t. not-true _ (rw t at eb) ∙ sym t);
-      cells-are = λ k. eqb-true (x .cells) (newCells (operationOf code 0)) (and-right (a && b) _ e) ∙ cells-any code k;
-    }
-
 -- the code's table, line by line
 unfoldable pub lines : List Line
 lines =
@@ -82,23 +67,44 @@ lines =
     ∷ record { code = 8; operand = Zero; cells = 0 }
     ∷ []
 
--- Each line has the code of its place, and the use of b and the new cells of its operation.
+-- in each line the operand says which b is right
+operand-at : (d : Line) (code : ℕ) → 1 ≤ code → code ≤ 8 → (symbols b : ℕ) → 0 < symbols
+    → isOperand (getD lines (code - 1) d .operand) symbols b ≡ operandRight code symbols b
+unfolding lines isOperand operandRight ruleRight
+operand-at d zero l h symbols b p = absurd (omega arith)
+operand-at d (suc zero) l h symbols b p = rw (lt-ltb 0 symbols p) refl
+operand-at d (suc (suc zero)) l h symbols b p = rw (lt-ltb 0 symbols p) refl
+operand-at d (suc (suc (suc zero))) l h symbols b p = rw (lt-ltb 0 symbols p) refl
+operand-at d (suc (suc (suc (suc zero)))) l h symbols b p = rw (lt-ltb 0 symbols p) refl
+operand-at d (suc (suc (suc (suc (suc zero))))) l h symbols b p = rw (lt-ltb 0 symbols p) refl
+operand-at d (suc (suc (suc (suc (suc (suc zero)))))) l h symbols b p = rw (lt-ltb 0 symbols p) refl
+operand-at d (suc (suc (suc (suc (suc (suc (suc zero))))))) l h symbols b p = rw (lt-ltb 0 symbols p) refl
+operand-at d (suc (suc (suc (suc (suc (suc (suc (suc zero)))))))) l h symbols b p = rw (lt-ltb 0 symbols p) refl
+operand-at d (suc (suc (suc (suc (suc (suc (suc (suc (suc k))))))))) l h symbols b p = absurd (omega arith)
+
+-- Each line has the code of its place, the b that is right for it, and the new cells of its operation.
 pub line-at : (d : Line) (code : ℕ) → 1 ≤ code → code ≤ 8 → LineOf code (getD lines (code - 1) d)
-unfolding lines allFrom lineRight isSymbol operationOf newCells
+unfolding lines allFrom lineRight operationOf newCells
 line-at d code l h =
+    let x : Line = getD lines (code - 1) d in
     let z : 1 + (code - 1) ≡ code = omega arith in
-    line-right code (getD lines (code - 1) d)
-    (subst (λ (k : ℕ). lineRight k (getD lines (code - 1) d) ≡ true) z (all-at lineRight 1 lines d (code - 1) refl (omega arith)))
+    let e : lineRight code x ≡ true = subst (λ (k : ℕ). lineRight k x ≡ true) z (all-at lineRight 1 lines d (code - 1) refl (omega arith)) in
+    record {
+      code-is = eqb-true (x .code) code (and-left (eqb (x .code) code) _ e);
+      operand-is = operand-at d code l h;
+      cells-are = λ k. eqb-true (x .cells) (newCells (operationOf code 0)) (and-right (eqb (x .code) code) _ e) ∙ cells-any code k;
+    }
 
 -- ---- the use of b
 
-pub operand-symbol : (code symbols b : ℕ) {x : Line} → LineOf code x → x .operand ≡ Symbol → ltb b symbols ≡ operandRight code symbols b
-unfolding operandRight isSymbol
-operand-symbol code symbols b f e = let t : ltb code 4 ≡ true = sym (f .operand-is) ∙ ap isSymbol e in rw (operandRight, t)
+module _ (code symbols b : ℕ) (some : 0 < symbols) {x : Line} (f : LineOf code x) where
+  pub operand-symbol : x .operand ≡ Symbol → ltb b symbols ≡ operandRight code symbols b
+  unfolding isOperand
+  operand-symbol e = ap (λ (o : Operand). isOperand o symbols b) (sym e) ∙ f .operand-is symbols b some
 
-pub operand-zero : (code symbols b : ℕ) {x : Line} → LineOf code x → x .operand ≡ Zero → eqb b 0 ≡ operandRight code symbols b
-unfolding operandRight isSymbol
-operand-zero code symbols b f e = let t : ltb code 4 ≡ false = sym (f .operand-is) ∙ ap isSymbol e in rw (operandRight, t)
+  pub operand-zero : x .operand ≡ Zero → eqb b 0 ≡ operandRight code symbols b
+  unfolding isOperand
+  operand-zero e = ap (λ (o : Operand). isOperand o symbols b) (sym e) ∙ f .operand-is symbols b some
 
 -- ---- our codes
 
