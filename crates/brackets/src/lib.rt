@@ -32,7 +32,7 @@ pub fn brackets(case: &[u8], start: &[u8], number: usize, text: &mut [u8]) -> Br
     ensures exactly { λ r. ⌜ PrintsExactly (bracketsInput (now (case .entry)) (now (start .entry)) number (length (now (text .entry)))) r ⌝ }
 {
     zeroing::zero_u8(text);
-    let refusal = sound_files::refusal_before(case, start, number, 0, 7);
+    let refusal = sound_files::number_refusal(case, start, number);
     if refusal != 0 {
         return Brackets::Refused(refusal);
     }

@@ -27,7 +27,8 @@ pub extern "C" fn analyser_saturate(
     moves_used: &mut u64,
     entries_used: &mut u64,
 ) -> u64
-    ensures { λ r. ⌜ theDone (theReply r (now («moves_used» .exit)) (now («entries_used» .exit))) (now (moves .exit)) (now (entries .exit)) ≡ saturateService (theLent (now (case .entry)) (now (moves .entry)) (now (entries .entry))) ⌝ }
+    ensures { λ r. ⌜ theDone (theReply r (now («moves_used» .exit)) (now («entries_used» .exit))) (now (moves .exit)) (now (entries .exit))
+        ≡ saturateService (theLent (now (case .entry)) (now (moves .entry)) (now (entries .entry))) ⌝ }
 {
     let r = saturate::saturate(case, moves, entries);
     *moves_used = r.moves;
@@ -46,7 +47,9 @@ pub extern "C" fn analyser_judge(
     answers: &mut [u16],
     rounds_used: &mut u64,
 ) -> u64
-    ensures { λ r. ⌜ judgeDone (theJudged r (now («rounds_used» .exit))) (now (moves .exit)) (now (entries .exit)) (now (answers .exit)) ≡ judgeService (judgeInput (now (case .entry)) (now (start .entry)) rounds (length (now (moves .entry))) (length (now (entries .entry))) (length (now (answers .entry)))) ⌝ }
+    ensures { λ r. ⌜ judgeDone (theJudged r (now («rounds_used» .exit))) (now (moves .exit)) (now (entries .exit)) (now (answers .exit))
+        ≡ judgeService (judgeInput (now (case .entry)) (now (start .entry)) rounds
+        (length (now (moves .entry))) (length (now (entries .entry))) (length (now (answers .entry)))) ⌝ }
 {
     let reply = judge::judge(case, start, rounds, moves, entries, answers);
     *rounds_used = reply.rounds;
@@ -67,7 +70,10 @@ pub extern "C" fn analyser_guide(
     steps: &mut u64,
     cells_used: &mut u64,
 ) -> u64
-    ensures { λ r. ⌜ theAnswer r (theCounts (now (steps .exit)) (now («cells_used» .exit))) (now (moves .exit)) (now (entries .exit)) (now (cells .exit)) (now (trace .exit)) ≡ answerOf (guideService (guideInput (now (case .entry)) (now (start .entry)) number rounds (length (now (moves .entry))) (length (now (entries .entry))) (length (now (cells .entry))) (length (now (trace .entry))))) ⌝ }
+    ensures { λ r. ⌜ theAnswer r (theCounts (now (steps .exit)) (now («cells_used» .exit))) (now (moves .exit)) (now (entries .exit)) (now (cells .exit))
+        (now (trace .exit))
+        ≡ answerOf (guideService (guideInput (now (case .entry)) (now (start .entry)) number rounds
+        (length (now (moves .entry))) (length (now (entries .entry))) (length (now (cells .entry))) (length (now (trace .entry))))) ⌝ }
 {
     let reply = guide::guide(
         case,
@@ -95,7 +101,8 @@ pub extern "C" fn analyser_replay(
     cells: &mut [u8],
     step: &mut u64,
 ) -> u64
-    ensures { λ r. ⌜ theReplay r (now (step .exit)) (now (cells .exit)) ≡ replayOf (replayService (replayInput (now (case .entry)) (now (start .entry)) number (now (trace .entry)) (length (now (cells .entry))))) ⌝ }
+    ensures { λ r. ⌜ theReplay r (now (step .exit)) (now (cells .exit))
+        ≡ replayOf (replayService (replayInput (now (case .entry)) (now (start .entry)) number (now (trace .entry)) (length (now (cells .entry))))) ⌝ }
 {
     let reply = replay::replay(case, start, number as usize, trace, cells);
     *step = reply_numbers::replay_step(reply);
@@ -111,7 +118,8 @@ pub extern "C" fn analyser_brackets(
     text: &mut [u8],
     printed: &mut usize,
 ) -> u64
-    ensures { λ r. ⌜ theBrackets r (now (printed .exit)) (now (text .exit)) ≡ bracketsOf (bracketsService (bracketsInput (now (case .entry)) (now (start .entry)) number (length (now (text .entry))))) ⌝ }
+    ensures { λ r. ⌜ theBrackets r (now (printed .exit)) (now (text .exit))
+        ≡ bracketsOf (bracketsService (bracketsInput (now (case .entry)) (now (start .entry)) number (length (now (text .entry))))) ⌝ }
 {
     let reply = brackets::brackets(case, start, number as usize, text);
     *printed = reply_numbers::brackets_length(reply);

@@ -39,27 +39,21 @@ fn guide_sound(
     cells: &mut [u16],
     trace: &mut [u16],
 ) -> Guided
-    requires { ⌜ FilesSound (now case) (now start) × (number < length (startsOf (now start))) × (now moves ≡ zeros (length (now moves))) × (now entries ≡ zeros (length (now entries))) × (now cells ≡ zeros (length (now cells))) × (now trace ≡ zeros (length (now trace))) ⌝ }
-    ensures { λ r. ⌜ guideDone (r .reply) (now (moves .exit)) (now (entries .exit)) (now (cells .exit)) (now (trace .exit)) ≡ guideService (guideInput (now (case .entry)) (now (start .entry)) number rounds (length (now (moves .entry))) (length (now (entries .entry))) (length (now (cells .entry))) (length (now (trace .entry)))) ⌝ }
-    ensures won { λ r. ⌜ answerWord (r .won) - 1 ≡ judgedRound (now (case .entry)) (now (start .entry)) number rounds (length (now (moves .entry))) (length (now (entries .entry))) ⌝ }
+    requires { ⌜ FilesSound (now case) (now start) × (number < length (startsOf (now start))) × (now moves ≡ zeros (length (now moves)))
+        × (now entries ≡ zeros (length (now entries))) × (now cells ≡ zeros (length (now cells))) × (now trace ≡ zeros (length (now trace))) ⌝ }
+    ensures { λ r. ⌜ guideDone (r .reply) (now (moves .exit)) (now (entries .exit)) (now (cells .exit)) (now (trace .exit))
+        ≡ guideService (guideInput (now (case .entry)) (now (start .entry)) number rounds
+        (length (now (moves .entry))) (length (now (entries .entry))) (length (now (cells .entry))) (length (now (trace .entry)))) ⌝ }
+    ensures won { λ r. ⌜ answerWord (r .won) - 1
+        ≡ judgedRound (now (case .entry)) (now (start .entry)) number rounds (length (now (moves .entry))) (length (now (entries .entry))) ⌝ }
 {
     let mut inner = [0u64; Limits::INNER_TABLE];
-    let mut pending = [0u64; Limits::PENDING_TABLE];
     let mut sizes = [0u64; Limits::SIZE_TABLE];
-    let r = saturate::saturate_case(
-        case,
-        rounds,
-        &mut inner,
-        entries,
-        moves,
-        &mut pending,
-        &mut sizes,
-    );
-    let table = r.table;
+    let r = saturate::saturate_case(case, rounds, &mut inner, entries, moves, &mut sizes);
     if !r.fits {
-        sound_files::zero_tables(moves, entries);
         return refused(9);
     }
+    let table = r.table;
     let guided = guided_start::guide_start(
         case,
         start,
@@ -90,13 +84,16 @@ pub fn guide_won(
     cells: &mut [u16],
     trace: &mut [u16],
 ) -> Guided
-    ensures { λ r. ⌜ guideDone (r .reply) (now (moves .exit)) (now (entries .exit)) (now (cells .exit)) (now (trace .exit)) ≡ guideService (guideInput (now (case .entry)) (now (start .entry)) number rounds (length (now (moves .entry))) (length (now (entries .entry))) (length (now (cells .entry))) (length (now (trace .entry)))) ⌝ }
-    ensures won { λ r. ⌜ answerWord (r .won) - 1 ≡ judgedRound (now (case .entry)) (now (start .entry)) number rounds (length (now (moves .entry))) (length (now (entries .entry))) ⌝ }
+    ensures { λ r. ⌜ guideDone (r .reply) (now (moves .exit)) (now (entries .exit)) (now (cells .exit)) (now (trace .exit))
+        ≡ guideService (guideInput (now (case .entry)) (now (start .entry)) number rounds
+        (length (now (moves .entry))) (length (now (entries .entry))) (length (now (cells .entry))) (length (now (trace .entry)))) ⌝ }
+    ensures won { λ r. ⌜ answerWord (r .won) - 1
+        ≡ judgedRound (now (case .entry)) (now (start .entry)) number rounds (length (now (moves .entry))) (length (now (entries .entry))) ⌝ }
 {
     sound_files::zero_tables(moves, entries);
     zeroing::zero_u16(cells);
     zeroing::zero_u16(trace);
-    let refusal = sound_files::refusal_before(case, start, number, 0, 7);
+    let refusal = sound_files::number_refusal(case, start, number);
     if refusal != 0 {
         return refused(refusal);
     }
@@ -116,11 +113,21 @@ pub fn guide(
     cells: &mut [u16],
     trace: &mut [u16],
 ) -> Reply
-    ensures { λ r. ⌜ guideDone r (now (moves .exit)) (now (entries .exit)) (now (cells .exit)) (now (trace .exit)) ≡ guideService (guideInput (now (case .entry)) (now (start .entry)) number rounds (length (now (moves .entry))) (length (now (entries .entry))) (length (now (cells .entry))) (length (now (trace .entry)))) ⌝ }
-    ensures demand1 { λ r. ⌜ GuideStates (guideInput (now (case .entry)) (now (start .entry)) number rounds (length (now (moves .entry))) (length (now (entries .entry))) (length (now (cells .entry))) (length (now (trace .entry)))) (guideDone r (now (moves .exit)) (now (entries .exit)) (now (cells .exit)) (now (trace .exit))) ⌝ }
-    ensures demand2 { λ r. ⌜ GuideRuns (guideInput (now (case .entry)) (now (start .entry)) number rounds (length (now (moves .entry))) (length (now (entries .entry))) (length (now (cells .entry))) (length (now (trace .entry)))) r ⌝ }
-    ensures size { λ r. ⌜ GuideSize (guideInput (now (case .entry)) (now (start .entry)) number rounds (length (now (moves .entry))) (length (now (entries .entry))) (length (now (cells .entry))) (length (now (trace .entry)))) (refusalOf r) ⌝ }
-    ensures demand3 { λ r. ⌜ Guides (guideInput (now (case .entry)) (now (start .entry)) number rounds (length (now (moves .entry))) (length (now (entries .entry))) (length (now (cells .entry))) (length (now (trace .entry)))) (guideDone r (now (moves .exit)) (now (entries .exit)) (now (cells .exit)) (now (trace .exit))) ⌝ }
+    ensures { λ r. ⌜ guideDone r (now (moves .exit)) (now (entries .exit)) (now (cells .exit)) (now (trace .exit))
+        ≡ guideService (guideInput (now (case .entry)) (now (start .entry)) number rounds
+        (length (now (moves .entry))) (length (now (entries .entry))) (length (now (cells .entry))) (length (now (trace .entry)))) ⌝ }
+    ensures demand1 { λ r. ⌜ GuideStates (guideInput (now (case .entry)) (now (start .entry)) number rounds
+        (length (now (moves .entry))) (length (now (entries .entry))) (length (now (cells .entry))) (length (now (trace .entry))))
+        (guideDone r (now (moves .exit)) (now (entries .exit)) (now (cells .exit)) (now (trace .exit))) ⌝ }
+    ensures demand2 { λ r. ⌜ GuideRuns (guideInput (now (case .entry)) (now (start .entry)) number rounds
+        (length (now (moves .entry))) (length (now (entries .entry))) (length (now (cells .entry))) (length (now (trace .entry))))
+        r ⌝ }
+    ensures size { λ r. ⌜ GuideSize (guideInput (now (case .entry)) (now (start .entry)) number rounds
+        (length (now (moves .entry))) (length (now (entries .entry))) (length (now (cells .entry))) (length (now (trace .entry))))
+        (refusalOf r) ⌝ }
+    ensures demand3 { λ r. ⌜ Guides (guideInput (now (case .entry)) (now (start .entry)) number rounds
+        (length (now (moves .entry))) (length (now (entries .entry))) (length (now (cells .entry))) (length (now (trace .entry))))
+        (guideDone r (now (moves .exit)) (now (entries .exit)) (now (cells .exit)) (now (trace .exit))) ⌝ }
 {
     let guided = guide_won(case, start, number, rounds, moves, entries, cells, trace);
     guided.reply

@@ -60,8 +60,11 @@ fn mark_starts(
     start: &[u8],
     answers: &mut [u16],
 )
-    requires { ⌜ TablesNamed z (now inner) (now entries) (now moves) × (count * 2 ≤ length (now sizes)) × (count < 65535) × StartSound (now start) × (length (startsOf (now start)) ≤ length (now answers)) ⌝ }
-    ensures { λ _. ⌜ now (answers .exit) ≡ map (markOf more (saturatedIn z (now (inner .entry)) (now (entries .entry)) (now (moves .entry)) count (now (sizes .entry))) (now (start .entry))) (startsOf (now (start .entry))) ++ drop (length (startsOf (now (start .entry)))) (now (answers .entry)) ⌝ }
+    requires { ⌜ TablesNamed z (now inner) (now entries) (now moves) × (count * 2 ≤ length (now sizes)) × (count < 65535) × StartSound (now start)
+        × (length (startsOf (now start)) ≤ length (now answers)) ⌝ }
+    ensures { λ _. ⌜ now (answers .exit)
+        ≡ map (markOf more (saturatedIn z (now (inner .entry)) (now (entries .entry)) (now (moves .entry)) count (now (sizes .entry))) (now (start .entry))) (startsOf (now (start .entry)))
+        ++ drop (length (startsOf (now (start .entry)))) (now (answers .entry)) ⌝ }
 {
     let mut rounds = [0u16; Limits::START_CELLS * Limits::STATES1];
     sound_files::start_rounds(z, inner, entries, moves, sizes, count, start, &mut rounds);
@@ -88,26 +91,19 @@ fn judge_sound(
     entries: &mut [u64],
     answers: &mut [u16],
 ) -> Judged
-    requires { ⌜ FilesSound (now case) (now start) × (length (startsOf (now start)) ≤ length (now answers)) × (now moves ≡ zeros (length (now moves))) × (now entries ≡ zeros (length (now entries))) × (now answers ≡ zeros (length (now answers))) ⌝ }
-    ensures { λ r. ⌜ judgeDone r (now (moves .exit)) (now (entries .exit)) (now (answers .exit)) ≡ judgeService (judgeInput (now (case .entry)) (now (start .entry)) rounds (length (now (moves .entry))) (length (now (entries .entry))) (length (now (answers .entry)))) ⌝ }
+    requires { ⌜ FilesSound (now case) (now start) × (length (startsOf (now start)) ≤ length (now answers)) × (now moves ≡ zeros (length (now moves)))
+        × (now entries ≡ zeros (length (now entries))) × (now answers ≡ zeros (length (now answers))) ⌝ }
+    ensures { λ r. ⌜ judgeDone r (now (moves .exit)) (now (entries .exit)) (now (answers .exit))
+        ≡ judgeService (judgeInput (now (case .entry)) (now (start .entry)) rounds
+        (length (now (moves .entry))) (length (now (entries .entry))) (length (now (answers .entry)))) ⌝ }
 {
     let mut inner = [0u64; Limits::INNER_TABLE];
-    let mut pending = [0u64; Limits::PENDING_TABLE];
     let mut sizes = [0u64; Limits::SIZE_TABLE];
-    let r = saturate::saturate_case(
-        case,
-        rounds,
-        &mut inner,
-        entries,
-        moves,
-        &mut pending,
-        &mut sizes,
-    );
-    let table = r.table;
+    let r = saturate::saturate_case(case, rounds, &mut inner, entries, moves, &mut sizes);
     if !r.fits {
-        sound_files::zero_tables(moves, entries);
         return refused(9);
     }
+    let table = r.table;
     mark_starts(
         table,
         &inner,
@@ -137,14 +133,22 @@ pub fn judge(
     entries: &mut [u64],
     answers: &mut [u16],
 ) -> Judged
-    ensures { λ r. ⌜ judgeDone r (now (moves .exit)) (now (entries .exit)) (now (answers .exit)) ≡ judgeService (judgeInput (now (case .entry)) (now (start .entry)) rounds (length (now (moves .entry))) (length (now (entries .entry))) (length (now (answers .entry)))) ⌝ }
-    ensures demand1 { λ r. ⌜ JudgeStates (judgeInput (now (case .entry)) (now (start .entry)) rounds (length (now (moves .entry))) (length (now (entries .entry))) (length (now (answers .entry)))) (judgeDone r (now (moves .exit)) (now (entries .exit)) (now (answers .exit))) ⌝ }
-    ensures demand2 { λ r. ⌜ JudgeMarks (judgeInput (now (case .entry)) (now (start .entry)) rounds (length (now (moves .entry))) (length (now (entries .entry))) (length (now (answers .entry)))) (judgeDone r (now (moves .exit)) (now (entries .exit)) (now (answers .exit))) ⌝ }
-    ensures size { λ r. ⌜ JudgeSize (judgeInput (now (case .entry)) (now (start .entry)) rounds (length (now (moves .entry))) (length (now (entries .entry))) (length (now (answers .entry)))) (r .code) ⌝ }
+    ensures { λ r. ⌜ judgeDone r (now (moves .exit)) (now (entries .exit)) (now (answers .exit))
+        ≡ judgeService (judgeInput (now (case .entry)) (now (start .entry)) rounds
+        (length (now (moves .entry))) (length (now (entries .entry))) (length (now (answers .entry)))) ⌝ }
+    ensures demand1 { λ r. ⌜ JudgeStates (judgeInput (now (case .entry)) (now (start .entry)) rounds
+        (length (now (moves .entry))) (length (now (entries .entry))) (length (now (answers .entry))))
+        (judgeDone r (now (moves .exit)) (now (entries .exit)) (now (answers .exit))) ⌝ }
+    ensures demand2 { λ r. ⌜ JudgeMarks (judgeInput (now (case .entry)) (now (start .entry)) rounds
+        (length (now (moves .entry))) (length (now (entries .entry))) (length (now (answers .entry))))
+        (judgeDone r (now (moves .exit)) (now (entries .exit)) (now (answers .exit))) ⌝ }
+    ensures size { λ r. ⌜ JudgeSize (judgeInput (now (case .entry)) (now (start .entry)) rounds
+        (length (now (moves .entry))) (length (now (entries .entry))) (length (now (answers .entry))))
+        (r .code) ⌝ }
 {
     sound_files::zero_tables(moves, entries);
     zeroing::zero_u16(answers);
-    let refusal = sound_files::refusal_before(case, start, answers.len(), 8, 0);
+    let refusal = sound_files::answers_refusal(case, start, answers.len());
     if refusal != 0 {
         return refused(refusal);
     }

@@ -46,7 +46,8 @@ fn start_line(
     text: &mut [u8],
     at: usize,
 ) -> usize
-    requires { ⌜ TableReady (now case) (now start) z (now inner) (now entries) (now moves) k (now sizes) × StartRounds z (now inner) (now entries) (now moves) k (now sizes) (now start) (now rounds) × (n < length (startsOf (now start))) × (at + 66 ≤ length (now text)) ⌝ }
+    requires { ⌜ TableReady (now case) (now start) z (now inner) (now entries) (now moves) k (now sizes)
+        × StartRounds z (now inner) (now entries) (now moves) k (now sizes) (now start) (now rounds) × (n < length (startsOf (now start))) × (at + 66 ≤ length (now text)) ⌝ }
     ensures { λ r. ⌜ Written (now (text .entry)) at (startLine (filesOf (now (case .entry)) (now (start .entry))) n) (now (text .exit)) r ⌝ }
     ensures within { λ r. ⌜ r ≤ at + 66 ⌝ }
 {
@@ -86,8 +87,10 @@ fn start_lines(
     text: &mut [u8],
     at: usize,
 ) -> usize
-    requires { ⌜ TableReady (now case) (now start) z (now inner) (now entries) (now moves) k (now sizes) × StartRounds z (now inner) (now entries) (now moves) k (now sizes) (now start) (now rounds) × (at + 64 * 66 ≤ length (now text)) ⌝ }
-    ensures { λ r. ⌜ Written (now (text .entry)) at (startLines (filesOf (now (case .entry)) (now (start .entry))) 0 (length (startsOf (now (start .entry))))) (now (text .exit)) r ⌝ }
+    requires { ⌜ TableReady (now case) (now start) z (now inner) (now entries) (now moves) k (now sizes)
+        × StartRounds z (now inner) (now entries) (now moves) k (now sizes) (now start) (now rounds) × (at + 64 * 66 ≤ length (now text)) ⌝ }
+    ensures { λ r. ⌜ Written (now (text .entry)) at (startLines (filesOf (now (case .entry)) (now (start .entry))) 0 (length (startsOf (now (start .entry)))))
+        (now (text .exit)) r ⌝ }
     ensures within { λ r. ⌜ r ≤ at + 64 * 66 ⌝ }
 {
     let count = bytes_in::count_of(start, Limits::START_BODY);
@@ -163,7 +166,6 @@ fn sound_listing(case: &[u8], start: &[u8], text: &mut [u8]) -> usize
     let mut moves = [0u64; Limits::MOVES * Limits::MOVE_WORDS];
     let mut entries = [0u64; Limits::STATES1 * Limits::ENTRY_WORDS];
     let mut inner = [0u64; Limits::INNER_TABLE];
-    let mut pending = [0u64; Limits::PENDING_TABLE];
     let mut sizes = [0u64; Limits::SIZE_TABLE];
     let r = saturate::saturate_case(
         case,
@@ -171,7 +173,6 @@ fn sound_listing(case: &[u8], start: &[u8], text: &mut [u8]) -> usize
         &mut inner,
         &mut entries,
         &mut moves,
-        &mut pending,
         &mut sizes,
     );
     if !r.fits {

@@ -29,7 +29,7 @@ fn cells_lent(bytes: usize) -> usize
 fn refusal_of(case: &[u8], start: &[u8], number: usize, trace: &[u8], bytes: usize) -> u64
     ensures { λ r. ⌜ r ≡ replayRefusal (replayInput (now (case .entry)) (now (start .entry)) number (now (trace .entry)) bytes) ⌝ }
 {
-    let files = sound_files::refusal_before(case, start, number, 0, 7);
+    let files = sound_files::number_refusal(case, start, number);
     if files != 0 {
         return files;
     }

@@ -20,12 +20,11 @@ use Rattle.saturation.specs.Running.{mostMoves, mostEntries, ended}
 use Rattle.saturation.specs.Layout.{sizeRow}
 use Rattle.one_round.specs.Rounding.{Standing}
 
--- What is asked of the memory: the tables are all zero, and there is room for 64 inner edges, 1,024 results and 1,025 sizes.
-pub record Working (inner entries moves pending sizes : List ℕ) : Type 0 where
+-- What is asked of the memory: the tables are all zero, and there is room for 64 inner edges and 1,025 sizes.
+pub record Working (inner entries moves sizes : List ℕ) : Type 0 where
   pub entries-zero : entries ≡ zeros (length entries)
   pub moves-zero : moves ≡ zeros (length moves)
   pub inner-room : 192 ≤ length inner
-  pub pending-room : 6144 ≤ length pending
   pub sizes-room : 2050 ≤ length sizes
 
 -- The tables hold the table of at most so many rounds, with zeros behind it, and its sizes stand in their rows; or there is none. The number k of

@@ -1,7 +1,9 @@
 // The service saturate, and the table of a sound case after at most so many rounds for the services above.
 ghost use mathlib.Core.Path.{_≡_};
 ghost use mathlib.Core.Bool.{false};
+ghost use Prim.Native.Nat.{_≤_};
 ghost use lib.ListN.{length};
+ghost use Rattle.words.specs.Lists.{zeros};
 ghost use Rattle.automata.specs.Saturation.{within};
 ghost use Rattle.files.specs.Case.{ownOf, caseRefusal};
 ghost use Rattle.services.specs.Memory.{lent};
@@ -29,7 +31,7 @@ fn own_fits(case: &[u8], moves: usize, entries: usize) -> bool
 
 // Saturates the table of a sound case by at most `rounds` rounds, in tables that are all zero, with working memory for its inner edges, for the
 // results of a round and for the sizes after each round.
-pub fn saturate_case(
+fn saturate_within(
     case: &[u8],
     rounds: u64,
     inner: &mut [u64],
@@ -38,8 +40,9 @@ pub fn saturate_case(
     pending: &mut [u64],
     sizes: &mut [u64],
 ) -> Saturated
-    requires { ⌜ (caseRefusal (now case) ≡ 0) × Working (now inner) (now entries) (now moves) (now pending) (now sizes) ⌝ }
-    ensures { λ r. ⌜ CaseSaturated (now (case .entry)) rounds (length (now (moves .entry))) (length (now (entries .entry))) (r .fits) (r .table) (r .rounds) (r .more) (now (inner .exit)) (now (entries .exit)) (now (moves .exit)) (now (sizes .exit)) ⌝ }
+    requires { ⌜ (caseRefusal (now case) ≡ 0) × Working (now inner) (now entries) (now moves) (now sizes) × (6144 ≤ length (now pending)) ⌝ }
+    ensures { λ r. ⌜ CaseSaturated (now (case .entry)) rounds (length (now (moves .entry))) (length (now (entries .entry))) (r .fits) (r .table) (r .rounds) (r .more)
+        (now (inner .exit)) (now (entries .exit)) (now (moves .exit)) (now (sizes .exit)) ⌝ }
 {
     if !own_fits(case, moves.len(), entries.len()) {
         return nothing();
@@ -59,6 +62,32 @@ pub fn saturate_case(
         pending,
         sizes,
     )
+}
+
+// Saturates the table of a sound case by at most `rounds` rounds, in tables that are all zero, with working memory for its inner edges and for the
+// sizes after each round. Where a limit is passed, the tables are all zero again.
+pub fn saturate_case(
+    case: &[u8],
+    rounds: u64,
+    inner: &mut [u64],
+    entries: &mut [u64],
+    moves: &mut [u64],
+    sizes: &mut [u64],
+) -> Saturated
+    requires { ⌜ (caseRefusal (now case) ≡ 0) × Working (now inner) (now entries) (now moves) (now sizes) ⌝ }
+    ensures { λ r. ⌜ CaseSaturated (now (case .entry)) rounds (length (now (moves .entry))) (length (now (entries .entry))) (r .fits) (r .table) (r .rounds) (r .more)
+        (now (inner .exit)) (now (entries .exit)) (now (moves .exit)) (now (sizes .exit)) ⌝ }
+    ensures moves { λ r. ⌜ (r .fits ≡ false → now (moves .exit) ≡ zeros (length (now (moves .entry)))) ⌝ }
+    ensures entries { λ r. ⌜ (r .fits ≡ false → now (entries .exit) ≡ zeros (length (now (entries .entry)))) ⌝ }
+{
+    let mut pending = [0u64; Limits::PENDING_TABLE];
+    let r = saturate_within(case, rounds, inner, entries, moves, &mut pending, sizes);
+    if r.fits {
+        return r;
+    }
+    zeroing::zero_u64(moves);
+    zeroing::zero_u64(entries);
+    r
 }
 
 // No table: a limit is passed.
@@ -102,7 +131,6 @@ pub fn saturate(case: &[u8], moves: &mut [u64], entries: &mut [u64]) -> Saturati
         return refused(code);
     }
     let mut inner = [0u64; Limits::INNER_TABLE];
-    let mut pending = [0u64; Limits::PENDING_TABLE];
     let mut sizes = [0u64; Limits::SIZE_TABLE];
     let r = saturate_case(
         case,
@@ -110,15 +138,12 @@ pub fn saturate(case: &[u8], moves: &mut [u64], entries: &mut [u64]) -> Saturati
         &mut inner,
         entries,
         moves,
-        &mut pending,
         &mut sizes,
     );
-    let table = r.table;
     if !r.fits {
-        zeroing::zero_u64(moves);
-        zeroing::zero_u64(entries);
         return refused(9);
     }
+    let table = r.table;
     Saturation {
         code: 0,
         moves: table.moves as u64,

@@ -31,3 +31,11 @@ startsRefusal start k below past = elim (ltb k (length (startsOf start))) [ true
 -- the refusal by the two files, then by the number of starts
 unfoldable pub refusedBefore : List ℕ → List ℕ → ℕ → ℕ → ℕ → ℕ
 refusedBefore case start k below past = firstOf (filesRefusal case start) (startsRefusal start k below past)
+
+-- the refusal by the two files, then 7, "the start named is not in the file"
+abbrev pub numberRefusal : List ℕ → List ℕ → ℕ → ℕ
+numberRefusal case start number = refusedBefore case start number 0 7
+
+-- the refusal by the two files, then 8: fewer answer words than starts
+abbrev pub answersRefusal : List ℕ → List ℕ → ℕ → ℕ
+answersRefusal case start words = refusedBefore case start words 8 0

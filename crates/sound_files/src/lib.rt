@@ -11,7 +11,7 @@ ghost use Rattle.acceptance.specs.Named.{TablesNamed};
 ghost use Rattle.acceptance.specs.Cells.{RoundsFilled};
 ghost use Rattle.sound_files.specs.Starts.{startRound};
 ghost use Rattle.sound_files.specs.Sound.{StartSound};
-ghost use Rattle.sound_files.specs.Refusal.{filesRefusal, refusedBefore};
+ghost use Rattle.sound_files.specs.Refusal.{filesRefusal, numberRefusal, answersRefusal};
 use limits::Limits;
 use replies::Acceptance;
 use tables::Table;
@@ -28,18 +28,32 @@ pub fn files_refusal(case: &[u8], start: &[u8]) -> u64
     start_file::check_start(h.controls, h.symbols, start)
 }
 
-// The refusal by the two files. Where there is none, `below` if k is below the number of starts, and `past` if it is not; 0 is no refusal.
-pub fn refusal_before(case: &[u8], start: &[u8], k: usize, below: u64, past: u64) -> u64
-    ensures { λ r. ⌜ r ≡ refusedBefore (now (case .entry)) (now (start .entry)) k below past ⌝ }
+// The refusal by the two files, or 7 where the start named is not in the file. 0 is no refusal.
+pub fn number_refusal(case: &[u8], start: &[u8], number: usize) -> u64
+    ensures { λ r. ⌜ r ≡ numberRefusal (now (case .entry)) (now (start .entry)) number ⌝ }
 {
     let files = files_refusal(case, start);
     if files != 0 {
         return files;
     }
-    if k < bytes_in::count_of(start, Limits::START_BODY) {
-        return below;
+    if number < bytes_in::count_of(start, Limits::START_BODY) {
+        return 0;
     }
-    past
+    7
+}
+
+// The refusal by the two files, or 8 where there are fewer answer words than starts. 0 is no refusal.
+pub fn answers_refusal(case: &[u8], start: &[u8], words: usize) -> u64
+    ensures { λ r. ⌜ r ≡ answersRefusal (now (case .entry)) (now (start .entry)) words ⌝ }
+{
+    let files = files_refusal(case, start);
+    if files != 0 {
+        return files;
+    }
+    if words < bytes_in::count_of(start, Limits::START_BODY) {
+        return 8;
+    }
+    0
 }
 
 // Writes since when each cell of a sound start file is accepted from each state, for the saturated table in these tables and sizes. The words are
@@ -54,8 +68,10 @@ pub fn start_rounds(
     start: &[u8],
     rounds: &mut [u16],
 )
-    requires { ⌜ TablesNamed z (now inner) (now entries) (now moves) × (count * 2 ≤ length (now sizes)) × (count < 65535) × StartSound (now start) × (16384 ≤ length (now rounds)) × (now rounds ≡ zeros (length (now rounds))) ⌝ }
-    ensures { λ _. ⌜ RoundsFilled (saturatedIn z (now (inner .entry)) (now (entries .entry)) (now (moves .entry)) count (now (sizes .entry))) (cellsOf (now (start .entry))) (now (rounds .entry)) (now (rounds .exit)) (length (cellsOf (now (start .entry)))) ⌝ }
+    requires { ⌜ TablesNamed z (now inner) (now entries) (now moves) × (count * 2 ≤ length (now sizes)) × (count < 65535) × StartSound (now start)
+        × (16384 ≤ length (now rounds)) × (now rounds ≡ zeros (length (now rounds))) ⌝ }
+    ensures { λ _. ⌜ RoundsFilled (saturatedIn z (now (inner .entry)) (now (entries .entry)) (now (moves .entry)) count (now (sizes .entry)))
+        (cellsOf (now (start .entry))) (now (rounds .entry)) (now (rounds .exit)) (length (cellsOf (now (start .entry)))) ⌝ }
 {
     let cells = start_file::cell_body(start);
     let n = bytes_in::count_of(start, Limits::CELL_BODY);

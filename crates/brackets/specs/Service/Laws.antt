@@ -28,7 +28,7 @@ use Rattle.bounded_text.specs.declared.End.the-variants.{At, Past}
 use Rattle.bounded_text.specs.Page.{page, Prints}
 use Rattle.bounded_text.specs.Page.Laws.{fits, longer}
 use Rattle.stack_text.specs.Cells.{CellsStand, stackIn}
-use Rattle.sound_files.specs.Refusal.{FilesSound, firstOf, refusedBefore}
+use Rattle.sound_files.specs.Refusal.{FilesSound, firstOf, numberRefusal}
 use Rattle.sound_files.specs.Refusal.Laws.{first-stays, first-passes, tests-first, sound-before, not-past}
 use Rattle.sound_files.specs.Sound.{StartSound}
 use Rattle.sound_files.specs.Sound.Laws.{cells-count, cells-lent}
@@ -64,11 +64,11 @@ module _ (case start : List ℕ) (number lent : ℕ) where
   abbrev x : BracketsInput
   x = bracketsInput case start number lent
 
-  refusal-is : bracketsRefusal (bracketsInput case start number lent) ≡ firstOf (refusedBefore case start number 0 7) (firstHit lengthTests (bracketsInput case start number lent))
+  refusal-is : bracketsRefusal (bracketsInput case start number lent) ≡ firstOf (numberRefusal case start number) (firstHit lengthTests (bracketsInput case start number lent))
   unfolding bracketsRefusal bracketsFiles
   refusal-is = tests-first (λ (y : BracketsInput). y .case) (λ y. y .start) (λ y. y .number) lengthTests x
 
-  module _ {f : ℕ} (e : f ≡ refusedBefore case start number 0 7) where
+  module _ {f : ℕ} (e : f ≡ numberRefusal case start number) where
     pub left-refused : {text : List ℕ} → text ≡ zeros lent → (f ≡ 0 → ⊥)
         → bracketsDone (Refused f) text ≡ bracketsService (bracketsInput case start number lent)
     unfolding bracketsService

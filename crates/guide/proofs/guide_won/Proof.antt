@@ -19,8 +19,8 @@ zero-u16-requires c κs = search needs
 zero-u16-requires-2 : tie.Need-zero-u16-requires-2
 zero-u16-requires-2 c κs = search needs
 
-refusal-before-requires : tie.Need-refusal-before-requires
-refusal-before-requires c κs = search needs
+number-refusal-requires : tie.Need-number-refusal-requires
+number-refusal-requires c κs = search needs
 
 refused-requires : tie.Need-refused-requires
 refused-requires c κs = search needs
@@ -40,7 +40,7 @@ same-length-4 c = search needs
 returns : tie.Need-returns
 returns c =
     let t = c .before .before .before .before .before .before .before .before .before .before .before .before .before .before .before .zero-tables .ensures in
-    let is = c .before .before .refusal-before .ensures in
+    let is = c .before .before .number-refusal .ensures in
     let r = c .refused .ensures in (
       left-refused _ (t .0) (t .1) (c .before .before .before .before .before .before .before .before .before .zero-u16 .ensures) is (c .before .if1 .taken) (r .1) (c .before .before .before .before .before .zero-u162 .ensures),
       won-refused _ _ _ _ _ _ _ (r .0) is (c .before .if1 .taken),
@@ -51,9 +51,9 @@ guide-sound-requires c κs =
     let t = c .before .before .before .before .before .before .before .before .before .before .before .before .before .before .before .before .before .before .zero-tables in
     let cells = c .before .before .before .before .before .before .before .before .before .before .before .before .zero-u16 in
     let trace = c .before .before .before .before .before .before .before .before .zero-u162 in
-    let none = sym (c .before .before .before .before .before .refusal-before .ensures) ∙ c .before .before .before .before .if1 .left in (
-      sound-before _ _ _ 0 7 none,
-      not-past _ _ _ 0 7 none (omega arith),
+    let none = sym (c .before .before .before .before .before .number-refusal .ensures) ∙ c .before .before .before .before .if1 .left in (
+      sound-before _ _ _ _ _ none,
+      not-past _ _ _ _ _ none (omega arith),
       zero-self _ _ (t .ensures .0) (t .kept .0),
       zero-self _ _ (t .ensures .1) (t .kept .1 .0),
       zero-self _ _ (cells .ensures) (cells .kept .0),
@@ -87,7 +87,7 @@ guide-won-spec =
     zero-tables-requires
     zero-u16-requires
     zero-u16-requires-2
-    refusal-before-requires
+    number-refusal-requires
     refused-requires
     same-length
     same-length-2

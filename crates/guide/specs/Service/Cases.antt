@@ -15,14 +15,14 @@ use Rattle.services.specs.Saturate.{saturated}
 use Rattle.services.specs.Judge.{moreToAdd}
 use Rattle.services.specs.Guide.{GuideInput, GuideDone, guideLent, guideFiles, guideRun, guideLeft, refused, guideService, accepted, startNamed, openStart}
 use Rattle.services.specs.Guide.Laws.{Started, GuideCase, guide-cases, case-refused, start-refused, start-missing, size-exceeded, no-run, is-open, cells-short, walked}
-use Rattle.sound_files.specs.Refusal.{FilesSound, refusedBefore}
+use Rattle.sound_files.specs.Refusal.{FilesSound, numberRefusal}
 use Rattle.sound_files.specs.Refusal.Laws.{before-case, before-start, before-below, before-past}
 use Rattle.guided_start.specs.Run.{unaccepted}
 use Rattle.guided_start.specs.Run.Laws.{run-not, run-short, run-goes}
 
 module _ (x : GuideInput) where
   abbrev before : ℕ
-  before = refusedBefore (x .case) (x .start) (x .number) 0 7
+  before = numberRefusal (x .case) (x .start) (x .number)
 
   sound-files : caseRefusal (x .case) ≡ 0 → startRefusal (guideFiles x) ≡ 0 → FilesSound (x .case) (x .start)
   unfolding guideFiles

@@ -14,7 +14,7 @@ use Rattle.services.specs.Saturate.{saturated}
 use Rattle.services.specs.Guide.{GuideInput, GuideDone, guideLent, guideRun, guideLeft, refused, guideService}
 use Rattle.services.specs.Memory.Laws.{padded-none}
 use Rattle.guided_walk.specs.Turns.{Leaves}
-use Rattle.sound_files.specs.Refusal.{FilesSound, refusedBefore}
+use Rattle.sound_files.specs.Refusal.{FilesSound, numberRefusal}
 use Rattle.sound_files.specs.Saturated.{lentOf}
 use Rattle.guided_start.specs.Run.{guideInput}
 use Rattle.guide.specs.Service.{guideDone}
@@ -28,7 +28,7 @@ pub zeros-kept : {n k : ℕ} {l : List ℕ} → l ≡ zeros n → n ≡ k → l 
 zeros-kept e f = e ∙ ap zeros f
 
 module _ (x : GuideInput) {m e c t : List ℕ} (p : m ≡ zeros (x .moves)) (q : e ≡ zeros (x .entries)) (k : c ≡ zeros (x .cells)) where
-  pub left-refused : {n : ℕ} {r : Reply} → n ≡ refusedBefore (x .case) (x .start) (x .number) 0 7 → (n ≡ 0 → ⊥) → r ≡ Refused n → t ≡ zeros (x .trace)
+  pub left-refused : {n : ℕ} {r : Reply} → n ≡ numberRefusal (x .case) (x .start) (x .number) → (n ≡ 0 → ⊥) → r ≡ Refused n → t ≡ zeros (x .trace)
       → guideDone r m e c t ≡ guideService x
   unfolding guideLeft refused
   left-refused is h o z =

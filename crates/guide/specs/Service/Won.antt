@@ -19,7 +19,7 @@ use Rattle.services.specs.Memory.Laws.{getD-padded}
 use Rattle.services.specs.Saturate.{saturated}
 use Rattle.services.specs.Judge.{JudgeInput, JudgeDone, judgeFiles, judgeLent, judgeLeft, mark}
 use Rattle.services.specs.Judge.Laws.{JudgeCase, case-refused, start-refused, answers-short, size-exceeded, judged, judge-cases}
-use Rattle.sound_files.specs.Refusal.{FilesSound, refusedBefore}
+use Rattle.sound_files.specs.Refusal.{FilesSound, numberRefusal}
 use Rattle.sound_files.specs.Refusal.Laws.{before-below}
 use Rattle.sound_files.specs.Sound.Laws.{starts-few}
 use Rattle.sound_files.specs.Saturated.{lentOf}
@@ -36,7 +36,7 @@ module _ (case start : List ℕ) (number rounds m e : ℕ) where
   abbrev x : JudgeInput
   x = judgeInput case start rounds m e 64
 
-  refused-word : {d : JudgeDone} → JudgeCase x d → (refusedBefore case start number 0 7 ≡ 0 → ⊥) → getD (d .answers) number 0 ≡ 0
+  refused-word : {d : JudgeDone} → JudgeCase x d → (numberRefusal case start number ≡ 0 → ⊥) → getD (d .answers) number 0 ≡ 0
   unfolding judgeLeft judgeFiles
   refused-word (case-refused h) b = zero-past 64 [] number (omega arith)
   refused-word (start-refused c h) b = zero-past 64 [] number (omega arith)
@@ -52,7 +52,7 @@ module _ (case start : List ℕ) (number rounds m e : ℕ) where
   unfolding wordRound
   no-round a z e = ap (λ (k : ℕ). k - 1) z ∙ sym (ap wordRound e)
 
-  pub won-refused : (a : Acceptance) {n : ℕ} → answerWord a ≡ 0 → n ≡ refusedBefore case start number 0 7 → (n ≡ 0 → ⊥)
+  pub won-refused : (a : Acceptance) {n : ℕ} → answerWord a ≡ 0 → n ≡ numberRefusal case start number → (n ≡ 0 → ⊥)
       → answerWord a - 1 ≡ judgedRound case start number rounds m e
   won-refused a z is h = no-round a z (refused-word (judge-cases x) (λ f. h (is ∙ f)))
 

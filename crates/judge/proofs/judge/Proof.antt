@@ -16,8 +16,8 @@ zero-tables-requires c κs = search needs
 zero-u16-requires : tie.Need-zero-u16-requires
 zero-u16-requires c κs = search needs
 
-refusal-before-requires : tie.Need-refusal-before-requires
-refusal-before-requires c κs = search needs
+answers-refusal-requires : tie.Need-answers-refusal-requires
+answers-refusal-requires c κs = search needs
 
 refused-requires : tie.Need-refused-requires
 refused-requires c κs = search needs
@@ -34,15 +34,15 @@ same-length-3 c = search needs
 returns : tie.Need-returns
 returns c =
     let z = c .before .before .before .before .before .before .before .before .before .before .before .zero-tables .ensures in
-    meets _ _ (left-refused _ (c .before .before .before .before .before .zero-u16 .kept .0) (c .before .before .refusal-before .ensures) (c .before .if1 .taken) (z .0) (z .1) (c .before .before .before .before .before .zero-u16 .ensures) (c .refused .ensures))
+    meets _ _ (left-refused _ (c .before .before .before .before .before .zero-u16 .kept .0) (c .before .before .answers-refusal .ensures) (c .before .if1 .taken) (z .0) (z .1) (c .before .before .before .before .before .zero-u16 .ensures) (c .refused .ensures))
 
 judge-sound-requires : tie.Need-judge-sound-requires
 judge-sound-requires c κs =
     let t = c .before .before .before .before .before .before .before .before .before .before .before .before .before .zero-tables in
     let b = c .before .before .before .before .before .before .before .zero-u16 in
-    let none = sym (c .before .before .before .before .refusal-before .ensures) ∙ c .before .before .before .if1 .left in (
-      sound-before _ _ _ 8 0 none,
-      not-below _ _ _ 8 0 none (omega arith),
+    let none = sym (c .before .before .before .before .answers-refusal .ensures) ∙ c .before .before .before .if1 .left in (
+      sound-before _ _ _ _ _ none,
+      not-below _ _ _ _ _ none (omega arith),
       zero-self _ _ (t .ensures .0) (t .kept .0),
       zero-self _ _ (t .ensures .1) (t .kept .1 .0),
       zero-self _ _ (b .ensures) (b .kept .0),
@@ -69,7 +69,7 @@ judge-spec =
     (tie.spec
     zero-tables-requires
     zero-u16-requires
-    refusal-before-requires
+    answers-refusal-requires
     refused-requires
     same-length
     same-length-2

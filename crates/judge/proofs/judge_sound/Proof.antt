@@ -1,6 +1,7 @@
 -- `judge::judge_sound` meets its contract.
 -- Assumes nothing.
 use Prim.Native.Nat.{_≤_}
+use mathlib.Core.Path.{refl}
 use native.Mathlib.Omega.{arith}
 use lib.ListN.{length}
 use borrow.Author.Tests.{not-true, not-false}
@@ -18,14 +19,8 @@ slice-aggregate-saturate-case c = search needs
 slice-aggregate-saturate-case-2 : tie.Need-slice-aggregate-saturate-case-2
 slice-aggregate-saturate-case-2 c = search needs
 
-slice-aggregate-saturate-case-3 : tie.Need-slice-aggregate-saturate-case-3
-slice-aggregate-saturate-case-3 c = search needs
-
 saturate-case-requires : tie.Need-saturate-case-requires
 saturate-case-requires c κs = search needs
-
-zero-tables-requires : tie.Need-zero-tables-requires
-zero-tables-requires c κs = search needs
 
 refused-requires : tie.Need-refused-requires
 refused-requires c κs = search needs
@@ -38,10 +33,10 @@ same-length-2 c = search needs
 
 returns : tie.Need-returns
 returns c =
-    let z = c .before .before .before .before .before .zero-tables .ensures in
-    let s = c .before .before .before .before .before .before .before .before .before .before .before .before .before .before .before .before .before .before .saturate-case in
-    left-exceeded _ (c .before .before .before .before .before .before .before .before .before .before .before .before .before .before .before .before .before .before .before .before .before .before .before .before .before .before .before .before .before .pre .0) (c .before .before .before .before .before .before .before .before .before .before .before .before .before .before .before .before .before .before .before .before .before .before .before .before .before .before .before .before .before .pre .1) (s .kept .1 .1 .1 .1 .0) (s .kept .1 .1 .1 .0) (z .0) (z .1)
-    (table-none (s .ensures) (not-true (s .result .fits) (c .before .before .before .before .before .before .before .before .if1 .taken))) (c .before .before .before .before .before .before .before .before .before .before .before .before .before .before .before .before .before .before .before .before .before .before .before .before .before .before .before .before .before .pre .4) (c .refused .ensures)
+    let s = c .before .before .before .before .before .before .before .before .before .saturate-case in
+    let over = not-true (s .result .fits) (c .before .if1 .taken) in
+    left-exceeded _ (c .before .before .before .before .before .before .before .before .before .before .before .before .before .before .before .before .before .before .before .pre .0) (c .before .before .before .before .before .before .before .before .before .before .before .before .before .before .before .before .before .before .before .pre .1) refl refl (s .ensures .1 .0 over) (s .ensures .1 .1 over) (table-none (s .ensures .0) over) (c .before .before .before .before .before .before .before .before .before .before .before .before .before .before .before .before .before .before .before .pre .4)
+    (c .refused .ensures)
 
 slice-aggregate-mark-starts : tie.Need-slice-aggregate-mark-starts
 slice-aggregate-mark-starts c = search needs
@@ -50,23 +45,23 @@ slice-aggregate-mark-starts-2 : tie.Need-slice-aggregate-mark-starts-2
 slice-aggregate-mark-starts-2 c = search needs
 
 add-mark-starts : tie.Need-add-mark-starts
-add-mark-starts c = omega (arith, c .before .before .before .before .before .before .before .before .before .before .before .before .before .before .before .saturate-case .ensures .sizes-few)
+add-mark-starts c = omega (arith, c .before .before .before .before .before .before .before .before .before .before .before .before .before .before .saturate-case .ensures .0 .sizes-few)
 
 mark-starts-requires : tie.Need-mark-starts-requires
 mark-starts-requires c κs =
-    let s = c .before .before .before .before .before .before .before .before .before .before .before .before .before .before .before .before .saturate-case in
-    let p = c .before .before .before .before .before .before .before .before .before .before .before .before .before .before .before .before .before .before .before .before .before .before .before .before .before .before .before .pre in
-    let k = s .ensures .sizes-few in
-    let room : 2050 ≤ length (s .last .1 .1 .1 .1 .1 .1 .0) = search needs in (
-      table-stands (s .ensures) (p .0 .sound-case) (not-false (s .result .fits) (c .before .before .before .before .before .before .if1 .left)),
+    let s = c .before .before .before .before .before .before .before .before .before .before .before .before .before .before .before .saturate-case in
+    let p = c .before .before .before .before .before .before .before .before .before .before .before .before .before .before .before .before .before .before .before .before .before .before .before .before .before .pre in
+    let k = s .ensures .0 .sizes-few in
+    let room : 2050 ≤ length (s .last .1 .1 .1 .1 .1 .0) = search needs in (
+      table-stands (s .ensures .0) (p .0 .sound-case) (not-false (s .result .fits) (c .before .before .before .before .before .before .before .if1 .left)),
       omega arith,
       omega arith,
       start-sound (p .0),
       p .1,
     )
 
-zero-tables-requires-2 : tie.Need-zero-tables-requires-2
-zero-tables-requires-2 c κs = search needs
+zero-tables-requires : tie.Need-zero-tables-requires
+zero-tables-requires c κs = search needs
 
 same-length-3 : tie.Need-same-length-3
 same-length-3 c = search needs
@@ -80,11 +75,11 @@ same-length-5 c = search needs
 returns-2 : tie.Need-returns-2
 unfolding moreToAdd
 returns-2 c =
-    let z = c .before .before .before .before .zero-tables2 .ensures in
-    let s = c .before .before .before .before .before .before .before .before .before .before .before .before .before .before .before .before .before .before .before .before .before .before .before .before .before .before .saturate-case in
-    let fits = not-false (s .result .fits) (c .before .before .before .before .before .before .before .before .before .before .before .before .before .before .before .before .if1 .left) in
-    left-judged _ (c .before .before .before .before .before .before .before .before .before .before .before .before .before .before .before .before .before .before .before .before .before .before .before .before .before .before .before .before .before .before .before .before .before .before .before .before .before .pre .0) (c .before .before .before .before .before .before .before .before .before .before .before .before .before .before .before .before .before .before .before .before .before .before .before .before .before .before .before .before .before .before .before .before .before .before .before .before .before .pre .1) (s .kept .1 .1 .1 .1 .0) (s .kept .1 .1 .1 .0) (z .0) (z .1)
-    (table-there (s .ensures) fits) (c .before .before .before .before .before .before .before .before .before .before .before .before .before .before .before .before .before .before .before .before .before .before .before .before .before .before .before .before .before .before .before .before .before .before .before .before .before .pre .4) (s .ensures .more-is fits) (c .before .before .before .before .before .before .before .before .before .mark-starts .ensures) (rounds-run (s .ensures) fits)
+    let z = c .before .before .before .before .zero-tables .ensures in
+    let s = c .before .before .before .before .before .before .before .before .before .before .before .before .before .before .before .before .before .before .before .before .before .before .before .before .before .saturate-case in
+    let fits = not-false (s .result .fits) (c .before .before .before .before .before .before .before .before .before .before .before .before .before .before .before .before .before .if1 .left) in
+    left-judged _ (c .before .before .before .before .before .before .before .before .before .before .before .before .before .before .before .before .before .before .before .before .before .before .before .before .before .before .before .before .before .before .before .before .before .before .before .pre .0) (c .before .before .before .before .before .before .before .before .before .before .before .before .before .before .before .before .before .before .before .before .before .before .before .before .before .before .before .before .before .before .before .before .before .before .before .pre .1) (s .kept .1 .1 .1 .1 .0) (s .kept .1 .1 .1 .0) (z .0) (z .1)
+    (table-there (s .ensures .0) fits) (c .before .before .before .before .before .before .before .before .before .before .before .before .before .before .before .before .before .before .before .before .before .before .before .before .before .before .before .before .before .before .before .before .before .before .before .pre .4) (s .ensures .0 .more-is fits) (c .before .before .before .before .before .before .before .before .before .mark-starts .ensures) (rounds-run (s .ensures .0) fits)
 
 pub judge-sound-spec : {M : Type 1} → statement M
 judge-sound-spec =
@@ -92,9 +87,7 @@ judge-sound-spec =
     (tie.spec
     slice-aggregate-saturate-case
     slice-aggregate-saturate-case-2
-    slice-aggregate-saturate-case-3
     saturate-case-requires
-    zero-tables-requires
     refused-requires
     same-length
     same-length-2
@@ -103,7 +96,7 @@ judge-sound-spec =
     slice-aggregate-mark-starts-2
     add-mark-starts
     mark-starts-requires
-    zero-tables-requires-2
+    zero-tables-requires
     same-length-3
     same-length-4
     same-length-5

@@ -12,12 +12,12 @@ use Rattle.files.specs.Start.{startRefusal, startsOf}
 use Rattle.services.specs.Saturate.{saturated}
 use Rattle.services.specs.Judge.{JudgeInput, JudgeDone, judgeFiles, judgeLent, judgeLeft, judgeService, mark}
 use Rattle.services.specs.Judge.Laws.{JudgeCase, judge-cases, case-refused, start-refused, answers-short, size-exceeded, judged}
-use Rattle.sound_files.specs.Refusal.{FilesSound, refusedBefore}
+use Rattle.sound_files.specs.Refusal.{FilesSound, answersRefusal}
 use Rattle.sound_files.specs.Refusal.Laws.{before-case, before-start, before-below, before-past}
 
 module _ (x : JudgeInput) where
   abbrev before : ℕ
-  before = refusedBefore (x .case) (x .start) (x .answers) 8 0
+  before = answersRefusal (x .case) (x .start) (x .answers)
 
   sound-files : caseRefusal (x .case) ≡ 0 → startRefusal (judgeFiles x) ≡ 0 → FilesSound (x .case) (x .start)
   unfolding judgeFiles

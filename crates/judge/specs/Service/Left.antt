@@ -15,7 +15,7 @@ use Rattle.services.specs.Saturate.{saturated}
 use Rattle.services.specs.Judge.{JudgeInput, JudgeDone, judgeLent, judgeLeft, judgeService, moreToAdd, mark}
 use Rattle.words.specs.Lists.Laws.{drop-zeros}
 use Rattle.services.specs.Memory.Laws.{padded-none}
-use Rattle.sound_files.specs.Refusal.{FilesSound, refusedBefore}
+use Rattle.sound_files.specs.Refusal.{FilesSound, answersRefusal}
 use Rattle.sound_files.specs.Saturated.{lentOf}
 use Rattle.judge.specs.Marks.{markOf}
 use Rattle.judge.specs.Marks.Laws.{marks-judged}
@@ -27,11 +27,11 @@ done-same : {c d k l : ℕ} {m n e f a b : List ℕ} → c ≡ d → k ≡ l →
 done-same p k q r s = λ i. record { code = p i; rounds = k i; moves = q i; entries = r i; answers = s i }
 
 module _ (x : JudgeInput) {m e a : List ℕ} where
-  pub left-refused : {c n : ℕ} → n ≡ x .answers → c ≡ refusedBefore (x .case) (x .start) n 8 0 → (c ≡ 0 → ⊥) → m ≡ zeros (x .moves) → e ≡ zeros (x .entries)
+  pub left-refused : {c n : ℕ} → n ≡ x .answers → c ≡ answersRefusal (x .case) (x .start) n → (c ≡ 0 → ⊥) → m ≡ zeros (x .moves) → e ≡ zeros (x .entries)
       → a ≡ zeros (x .answers) → {reply : Judged} → reply ≡ theRefused c → judgeDone reply m e a ≡ judgeService x
   unfolding judgeLeft
   left-refused {c} k is h p q r y =
-      let same : c ≡ refusedBefore (x .case) (x .start) (x .answers) 8 0 = is ∙ ap (λ (i : ℕ). refusedBefore (x .case) (x .start) i 8 0) k in
+      let same : c ≡ answersRefusal (x .case) (x .start) (x .answers) = is ∙ ap (λ (i : ℕ). answersRefusal (x .case) (x .start) i) k in
       ap (λ (z : Judged). judgeDone z m e a) y
       ∙ done-same same refl p q (r ∙ sym (padded-none (x .answers)))
       ∙ sym (answers-refused x (λ z. h (same ∙ z)))

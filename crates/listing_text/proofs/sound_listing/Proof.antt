@@ -24,14 +24,11 @@ slice-aggregate-saturate-case-3 c = search needs
 slice-aggregate-saturate-case-4 : tie.Need-slice-aggregate-saturate-case-4
 slice-aggregate-saturate-case-4 c = search needs
 
-slice-aggregate-saturate-case-5 : tie.Need-slice-aggregate-saturate-case-5
-slice-aggregate-saturate-case-5 c = search needs
-
 saturate-case-requires : tie.Need-saturate-case-requires
 unfolding zeros
 saturate-case-requires c κs = (
-  c .before .before .before .before .before .before .before .before .pre .0 .sound-case,
-  record { entries-zero = refl; moves-zero = refl; inner-room = omega arith; pending-room = omega arith; sizes-room = omega arith },
+  c .before .before .before .before .before .before .before .pre .0 .sound-case,
+  record { entries-zero = refl; moves-zero = refl; inner-room = omega arith; sizes-room = omega arith },
 )
 
 put-refused-requires : tie.Need-put-refused-requires
@@ -42,13 +39,13 @@ same-length c = search needs
 
 returns : tie.Need-returns
 returns c =
-    let s = c .before .before .before .before .before .before .before .before .before .before .before .saturate-case in
+    let s = c .before .before .before .before .before .before .before .before .before .before .saturate-case in
     let w = c .before .before .put-refused .ensures in
-    let large = table-none (s .ensures) (not-true (s .result .fits) (c .before .before .before .before .if1 .taken)) in
-    (written-same (listing-exceeded _ _ (c .before .before .before .before .before .before .before .before .before .before .before .before .before .before .before .before .before .before .before .before .pre .0) large) (w .0), omega arith)
+    let large = table-none (s .ensures .0) (not-true (s .result .fits) (c .before .before .before .before .if1 .taken)) in
+    (written-same (listing-exceeded _ _ (c .before .before .before .before .before .before .before .before .before .before .before .before .before .before .before .before .before .before .pre .0) large) (w .0), omega arith)
 
 add-k : tie.Need-add-k
-add-k c = omega (arith, c .before .before .before .before .before .before .before .before .before .saturate-case .ensures .sizes-few)
+add-k c = omega (arith, c .before .before .before .before .before .before .before .before .saturate-case .ensures .0 .sizes-few)
 
 slice-aggregate-table-lines : tie.Need-slice-aggregate-table-lines
 slice-aggregate-table-lines c = search needs
@@ -64,10 +61,10 @@ slice-aggregate-table-lines-4 c = search needs
 
 table-lines-requires : tie.Need-table-lines-requires
 table-lines-requires c κs =
-    let s = c .before .before .before .before .before .before .before .before .before .before .before .before .before .before .saturate-case in
+    let s = c .before .before .before .before .before .before .before .before .before .before .before .before .before .saturate-case in
     let k = s .kept in
     let fits = not-false (s .result .fits) (c .before .before .before .before .before .before .before .if1 .left) in
-    (prepared (c .before .before .before .before .before .before .before .before .before .before .before .before .before .before .before .before .before .before .before .before .before .before .before .pre .0) (s .ensures) fits (k .1 .1 .0) (k .1 .1 .1 .1 .1 .1 .0), c .before .before .before .before .before .before .before .before .before .before .before .before .before .before .before .before .before .before .before .before .before .before .before .pre .1)
+    (prepared (c .before .before .before .before .before .before .before .before .before .before .before .before .before .before .before .before .before .before .before .before .before .pre .0) (s .ensures .0) fits (k .1 .1 .0) (k .1 .1 .1 .1 .1 .0), c .before .before .before .before .before .before .before .before .before .before .before .before .before .before .before .before .before .before .before .before .before .pre .1)
 
 same-length-2 : tie.Need-same-length-2
 same-length-2 c = search needs
@@ -83,7 +80,6 @@ sound-listing-spec =
     slice-aggregate-saturate-case-2
     slice-aggregate-saturate-case-3
     slice-aggregate-saturate-case-4
-    slice-aggregate-saturate-case-5
     saturate-case-requires
     put-refused-requires
     same-length

@@ -32,7 +32,7 @@ use Rattle.acceptance.specs.Cells.Laws.{states-below}
 use Rattle.sound_files.specs.Starts.{startRound}
 use Rattle.sound_files.specs.Sound.Laws.{start-sound, starts-few}
 use Rattle.sound_files.specs.Sound.Rounds.{start-listed, start-since}
-use Rattle.sound_files.specs.Refusal.{FilesSound, filesRefusal, refusedBefore}
+use Rattle.sound_files.specs.Refusal.{FilesSound, filesRefusal, answersRefusal}
 use Rattle.sound_files.specs.Refusal.Laws.{by-files}
 use Rattle.sound_files.specs.Saturated.{lentOf}
 use Rattle.judge.specs.Service.Cases as judge
@@ -62,7 +62,7 @@ module _ (case start : List ℕ) where
   pub listing-refused : {n : ℕ} → n ≡ filesRefusal case start → (n ≡ 0 → ⊥) → refusedText n ≡ listingText files
   unfolding listingJudge judgeLeft
   listing-refused {n} is h =
-      let e : n ≡ refusedBefore case start 64 8 0 = by-files case start 64 8 0 is h in
+      let e : n ≡ answersRefusal case start 64 = by-files case start 64 8 0 is h in
       sym (text-refused files n (ap (λ d. d .code) (judge.answers-refused (listingJudge files allRounds) (λ z. h (e ∙ z))) ∙ sym e) h)
 
   pub listing-exceeded : FilesSound case start → saturated (lentOf case (1024 * 5) (64 * entryWidth)) allRounds ≡ none → refusedText 9 ≡ listingText files

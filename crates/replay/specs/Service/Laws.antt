@@ -26,7 +26,7 @@ use Rattle.demands.specs.Demand1.Proof.{demand1-replay}
 use Rattle.demands.specs.Replays.{AnswersExactly}
 use Rattle.demands.specs.Replays.Proof.{replay-answers}
 use Rattle.start_file.specs.Checks.{filesOf}
-use Rattle.sound_files.specs.Refusal.{FilesSound, refusedBefore}
+use Rattle.sound_files.specs.Refusal.{FilesSound, numberRefusal}
 use Rattle.sound_files.specs.Refusal.Laws.{before-case, before-start, before-past, before-below, sound-before, not-past}
 use Rattle.sound_files.specs.Sound.Laws.{cells-count}
 use Rattle.replay_step.specs.declared.Place.{Place}
@@ -43,7 +43,7 @@ module _ (case start : List ℕ) (number : ℕ) (trace : List ℕ) (bytes : ℕ)
   x = replayInput case start number trace bytes
 
   -- by the files and the number of starts
-  pub refusal-files : {f : ℕ} → f ≡ refusedBefore case start number 0 7 → (f ≡ 0 → ⊥) → f ≡ replayRefusal (replayInput case start number trace bytes)
+  pub refusal-files : {f : ℕ} → f ≡ numberRefusal case start number → (f ≡ 0 → ⊥) → f ≡ replayRefusal (replayInput case start number trace bytes)
   unfolding replayFiles
   refusal-files {f} e bad =
       by-test (eqb (caseRefusal case) 0)
@@ -58,7 +58,7 @@ module _ (case start : List ℕ) (number : ℕ) (trace : List ℕ) (bytes : ℕ)
       (λ s. let no = eqb-false _ 0 s in e ∙ before-start case start number 0 7 sound no ∙ sym (refusal-start x sound no)))
       (λ c. let no = eqb-false _ 0 c in e ∙ before-case case start number 0 7 no ∙ sym (refusal-case x no))
 
-  module _ {f : ℕ} (e : f ≡ refusedBefore case start number 0 7) (none : f ≡ 0) where
+  module _ {f : ℕ} (e : f ≡ numberRefusal case start number) (none : f ≡ 0) where
     sound : FilesSound case start
     sound = sound-before case start number 0 7 (sym e ∙ none)
 

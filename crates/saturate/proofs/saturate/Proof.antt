@@ -36,38 +36,32 @@ slice-aggregate-saturate-case c = search needs
 slice-aggregate-saturate-case-2 : tie.Need-slice-aggregate-saturate-case-2
 slice-aggregate-saturate-case-2 c = search needs
 
-slice-aggregate-saturate-case-3 : tie.Need-slice-aggregate-saturate-case-3
-slice-aggregate-saturate-case-3 c = search needs
-
 saturate-case-requires : tie.Need-saturate-case-requires
-saturate-case-requires c κs = (sym (c .before .before .before .before .before .before .check-case .ensures) ∙ (c .before .before .before .before .before .if1 .left), record { entries-zero = zero-self _ _ (c .before .before .before .before .before .before .before .before .before .zero-u642 .ensures) (c .before .before .before .before .before .before .before .before .before .zero-u642 .kept .0); moves-zero = zero-self _ _ (c .before .before .before .before .before .before .before .before .before .before .before .before .before .zero-u64 .ensures) (c .before .before .before .before .before .before .before .before .before .before .before .before .before .zero-u64 .kept .0); inner-room = omega arith; pending-room = omega arith; sizes-room = omega arith })
-
-zero-u64-requires-3 : tie.Need-zero-u64-requires-3
-zero-u64-requires-3 c κs = search needs
-
-zero-u64-requires-4 : tie.Need-zero-u64-requires-4
-zero-u64-requires-4 c κs = search needs
+saturate-case-requires c κs = (sym (c .before .before .before .before .before .check-case .ensures) ∙ (c .before .before .before .before .if1 .left), record { entries-zero = zero-self _ _ (c .before .before .before .before .before .before .before .before .zero-u642 .ensures) (c .before .before .before .before .before .before .before .before .zero-u642 .kept .0); moves-zero = zero-self _ _ (c .before .before .before .before .before .before .before .before .before .before .before .before .zero-u64 .ensures) (c .before .before .before .before .before .before .before .before .before .before .before .before .zero-u64 .kept .0); inner-room = omega arith; sizes-room = omega arith })
 
 refused-requires-2 : tie.Need-refused-requires-2
 refused-requires-2 c κs = search needs
 
 same-length-3 : tie.Need-same-length-3
-same-length-3 c = (c .before .before .before .before .before .before .before .zero-u643 .kept .0) ∙ (c .before .before .before .before .before .before .before .before .before .before .before .before .before .before .before .before .before .before .before .saturate-case .kept .1 .1 .1 .1 .0) ∙ (c .before .before .before .before .before .before .before .before .before .before .before .before .before .before .before .before .before .before .before .before .before .before .before .before .before .before .before .before .before .before .before .before .before .zero-u64 .kept .0)
+same-length-3 c = (c .before .before .before .before .before .before .before .before .before .saturate-case .kept .1 .1 .1 .1 .0) ∙ (c .before .before .before .before .before .before .before .before .before .before .before .before .before .before .before .before .before .before .before .before .before .before .zero-u64 .kept .0)
 
 same-length-4 : tie.Need-same-length-4
-same-length-4 c = (c .before .before .before .zero-u644 .kept .0) ∙ (c .before .before .before .before .before .before .before .before .before .before .before .before .before .before .before .before .before .before .before .saturate-case .kept .1 .1 .1 .0) ∙ (c .before .before .before .before .before .before .before .before .before .before .before .before .before .before .before .before .before .before .before .before .before .before .before .before .before .before .before .before .before .zero-u642 .kept .0)
+same-length-4 c = (c .before .before .before .before .before .before .before .before .before .saturate-case .kept .1 .1 .1 .0) ∙ (c .before .before .before .before .before .before .before .before .before .before .before .before .before .before .before .before .before .before .zero-u642 .kept .0)
 
 returns-2 : tie.Need-returns-2
-returns-2 c = meets _ _ (ends-large (c .before .before .before .before .before .before .before .before .before .before .before .before .before .before .before .before .before .before .before .before .before .before .before .before .before .before .before .before .before .before .before .before .before .before .before .before .before .before .args .case .now) (c .before .before .before .before .before .before .before .before .before .before .before .before .before .before .before .before .before .before .before .before .before .before .before .before .before .before .before .before .before .before .before .before .before .before .before .before .before .before .args .moves .now) (c .before .before .before .before .before .before .before .before .before .before .before .before .before .before .before .before .before .before .before .before .before .before .before .before .before .before .before .before .before .before .before .before .before .before .before .before .before .before .args .entries .now) _ (c .before .before .before .before .before .before .before .before .before .before .before .before .before .before .before .before .before .before .before .before .before .before .before .before .before .before .check-case .ensures) (c .before .before .before .before .before .before .before .before .before .before .before .before .before .before .before .before .before .before .before .before .before .before .before .before .before .if1 .left) _ _ (c .before .before .before .before .before .before .before .before .before .before .before .before .before .before .before .before .before .before .before .before .before .before .before .before .before .before .before .before .before .before .before .before .before .zero-u64 .kept .0) (c .before .before .before .before .before .before .before .before .before .before .before .before .before .before .before .before .before .before .before .before .before .before .before .before .before .before .before .before .before .zero-u642 .kept .0) _ _ _ _ _ _ _ _ (c .before .before .before .before .before .before .before .before .before .before .before .before .before .before .before .before .before .before .before .saturate-case .ensures) _ _ _ (not-true (c .before .before .before .before .before .before .before .before .before .before .before .before .before .before .before .before .before .before .before .saturate-case .result .fits) (c .before .before .before .before .before .before .before .before .before .if2 .taken)) (c .refused2 .ensures) (c .before .before .before .before .before .before .before .zero-u643 .ensures) (c .before .before .before .zero-u644 .ensures) ((c .before .before .before .before .before .before .before .before .before .before .before .before .before .before .before .before .before .before .before .saturate-case .kept .1 .1 .1 .1 .0) ∙ (c .before .before .before .before .before .before .before .before .before .before .before .before .before .before .before .before .before .before .before .before .before .before .before .before .before .before .before .before .before .before .before .before .before .zero-u64 .kept .0)) ((c .before .before .before .before .before .before .before .before .before .before .before .before .before .before .before .before .before .before .before .saturate-case .kept .1 .1 .1 .0) ∙ (c .before .before .before .before .before .before .before .before .before .before .before .before .before .before .before .before .before .before .before .before .before .before .before .before .before .before .before .before .before .zero-u642 .kept .0)))
+returns-2 c =
+    let run = c .before .before .before .before .before .before .before .before .before .saturate-case in
+    let over = not-true (run .result .fits) (c .before .if2 .taken) in
+    meets _ _ (ends-large (c .before .before .before .before .before .before .before .before .before .before .before .before .before .before .before .before .before .before .before .before .before .before .before .before .before .before .before .args .case .now) (c .before .before .before .before .before .before .before .before .before .before .before .before .before .before .before .before .before .before .before .before .before .before .before .before .before .before .before .args .moves .now) (c .before .before .before .before .before .before .before .before .before .before .before .before .before .before .before .before .before .before .before .before .before .before .before .before .before .before .before .args .entries .now) _ (c .before .before .before .before .before .before .before .before .before .before .before .before .before .before .before .check-case .ensures) (c .before .before .before .before .before .before .before .before .before .before .before .before .before .before .if1 .left) _ _ (c .before .before .before .before .before .before .before .before .before .before .before .before .before .before .before .before .before .before .before .before .before .before .zero-u64 .kept .0) (c .before .before .before .before .before .before .before .before .before .before .before .before .before .before .before .before .before .before .zero-u642 .kept .0) _ _ _ _ _ _ _ _ (run .ensures .0) _ over (c .refused2 .ensures) (run .ensures .1 .0 over) (run .ensures .1 .1 over))
 
 same-length-5 : tie.Need-same-length-5
-same-length-5 c = (c .before .before .before .before .before .before .before .before .before .before .saturate-case .kept .1 .1 .1 .1 .0) ∙ (c .before .before .before .before .before .before .before .before .before .before .before .before .before .before .before .before .before .before .before .before .before .before .before .before .zero-u64 .kept .0)
+same-length-5 c = (c .before .before .before .before .before .before .before .before .before .saturate-case .kept .1 .1 .1 .1 .0) ∙ (c .before .before .before .before .before .before .before .before .before .before .before .before .before .before .before .before .before .before .before .before .before .before .zero-u64 .kept .0)
 
 same-length-6 : tie.Need-same-length-6
-same-length-6 c = (c .before .before .before .before .before .before .before .before .before .before .saturate-case .kept .1 .1 .1 .0) ∙ (c .before .before .before .before .before .before .before .before .before .before .before .before .before .before .before .before .before .before .before .before .zero-u642 .kept .0)
+same-length-6 c = (c .before .before .before .before .before .before .before .before .before .saturate-case .kept .1 .1 .1 .0) ∙ (c .before .before .before .before .before .before .before .before .before .before .before .before .before .before .before .before .before .before .zero-u642 .kept .0)
 
 returns-3 : tie.Need-returns-3
-returns-3 c = meets _ _ (ends-filled (c .before .before .before .before .before .before .before .before .before .before .before .before .before .before .before .before .before .before .before .before .before .before .before .before .before .before .before .before .before .args .case .now) (c .before .before .before .before .before .before .before .before .before .before .before .before .before .before .before .before .before .before .before .before .before .before .before .before .before .before .before .before .before .args .moves .now) (c .before .before .before .before .before .before .before .before .before .before .before .before .before .before .before .before .before .before .before .before .before .before .before .before .before .before .before .before .before .args .entries .now) _ (c .before .before .before .before .before .before .before .before .before .before .before .before .before .before .before .before .before .check-case .ensures) (c .before .before .before .before .before .before .before .before .before .before .before .before .before .before .before .before .if1 .left) _ _ (c .before .before .before .before .before .before .before .before .before .before .before .before .before .before .before .before .before .before .before .before .before .before .before .before .zero-u64 .kept .0) (c .before .before .before .before .before .before .before .before .before .before .before .before .before .before .before .before .before .before .before .before .zero-u642 .kept .0) _ _ _ _ _ _ _ _ (c .before .before .before .before .before .before .before .before .before .before .saturate-case .ensures) (not-false (c .before .before .before .before .before .before .before .before .before .before .saturate-case .result .fits) (c .if2 .left)) ((c .before .before .before .before .before .before .before .before .before .before .saturate-case .kept .1 .1 .1 .1 .0) ∙ (c .before .before .before .before .before .before .before .before .before .before .before .before .before .before .before .before .before .before .before .before .before .before .before .before .zero-u64 .kept .0)) ((c .before .before .before .before .before .before .before .before .before .before .saturate-case .kept .1 .1 .1 .0) ∙ (c .before .before .before .before .before .before .before .before .before .before .before .before .before .before .before .before .before .before .before .before .zero-u642 .kept .0)))
+returns-3 c = meets _ _ (ends-filled (c .before .before .before .before .before .before .before .before .before .before .before .before .before .before .before .before .before .before .before .before .before .before .before .before .before .before .before .args .case .now) (c .before .before .before .before .before .before .before .before .before .before .before .before .before .before .before .before .before .before .before .before .before .before .before .before .before .before .before .args .moves .now) (c .before .before .before .before .before .before .before .before .before .before .before .before .before .before .before .before .before .before .before .before .before .before .before .before .before .before .before .args .entries .now) _ (c .before .before .before .before .before .before .before .before .before .before .before .before .before .before .before .check-case .ensures) (c .before .before .before .before .before .before .before .before .before .before .before .before .before .before .if1 .left) _ _ (c .before .before .before .before .before .before .before .before .before .before .before .before .before .before .before .before .before .before .before .before .before .before .zero-u64 .kept .0) (c .before .before .before .before .before .before .before .before .before .before .before .before .before .before .before .before .before .before .zero-u642 .kept .0) _ _ _ _ _ _ _ _ (c .before .before .before .before .before .before .before .before .before .saturate-case .ensures .0) (not-false (c .before .before .before .before .before .before .before .before .before .saturate-case .result .fits) (c .before .if2 .left)) ((c .before .before .before .before .before .before .before .before .before .saturate-case .kept .1 .1 .1 .1 .0) ∙ (c .before .before .before .before .before .before .before .before .before .before .before .before .before .before .before .before .before .before .before .before .before .before .zero-u64 .kept .0)) ((c .before .before .before .before .before .before .before .before .before .saturate-case .kept .1 .1 .1 .0) ∙ (c .before .before .before .before .before .before .before .before .before .before .before .before .before .before .before .before .before .before .zero-u642 .kept .0)))
 
 pub saturate-spec : {M : Type 1} → statement M
 saturate-spec =
@@ -82,10 +76,7 @@ saturate-spec =
     returns
     slice-aggregate-saturate-case
     slice-aggregate-saturate-case-2
-    slice-aggregate-saturate-case-3
     saturate-case-requires
-    zero-u64-requires-3
-    zero-u64-requires-4
     refused-requires-2
     same-length-3
     same-length-4

@@ -285,3 +285,23 @@ module _ (file : List ℕ) (sound : caseRefusal file ≡ 0) where
           sizes-few = omega arith;
           none-counted = λ _. (none-run, no-more);
         }
+
+-- where a limit is passed, nothing is said of what stands in the tables
+pub none-anywhere : {file : List ℕ} {rounds m e : ℕ} {fits : Bool} {z : Table} {k : ℕ} {more : Bool} {inner entries moves sizes : List ℕ}
+    → CaseSaturated file rounds m e fits z k more inner entries moves sizes → fits ≡ false → (entries′ moves′ : List ℕ)
+    → CaseSaturated file rounds m e fits z k more inner entries′ moves′ sizes
+unfolding ended
+none-anywhere {z = z} {k} {inner = inner} {entries} {moves} {sizes} s f entries′ moves′ =
+    record {
+      saturated =
+          s .saturated
+          ∙ ap (λ (x : Bool). ended x (automatonOf z inner entries moves) (rowsIn sizeRow (k + 1) sizes)) f
+          ∙ sym (ap (λ (x : Bool). ended x (automatonOf z inner entries′ moves′) (rowsIn sizeRow (k + 1) sizes)) f);
+      count = s .count;
+      more-is = λ g. absurd (false≢true (sym f ∙ g));
+      standing = λ g. absurd (false≢true (sym f ∙ g));
+      entries-filled = λ g. absurd (false≢true (sym f ∙ g));
+      moves-filled = λ g. absurd (false≢true (sym f ∙ g));
+      sizes-few = s .sizes-few;
+      none-counted = s .none-counted;
+    }

@@ -100,13 +100,12 @@ module _ (case moves entries : List ℕ) where
     unfolding saturated
     saturated-is = ap₂ (λ (x y : ℕ). saturate (rulesOf case) (lent x y) allRounds (ownOf case)) (sym lm) (sym le) ∙ s .saturated
 
-    pub ends-large : (r : Saturation) (moves′ entries′ : List ℕ) → fits ≡ false → r ≡ theRefused 9
-        → moves′ ≡ zeros (length moves₁) → entries′ ≡ zeros (length entries₁) → length moves₁ ≡ length moves → length entries₁ ≡ length entries
-        → theDone r moves′ entries′ ≡ saturateService (theLent case moves entries)
+    pub ends-large : (r : Saturation) → fits ≡ false → r ≡ theRefused 9 → moves₁ ≡ zeros m → entries₁ ≡ zeros e
+        → theDone r moves₁ entries₁ ≡ saturateService (theLent case moves entries)
     unfolding ended
-    ends-large r moves′ entries′ f er p q a b =
-        ap (λ (x : Saturation). theDone x moves′ entries′) er
-        ∙ zero-done case moves entries moves′ entries′ 9 (p ∙ ap zeros a) (q ∙ ap zeros b)
+    ends-large r f er p q =
+        ap (λ (x : Saturation). theDone x moves₁ entries₁) er
+        ∙ zero-done case moves entries moves₁ entries₁ 9 (p ∙ ap zeros lm) (q ∙ ap zeros le)
         ∙ done-large (theLent case moves entries) (sym ec ∙ sound)
         (saturated-is ∙ ap (λ (x : Bool). ended x (automatonOf z inner entries₁ moves₁) (rowsIn sizeRow (k + 1) sizes)) f)
 

@@ -17,7 +17,7 @@ use Rattle.services.specs.Judge.Laws.{start-first, start-passed}
 use Rattle.services.specs.Guide.{numberTests}
 use Rattle.start_file.specs.Checks.{filesOf, refusalFor}
 use Rattle.start_file.specs.Checks.Laws.{refusal-is}
-use Rattle.sound_files.specs.Refusal.{firstOf, filesRefusal, FilesSound, startsRefusal, refusedBefore}
+use Rattle.sound_files.specs.Refusal.{firstOf, filesRefusal, FilesSound, startsRefusal, refusedBefore, numberRefusal}
 use Rattle.sound_files.specs.Sound.Laws.{starts-count}
 
 -- ---- one refusal after another
@@ -145,7 +145,7 @@ module _ {X : Type 0} (case start : X → List ℕ) (number : X → ℕ) (more :
   number-there h = firstHit-passes (record { fails = λ (y : X). leb (length (startsOf (start y))) (number y); refusal = 7 }) more x (lt-leb _ _ h)
 
   pub tests-first : firstHit (testsOn case caseTests ++ (testsOn files startTests ++ (numberTests start number ++ more))) x
-      ≡ firstOf (refusedBefore (case x) (start x) (number x) 0 7) (firstHit more x)
+      ≡ firstOf (numberRefusal (case x) (start x) (number x)) (firstHit more x)
   tests-first =
       let later = firstHit more x in
       by-test (eqb (caseRefusal (case x)) 0)

@@ -1,12 +1,12 @@
--- `sound_files::refusal_before` meets its contract.
+-- `sound_files::number_refusal` meets its contract.
 -- Assumes nothing.
 use mathlib.Core.Path.{sym, _∙_}
 use native.Mathlib.Omega.{arith}
 use Rattle.sound_files.specs.Sound.Laws.{start-sound, start-long}
 use Rattle.sound_files.specs.Refusal.Laws.{files-sound, by-files, by-below, by-past}
 use borrow.Author.Needs.{needs}
-use Rattle.sound_files.proofs.refusal_before.Statement.{statement}
-use Rattle.sound_files.proofs.refusal_before.Tie as tie
+use Rattle.sound_files.proofs.number_refusal.Statement.{statement}
+use Rattle.sound_files.proofs.number_refusal.Tie as tie
 
 files-refusal-requires : tie.Need-files-refusal-requires
 files-refusal-requires c κs = search needs
@@ -28,5 +28,5 @@ returns-3 : tie.Need-returns-3
 returns-3 c =
     by-past _ _ _ _ _ (c .before .before .before .files-refusal .ensures) (c .before .before .if1 .left) (c .before .count-of .ensures .0) (c .if2 .left)
 
-pub refusal-before-spec : {M : Type 1} → statement M
-refusal-before-spec = tie.close (tie.spec files-refusal-requires returns count-of-requires returns-2 returns-3)
+pub number-refusal-spec : {M : Type 1} → statement M
+number-refusal-spec = tie.close (tie.spec files-refusal-requires returns count-of-requires returns-2 returns-3)
