@@ -143,7 +143,7 @@ fn by_copy(
         (copyGives to s (asMove m)) k (now (out .exit)) (now (memo .exit)) ⌝ }
 {
     let at = readings::slot_of(to, 0);
-    readings::read_edges(
+    edge_readings::read_edges(
         z,
         inner,
         entries,

@@ -4,6 +4,7 @@
 pub mod Laws
 pub mod Order
 pub mod Earlier
+pub mod Inner
 use Prim.Native.Nat.{ℕ}
 use mathlib.Core.Path.{_≡_}
 use mathlib.Core.Option.{Option, none, some}

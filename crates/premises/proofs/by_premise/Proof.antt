@@ -1,7 +1,7 @@
 -- `premises::by_premise` meets its contract.
 -- Assumes nothing.
 use mathlib.Core.Path.{sym, _∙_}
-use Rattle.readings.specs.Edges.Laws.{held-table}
+use Rattle.readings.specs.Readings.Inner.{held-table}
 use Rattle.readings.specs.Gathering.Laws.{can-read, read-collected, offer-collected}
 use Rattle.premises.specs.Reads.Laws.{by-nothing, push-alone, rest-held, rest-collected, edges-held, edges-collected}
 use borrow.Author.Needs.{needs}

@@ -19,7 +19,7 @@ use Rattle.readings.specs.declared.Goal.{Goal}
 use Rattle.readings.specs.declared.Slot.{Slot}
 use Rattle.readings.specs.Before.{HeldBefore}
 use Rattle.readings.specs.Readings.{resultTo, theResult, slotOf, readsTo, edgesTo, ByMoves}
-use Rattle.readings.specs.Edges.Laws.{reads-alone}
+use Rattle.readings.specs.Readings.Inner.{reads-alone}
 use Rattle.readings.specs.Gathering.{ReadsAll, CollectsAll}
 use Rattle.readings.specs.Gathering.Laws.{held-same, reads-all-same, collects-all-same}
 use Rattle.premises.specs.declared.MoveUse.{MoveUse}

@@ -21,7 +21,7 @@ use borrow.Author.Tests.{eq-eqb, ne-eqb}
 use Rattle.words.specs.Sets.{join, members}
 use Rattle.joins.specs.Joining.{theJoins}
 use Rattle.readings.specs.Readings.{theResult, readResults, edgeResults}
-use Rattle.readings.specs.Edges.Laws.{collects-edges}
+use Rattle.readings.specs.Readings.Inner.{collects-edges}
 use Rattle.offers.specs.Offers.{AllHeld, Collects}
 use Rattle.offers.specs.Offers.Alike.{passed-past}
 use Rattle.offers.specs.Offers.Laws.{OfferedBelow, passed-more, passed-all, collects-same, collects-none}

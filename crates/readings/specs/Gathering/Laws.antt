@@ -15,7 +15,7 @@ use Rattle.tables.specs.Held.{automatonOf, tableOf}
 use Rattle.tables.specs.Rows.{rowAt, rowsIn, putRow}
 use Rattle.tables.specs.Layouts.{moveRow}
 use Rattle.memo_table.specs.declared.State.{State}
-use Rattle.memo_table.specs.States.{stateWords, readState, edgesKind, edgesState}
+use Rattle.memo_table.specs.States.{stateWords, readState, edgesKind}
 use Rattle.memo_table.specs.Layout.{stateRow}
 use Rattle.joins.specs.Joining.{theJoins}
 use Rattle.offers.specs.declared.Pending.{Pending}
@@ -24,11 +24,11 @@ use Rattle.offers.specs.Offers.Laws.{collects-same}
 use Rattle.readings.specs.declared.Before.{Before}
 use Rattle.readings.specs.declared.Slot.{Slot}
 use Rattle.readings.specs.Before.{tableBefore, Known, HeldBefore}
-use Rattle.readings.specs.Readings.{readsTo, edgesTo, ByMoves}
-use Rattle.readings.specs.Edges.Laws.{edges-end, collects-edges, collects-table, reads-alone}
+use Rattle.readings.specs.Readings.{readsTo, ByMoves}
+use Rattle.readings.specs.Readings.Inner.{collects-edges, collects-table, reads-alone}
 use Rattle.readings.specs.Turns.Laws.{read-left}
 use Rattle.readings.specs.Memo.{stateResults, MemoHolds}
-use Rattle.readings.specs.Memo.Laws.{read-gives, read-not-later, edges-gives, edges-not-later, memo-later, memo-found, memo-more}
+use Rattle.readings.specs.Memo.Laws.{read-gives, read-not-later, memo-later, memo-found, memo-more}
 use Rattle.readings.specs.Gathering.{CanCollect, CollectsAll, MemoKept, CanRead, ReadsAll}
 
 -- ---- one room
@@ -74,29 +74,6 @@ module _ (f g : Automaton → List Result) where
 
   pub held-same : {A : Automaton} {t : Before} {a : ℕ} → f (tableBefore t A) ≡ g (tableBefore t A) → HeldBefore A t a f → HeldBefore A t a g
   held-same {A} {t} e h = record { settles = h .settles; known = subst (Known A (t .new)) e (h .known) }
-
-module _ (A : Automaton) (n r : Pending) (t t′ memo : List ℕ) (to : Slot) (j : Joins) (N left : ℕ) where
-  -- the first of the states left, and the others
-  pub all-first : (q : ℕ) (qs : List ℕ) → members left ≡ q ∷ qs → CollectsAll A n t (edgesTo to j (q ∷ qs) N) r t′ memo → CollectsAll A n t (edgesTo to j (members left) N) r t′ memo
-  all-first q qs e c = subst (λ (l : List ℕ). CollectsAll A n t (edgesTo to j l N) r t′ memo) (sym e) c
-
-  -- no state is left
-  pub all-end : left ≡ 0 → CollectsAll A n t (readsTo to (members N) j) r t′ memo → CollectsAll A n t (edgesTo to j (members left) N) r t′ memo
-  all-end e c =
-      record {
-        collected = record { collects = collects-same (edges-end A (to .control) (to .symbol) j N (to .s) left e) (c .collected .collects); same-room = c .collected .same-room };
-        memo-holds = c .memo-holds;
-      }
-
-  -- the states left, worked through, may be put into a row
-  pub all-noted : (memo′ : List ℕ) (x : State) (i k order B R : ℕ) → length (A .moves) ≡ k → j ≡ theJoins order B R → x ≡ edgesState k (to .control) (to .symbol) (to .s) left N order B R
-      → CollectsAll A n t (edgesTo to j (members left) N) r t′ memo → i * 9 + 9 ≤ length memo → memo′ ≡ putRow stateRow memo i x → CollectsAll A n t (edgesTo to j (members left) N) r t′ memo′
-  all-noted memo′ x i k order B R l f e c b q =
-      let gives = edges-gives A x k (to .control) (to .symbol) (to .s) left order B R l N e ∙ ap (λ (y : Joins). edgesTo to y (members left) N A) (sym f) in
-      record {
-        collected = c .collected;
-        memo-holds = memo-put memo memo′ x i (edgesTo to j (members left) N A) (edges-not-later A x k (to .control) (to .symbol) (to .s) left order B R l N e) gives (c .collected) (c .memo-holds) b q;
-      }
 
 -- ---- whatever the inner edges
 

@@ -26,7 +26,7 @@ use Rattle.tables.specs.Held.{automatonOf, tableOf}
 use Rattle.tables.specs.Records.{asResult}
 use Rattle.offers.specs.Offers.{AllHeld, Collects}
 use Rattle.offers.specs.Offers.Laws.{collects-same}
-use Rattle.readings.specs.Edges.Laws.{all-held-edges, collects-edges}
+use Rattle.readings.specs.Readings.Inner.{all-held-edges, collects-edges}
 use Rattle.readings.specs.Readings.{theResult}
 use Rattle.premises.specs.declared.MoveUse.{MoveUse}
 use Rattle.results.specs.declared.EntryUse.{EntryUse}

@@ -1,77 +1,38 @@
--- The turns of the loop over edges, and what does not depend on the inner edges.
+-- The turns of the loop over edges, and what is held of the choices that follow.
 -- Assumes nothing.
 use Prim.Native.Nat.{ℕ, suc, _+_, _*_, _≤_, _<_}
-use mathlib.Core.Bool.{Bool, _||_, _&&_}
+use mathlib.Core.Bool.{Bool, _||_}
 use mathlib.Core.Path.{_≡_, refl, ap, ap₂, sym, _∙_, subst}
-use mathlib.Core.List.{List, [], _∷_, List·Memᴰ}
+use mathlib.Core.List.{List, _∷_, List·Memᴰ}
 use native.Mathlib.Omega.{arith}
 use lib.ListN.{length, getD}
 use borrow.Author.Tests.{eq-eqb, ne-eqb}
-use lib.Dec.{eqb, leb}
+use lib.Dec.{leb}
 use Rattle.words.specs.Sets.{join, single, members}
 use Rattle.words.specs.Sets.Laws.{members-empty}
-use Rattle.words.specs.Lists.{when, each, places}
-use Rattle.automata.specs.Automaton.{Automaton, Edge, noEdge, noMove, edges, edgeAt, edgesOf, moveAt, movesOf, entryAt, entryOf, entryControl, entrySet}
+use Rattle.words.specs.Lists.{when}
+use Rattle.automata.specs.Automaton.{Automaton, Edge, noEdge, edges, edgeAt, edgesOf}
 use Rattle.automata.specs.Automaton.Laws.{edgesOf-in}
-use Rattle.automata.specs.Derivation.{Result, Joins, joinMove, resultOf}
-use Rattle.automata.specs.Saturation.{isResult, held, upTo}
+use Rattle.automata.specs.Derivation.{Result, Joins}
+use Rattle.automata.specs.Saturation.{held}
 use Rattle.tables.specs.declared.Table.{Table}
-use Rattle.tables.specs.Held.{automatonOf, tableOf, edgesIn}
-use Rattle.tables.specs.Pending.{pendingIn}
-use Rattle.offers.specs.Offers.{AllHeld, Collects, offerAll}
+use Rattle.tables.specs.Held.{automatonOf, edgesIn}
+use Rattle.offers.specs.Offers.{Collects}
 use Rattle.offers.specs.Offers.Laws.{OfferedBelow, passed-none, passed-more, passed-all, collects-same, collects-none}
-use Rattle.readings.specs.Readings.{fromJoins, readResults, edgeResults, slotJoined, readsTo, edgesTo, ByMoves}
+use Rattle.readings.specs.Readings.{readResults, edgeResults, slotJoined, readsTo, edgesTo}
 use Rattle.offers.specs.Offers.Alike.{covered-in, collects-alike}
 use Rattle.tables.specs.Rows.{rowsIn}
 use Rattle.tables.specs.Rows.Laws.{length-rowsIn}
 use Rattle.tables.specs.Layouts.{edgeRow}
 use Rattle.tables.specs.Held.Laws.{length-edgesIn}
 use Rattle.choices.specs.Unchanged.{Unchanged}
 use Rattle.readings.specs.declared.Before.{Before}
 use Rattle.readings.specs.declared.Slot.{Slot}
 use Rattle.readings.specs.Before.{tableBefore, usedBy, Known, HeldBefore}
 use Rattle.readings.specs.Before.Laws.{settles-used}
-use Rattle.readings.specs.Naming.{namedWith}
-use Rattle.readings.specs.Naming.Laws.{named-less, named-more, known-edge}
-use Rattle.readings.specs.Edges.{edgesTest}
-
--- ---- what does not depend on the inner edges
-
--- readings depend on the moves alone
-pub read-moves-alone : (A B : Automaton) → A .moves ≡ B .moves → (p a S : ℕ) (rs : List ℕ) (j : Joins) → readResults A p a S rs j ≡ readResults B p a S rs j
-unfolding readResults movesOf moveAt
-read-moves-alone A B e p a S [] j = refl
-read-moves-alone A B e p a S (r ∷ rs) j = λ i. each (places (λ m. eqb (m .state) r && eqb (m .symbol) a) (e i))
-    (λ n. fromJoins (joinMove j (getD (e i) n noMove)) (λ k. read-moves-alone A B e p a S rs k i))
-
-pub reads-alone : (to : Slot) (rs : List ℕ) (j : Joins) → ByMoves (readsTo to rs j)
-reads-alone to rs j A B e = read-moves-alone A B e (to .control) (to .symbol) (to .s) rs j
-
-module _ (z : Table) (inner entries moves : List ℕ) where
-  held-edges : held (tableOf z entries moves) ≡ held (automatonOf z inner entries moves)
-  unfolding held isResult entryOf entryAt resultOf entryControl entrySet
-  held-edges = refl
-
-  pub all-held-edges : (xs : List Result) → AllHeld (automatonOf z inner entries moves) xs → AllHeld (tableOf z entries moves) xs
-  all-held-edges xs h = record { all-held = λ x m. ap (λ (f : Result → Bool). f x) held-edges ∙ h .all-held x m }
-
-  pub collects-edges : {room n r : ℕ} {t t′ : List ℕ} {xs : List Result} → Collects (tableOf z entries moves) room n t xs r t′ → Collects (automatonOf z inner entries moves) room n t xs r t′
-  collects-edges {room} {n} {t = t} {xs = xs} c =
-      record { collected = c .collected ∙ ap (λ (h : Result → Bool). offerAll h room (pendingIn room n t) xs) held-edges; number = c .number }
-
-  pub collects-table : {room n r : ℕ} {t t′ : List ℕ} {xs : List Result} → Collects (automatonOf z inner entries moves) room n t xs r t′ → Collects (tableOf z entries moves) room n t xs r t′
-  collects-table {room} {n} {t = t} {xs = xs} c =
-      record { collected = c .collected ∙ ap (λ (h : Result → Bool). offerAll h room (pendingIn room n t) xs) (sym held-edges); number = c .number }
-
-  -- what is held before, of what depends on the moves alone
-  pub held-table : (t : Before) (a : ℕ) (gives : Automaton → List Result) → ByMoves gives → HeldBefore (automatonOf z inner entries moves) t a gives → HeldBefore (tableOf z entries moves) t a gives
-  unfolding upTo moveAt
-  held-table t a gives alone h =
-      let same = alone (tableBefore t (automatonOf z inner entries moves)) (tableBefore t (tableOf z entries moves)) refl in
-      record {
-        settles = record { moves-before = h .settles .moves-before; entries-before = h .settles .entries-before; settles = h .settles .settles };
-        known = record { known = λ n. all-held-edges _ (subst (AllHeld (automatonOf z inner entries moves)) same (h .known .known n)) };
-      }
+use Rattle.edge_readings.specs.Naming.{namedWith}
+use Rattle.edge_readings.specs.Naming.Laws.{named-less, named-more, known-edge}
+use Rattle.edge_readings.specs.Edges.{edgesTest}
 
 module _ (z : Table) (inner entries moves : List ℕ) (p a : ℕ) (j : Joins) (q : ℕ) (qs : List ℕ) (N S : ℕ) where
   -- what edge e gives

@@ -1,4 +1,4 @@
--- `readings::read_edges`, `readings::choose_left` and `readings::read_choices`, which call each other, meet their contracts.
+-- `edge_readings::read_edges`, `edge_readings::choose_left` and `edge_readings::read_choices`, which call each other, meet their contracts.
 -- Assumes nothing.
 use Prim.Native.Nat.{ℕ, _+_, _-_, _*_, _≤_, _<_}
 use mathlib.Core.Path.{_≡_, refl, ap, _∙_}
@@ -12,22 +12,24 @@ use Rattle.tables.specs.Held.{automatonOf}
 use Rattle.joins.specs.Joining.{theJoins}
 use Rattle.offers.specs.declared.Pending.{Pending}
 use Rattle.offers.specs.Offers.Laws.{collects-over}
-use Rattle.readings.specs.Edges.Laws.{EdgesUpTo, edges-none, edges-yes, edges-no, edges-all, edges-slot, fewer-edges, reads-alone, held-table, held-first, held-end, held-edge}
+use Rattle.edge_readings.specs.Edges.Laws.{EdgesUpTo, edges-none, edges-yes, edges-no, edges-all, edges-slot, fewer-edges, held-first, held-end, held-edge}
+use Rattle.edge_readings.specs.Edges.Collected.{all-first, all-end, all-noted}
+use Rattle.readings.specs.Readings.Inner.{reads-alone, held-table}
 use Rattle.readings.specs.Memo.{MemoHolds}
 use Rattle.readings.specs.Memo.Laws.{edges-gives, memo-found}
-use Rattle.readings.specs.Gathering.Laws.{in-room, collected-by, holds-same, nothing-collected, all-first, all-end, all-noted, can-read, read-collected}
+use Rattle.readings.specs.Gathering.Laws.{in-room, collected-by, holds-same, nothing-collected, can-read, read-collected}
 use borrow.Author.Needs.{needs}
 use borrow.Fn.Kinds.{In}
 use borrow.Fn.PlainCycle.{Measures, is, falls, and}
-use Rattle.readings.proofs.choose_left.Reads as choose-left
-use Rattle.readings.proofs.choose_left.Kinds as choose-left-kinds
-use Rattle.readings.proofs.+choose_left+read_choices+read_edges.Lts-choose_left as choose-left-lts
-use Rattle.readings.proofs.read_choices.Reads as read-choices
-use Rattle.readings.proofs.read_choices.Kinds as read-choices-kinds
-use Rattle.readings.proofs.+choose_left+read_choices+read_edges.Lts-read_choices as read-choices-lts
-use Rattle.readings.proofs.read_edges.Reads as read-edges
-use Rattle.readings.proofs.read_edges.Kinds as read-edges-kinds
-use Rattle.readings.proofs.+choose_left+read_choices+read_edges.Lts-read_edges as read-edges-lts
+use Rattle.edge_readings.proofs.choose_left.Reads as choose-left
+use Rattle.edge_readings.proofs.choose_left.Kinds as choose-left-kinds
+use Rattle.edge_readings.proofs.+choose_left+read_choices+read_edges.Lts-choose_left as choose-left-lts
+use Rattle.edge_readings.proofs.read_choices.Reads as read-choices
+use Rattle.edge_readings.proofs.read_choices.Kinds as read-choices-kinds
+use Rattle.edge_readings.proofs.+choose_left+read_choices+read_edges.Lts-read_choices as read-choices-lts
+use Rattle.edge_readings.proofs.read_edges.Reads as read-edges
+use Rattle.edge_readings.proofs.read_edges.Kinds as read-edges-kinds
+use Rattle.edge_readings.proofs.+choose_left+read_choices+read_edges.Lts-read_edges as read-edges-lts
 use Rattle.memo_table.proofs.edges_state.Reads as edges-state-reads
 use Rattle.memo_table.proofs.place.Reads as place-reads
 use Rattle.memo_table.proofs.holds.Reads as holds-reads
@@ -35,12 +37,12 @@ use Rattle.sets.proofs.least_member.Reads as least-member-reads
 use Rattle.memo_table.proofs.put.Reads as put-reads
 use Rattle.tables.proofs.edge_of.Reads as edge-of-reads
 use Rattle.choices.proofs.unchanged.Reads as unchanged-reads
 use Rattle.readings.proofs.used.Reads as used-reads
-use Rattle.readings.proofs.slot_joined.Reads as slot-joined-reads
-use Rattle.readings.proofs.name.Reads as name-reads
+use Rattle.edge_readings.proofs.slot_joined.Reads as slot-joined-reads
+use Rattle.edge_readings.proofs.name.Reads as name-reads
 use Rattle.readings.proofs.read_from.Reads as read-from-reads
-use Rattle.readings.proofs.+choose_left+read_choices+read_edges.{statement}
-use Rattle.readings.proofs.+choose_left+read_choices+read_edges.Tie.{close}
+use Rattle.edge_readings.proofs.+choose_left+read_choices+read_edges.{statement}
+use Rattle.edge_readings.proofs.+choose_left+read_choices+read_edges.Tie.{close}
 
 abbrev μ-choose-left : Measures 7 choose-left-kinds.ps ℕ
 μ-choose-left κs a = length (members (a .1 .1 .1 .1 .1 .1 .1 .1 .1 .1 .1 .0)) * 3 + 1

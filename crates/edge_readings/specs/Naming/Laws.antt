@@ -20,13 +20,13 @@ use Rattle.automata.specs.Derivation.{Result, Joins, joinMove}
 use Rattle.automata.specs.Facts.Laws.{moveAt-kept, moveOf-kept}
 use Rattle.automata.specs.Saturation.Laws.{upTo-extends}
 use Rattle.choices.specs.Unchanged.{Unchanged}
 use Rattle.readings.specs.declared.Before.{Before}
 use Rattle.readings.specs.Readings.{readResults, edgeResults}
 use Rattle.readings.specs.Readings.Order.{read-out, read-in, read-apart, read-together}
 use Rattle.readings.specs.Readings.Earlier.{edges-out, edges-in, old-move, edges-old}
 use Rattle.readings.specs.Before.{tableBefore, Known}
 use Rattle.readings.specs.Before.Laws.{move-earlier, edge-earlier, newer-no}
-use Rattle.readings.specs.Naming.{namedWith}
+use Rattle.edge_readings.specs.Naming.{namedWith}
 
 -- ---- a set with one member more
 

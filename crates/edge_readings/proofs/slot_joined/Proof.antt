@@ -1,10 +1,10 @@
--- `readings::slot_joined` meets its contract.
+-- `edge_readings::slot_joined` meets its contract.
 -- Assumes nothing.
 use mathlib.Core.Path.{_≡_, ap}
 use Prim.Native.Nat.{ℕ}
 use borrow.Author.Needs.{needs}
-use Rattle.readings.proofs.slot_joined.Statement.{statement}
-use Rattle.readings.proofs.slot_joined.Tie as tie
+use Rattle.edge_readings.proofs.slot_joined.Statement.{statement}
+use Rattle.edge_readings.proofs.slot_joined.Tie as tie
 
 join-requires : tie.Need-join-requires
 join-requires c κs = search needs

@@ -1,10 +1,10 @@
--- `readings::name` meets its contract.
+-- `edge_readings::name` meets its contract.
 -- Assumes nothing.
-use Rattle.readings.specs.Naming.Laws.{name-same, name-more}
+use Rattle.edge_readings.specs.Naming.Laws.{name-same, name-more}
 use native.Mathlib.Omega.{arith}
 use borrow.Author.Needs.{needs}
-use Rattle.readings.proofs.name.Statement.{statement}
-use Rattle.readings.proofs.name.Tie as tie
+use Rattle.edge_readings.proofs.name.Statement.{statement}
+use Rattle.edge_readings.proofs.name.Tie as tie
 
 returns : tie.Need-returns
 returns c = name-same _ _ _ (c .if1 .taken)

@@ -1,6 +1,7 @@
 -- The edges of one state.
 -- Assumes nothing.
 pub mod Laws
+pub mod Collected
 use Prim.Native.Nat.{ℕ}
 use mathlib.Core.Bool.{Bool}
 use lib.Dec.{eqb}
