@@ -11,7 +11,8 @@ use Rattle.operations.specs.declared.Operand.{Operand}
 use Rattle.operations.specs.declared.Operand.the-variants.{Symbol, Zero}
 use Rattle.operations.specs.declared.Line.{Line}
 
--- b is right for our code, where there are so many symbols: a rule of this code and b, whose other bytes are 0, keeps the bounds of its body
+-- b is right for our code, where there are so many symbols: in a case of one control, a rule of this code and b keeps the bounds of its body if its
+-- other bytes are 0
 unfoldable pub operandRight : ℕ → ℕ → ℕ → Bool
 operandRight code symbols b =
     ruleRight (record { P = 1; I = 0; J = 0; A = symbols; final2 = 0; final1 = 0 }) (record { p = 0; a = 0; code = code; b = b; next = 0 })
