@@ -2,7 +2,7 @@
 -- Assumes nothing.
 pub mod Laws
 use Prim.Native.Nat.{ℕ}
-use mathlib.Core.List.{List, [], _∷_}
+use mathlib.Core.List.{List}
 use Rattle.words.specs.Sets.{join, members}
 use Rattle.words.specs.Lists.{when}
 use Rattle.automata.specs.Automaton.{Automaton, Move}

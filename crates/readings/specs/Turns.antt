@@ -7,8 +7,6 @@ use mathlib.Core.List.{List, _∷_}
 use lib.ListN.{length}
 use Rattle.automata.specs.Automaton.{Automaton, moveAt}
 use Rattle.automata.specs.Derivation.{Result, Joins}
-use Rattle.tables.specs.Rows.{rowAt}
-use Rattle.tables.specs.Layouts.{moveRow}
 use Rattle.move_index.specs.Keys.{stateKeyAt}
 use Rattle.joins.specs.Joining.{candidateOf}
 use Rattle.offers.specs.Offers.Alike.{Gathered}

@@ -27,7 +27,7 @@ use Rattle.tables.specs.Held.Laws.{row-move}
 use Rattle.offers.specs.Offers.{AllHeld}
 use Rattle.readings.specs.declared.Before.{Before}
 use Rattle.readings.specs.declared.Goal.{Goal}
-use Rattle.readings.specs.Before.{tableBefore, settledOn, Settles}
+use Rattle.readings.specs.Before.{tableBefore, settledOn}
 use Rattle.round_news.specs.News.{HasSymbols, NoneHas}
 use Rattle.premises.specs.declared.MoveUse.{MoveUse}
 use Rattle.premises.specs.declared.MoveUse.the-variants.{Rewritten, Pushed1, Pushed2, Copied}

@@ -1,6 +1,6 @@
 -- `edge_readings::slot_joined` meets its contract.
 -- Assumes nothing.
-use mathlib.Core.Path.{_≡_, ap}
+use mathlib.Core.Path.{ap}
 use Prim.Native.Nat.{ℕ}
 use borrow.Author.Needs.{needs}
 use Rattle.edge_readings.proofs.slot_joined.Statement.{statement}

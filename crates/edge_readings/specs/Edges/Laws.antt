@@ -14,7 +14,6 @@ use Rattle.words.specs.Lists.{when}
 use Rattle.automata.specs.Automaton.{Automaton, Edge, noEdge, edges, edgeAt, edgesOf}
 use Rattle.automata.specs.Automaton.Laws.{edgesOf-in}
 use Rattle.automata.specs.Derivation.{Result, Joins}
-use Rattle.automata.specs.Saturation.{held}
 use Rattle.tables.specs.declared.Table.{Table}
 use Rattle.tables.specs.Held.{automatonOf, edgesIn}
 use Rattle.offers.specs.Offers.{Collects}

@@ -3,7 +3,6 @@
 use mathlib.Core.Path.{refl}
 use native.Mathlib.Omega.{arith}
 use Rattle.offers.specs.Holding.Laws.{other-control, other-set, same-entry}
-use borrow.Author.Needs.{needs}
 use Rattle.offers.proofs.held_by.Statement.{statement}
 use Rattle.offers.proofs.held_by.Tie as tie
 

@@ -3,7 +3,7 @@
 use native.Mathlib.Omega.{arith}
 use mathlib.Core.List.{[]}
 use Rattle.added_results.specs.Adding.Exist.{exist-any}
-use Rattle.one_round.specs.Rounding.Laws.{standing-entries, standing-moves, rounded-over, rounded-added}
+use Rattle.one_round.specs.Rounding.Laws.{rounded-over, rounded-added}
 use borrow.Author.Needs.{needs}
 use Rattle.one_round.proofs.add_round.Statement.{statement}
 use Rattle.one_round.proofs.add_round.Tie as tie

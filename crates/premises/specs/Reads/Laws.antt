@@ -8,7 +8,7 @@ use native.Mathlib.Omega.{arith}
 use Rattle.words.specs.Sets.{join, members}
 use Rattle.words.specs.Lists.{when}
 use Rattle.automata.specs.Automaton.{Automaton, Move}
-use Rattle.automata.specs.Derivation.{Result, joinsOf}
+use Rattle.automata.specs.Derivation.{joinsOf}
 use Rattle.tables.specs.declared.Table.{Table}
 use Rattle.tables.specs.declared.Result.{Result as ResultWords}
 use Rattle.tables.specs.Records.{asResult}
@@ -18,7 +18,7 @@ use Rattle.readings.specs.declared.Before.{Before}
 use Rattle.readings.specs.declared.Goal.{Goal}
 use Rattle.readings.specs.declared.Slot.{Slot}
 use Rattle.readings.specs.Before.{HeldBefore}
-use Rattle.readings.specs.Readings.{resultTo, theResult, slotOf, readsTo, edgesTo, ByMoves}
+use Rattle.readings.specs.Readings.{theResult, slotOf, readsTo, edgesTo, ByMoves}
 use Rattle.readings.specs.Readings.Inner.{reads-alone}
 use Rattle.readings.specs.Gathering.{ReadsAll, CollectsAll}
 use Rattle.readings.specs.Gathering.Laws.{held-same, reads-all-same, collects-all-same}

@@ -6,8 +6,8 @@ use mathlib.Core.Path.{_≡_, refl, ap, ap₂, sym, _∙_, subst}
 use mathlib.Core.List.{List, [], List·Memᴰ}
 use native.Mathlib.Omega.{arith}
 use lib.ListN.{length, getD}
-use lib.Dec.{eqb, leb}
-use borrow.Author.Tests.{eq-eqb, leb-false}
+use lib.Dec.{eqb}
+use borrow.Author.Tests.{eq-eqb}
 use Rattle.words.specs.Lists.Laws.{each-in, places-in}
 use Rattle.automata.specs.Automaton.{Automaton, Move, noMove, moveAt, entryAt, entryOf, entrySet}
 use Rattle.automata.specs.Derivation.{controlMoves}

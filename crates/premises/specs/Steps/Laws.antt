@@ -2,32 +2,25 @@
 -- Assumes nothing.
 use Prim.Native.Nat.{ℕ, _+_, _≤_, _<_}
 use mathlib.Core.Bool.{Bool, true, false, _&&_, and-false}
-use mathlib.Core.Path.{_≡_, ap, ap₂, sym, _∙_, subst}
-use mathlib.Core.List.{List, [], _∷_}
+use mathlib.Core.Path.{_≡_, ap, ap₂, sym, _∙_}
+use mathlib.Core.List.{List, []}
 use native.Mathlib.Omega.{arith}
 use lib.ListN.{length, getD}
 use lib.Dec.{eqb}
 use Rattle.words.specs.Lists.{when}
-use Rattle.automata.specs.Automaton.{Automaton, Move, noMove, moveAt, entryAt, entryOf, entrySet}
-use Rattle.automata.specs.Derivation.{Result, noJoins, joinsOf, controlMoves}
+use Rattle.automata.specs.Automaton.{Move, noMove, moveAt, entryAt, entryOf, entrySet}
+use Rattle.automata.specs.Derivation.{Result, controlMoves}
 use Rattle.tables.specs.declared.Table.{Table}
-use Rattle.tables.specs.declared.Result.{Result as ResultWords}
 use Rattle.tables.specs.Rows.{rowAt, rowsIn}
 use Rattle.tables.specs.Rows.Laws.{length-rowsIn, getD-rowsIn}
-use Rattle.tables.specs.Records.{asResult}
 use Rattle.tables.specs.Layouts.{moveRow}
 use Rattle.tables.specs.Held.{automatonOf, tableOf}
 use borrow.Author.Tests.{eq-eqb, ne-eqb}
-use Rattle.words.specs.Sets.{join, members}
-use Rattle.joins.specs.Joining.{theJoins}
-use Rattle.readings.specs.Readings.{theResult, readResults, edgeResults}
-use Rattle.readings.specs.Readings.Inner.{collects-edges}
 use Rattle.offers.specs.Offers.{AllHeld, Collects}
 use Rattle.offers.specs.Offers.Alike.{passed-past}
 use Rattle.offers.specs.Offers.Laws.{OfferedBelow, passed-more, passed-all, collects-same, collects-none}
 use Rattle.premises.specs.declared.MoveUse.{MoveUse}
-use Rattle.premises.specs.declared.MoveUse.the-variants.{Rewritten, Pushed1, Pushed2, Copied}
-use Rattle.premises.specs.Premises.{orderFits, premiseResults, movesResults}
+use Rattle.premises.specs.Premises.{premiseResults, movesResults}
 use Rattle.premises.specs.Steps.{moveStep}
 
 -- ---- moves of one control

@@ -1,8 +1,7 @@
 -- `readings::used` meets its contract.
 -- Assumes nothing.
-use mathlib.Core.Path.{_≡_, ap}
+use mathlib.Core.Path.{ap}
 use mathlib.Core.Bool.{Bool}
-use Rattle.readings.specs.declared.Before.{Before}
 use borrow.Author.Needs.{needs}
 use Rattle.readings.proofs.used.Statement.{statement}
 use Rattle.readings.proofs.used.Tie as tie

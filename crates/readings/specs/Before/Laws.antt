@@ -15,7 +15,7 @@ use Rattle.words.specs.Laws.Tests.{by-test, and-left, and-right}
 use Rattle.sets.specs.Without.{without}
 use Rattle.automata.specs.Automaton.{Automaton, edges, moveAt, movesOf}
 use Rattle.automata.specs.Automaton.Laws.{movesOf-out, length-edges}
-use Rattle.automata.specs.Derivation.{Result, Joins, joinMove}
+use Rattle.automata.specs.Derivation.{Joins, joinMove}
 use Rattle.automata.specs.Saturation.{upTo}
 use Rattle.automata.specs.Saturation.Laws.{upTo-extends}
 use Rattle.offers.specs.Offers.{AllHeld}

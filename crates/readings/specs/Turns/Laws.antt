@@ -16,13 +16,13 @@ use Rattle.words.specs.Laws.Tests.{by-test, and-left, and-right}
 use Rattle.words.specs.Order.Laws.{number-cases}
 use Rattle.sets.specs.Without.{without}
 use Rattle.sets.specs.Without.Laws.{members-fewer}
-use Rattle.automata.specs.Automaton.{Automaton, Move, noMove, moveAt, movesOf}
+use Rattle.automata.specs.Automaton.{Automaton, Move, moveAt, movesOf}
 use Rattle.automata.specs.Automaton.Laws.{movesOf-in, movesOf-out}
 use Rattle.automata.specs.Derivation.{Result, Joins, joinMove}
 use Rattle.tables.specs.declared.Table.{Table}
 use Rattle.tables.specs.declared.Result.{Result as ResultWords}
 use Rattle.tables.specs.Rows.{rowAt, rowsIn}
-use Rattle.tables.specs.Rows.Laws.{length-rowsIn, getD-rowsIn}
+use Rattle.tables.specs.Rows.Laws.{length-rowsIn}
 use Rattle.tables.specs.Records.{asResult}
 use Rattle.tables.specs.Layouts.{moveRow}
 use Rattle.tables.specs.Held.{tableOf}

@@ -1,10 +1,9 @@
 -- What a rule gives by its use is what its operation gives.
 -- Assumes nothing.
 use Prim.Native.Nat.{ℕ, _+_}
-use mathlib.Core.Bool.{true}
 use mathlib.Core.Path.{_≡_, refl, ap, sym, _∙_, subst}
 use mathlib.Core.Option.{Option, none, some}
-use mathlib.Core.List.{List, [], _∷_, List·Memᴰ, List·Memᴰ·head}
+use mathlib.Core.List.{List, [], _∷_, List·Memᴰ}
 use native.Mathlib.Omega.{arith}
 use lib.ListN.{length}
 use lib.Seq.{getD-take}
@@ -14,7 +13,7 @@ use Rattle.stacks.specs.Stack.{Operation, rewrite, push1, push2, copy, pop1, po
 use Rattle.stacks.specs.System.{Rule}
 use Rattle.automata.specs.Automaton.{Automaton, Entry, noEntry, entryAt, entrySet}
 use Rattle.automata.specs.Facts.Laws.{entryAt-same}
-use Rattle.automata.specs.Saturation.{held, upTo}
+use Rattle.automata.specs.Saturation.{upTo}
 use Rattle.automata.specs.Saturation.Laws.{upTo-extends}
 use Rattle.automata.specs.Derivation.{controlEntries}
 use Rattle.case_records.specs.declared.Operation as case
@@ -24,16 +23,13 @@ use Rattle.tables.specs.declared.Result.{Result as ResultWords}
 use Rattle.tables.specs.declared.Table.{Table}
 use Rattle.tables.specs.Held.{automatonOf, tableOf}
 use Rattle.tables.specs.Records.{asResult}
-use Rattle.offers.specs.Offers.{AllHeld, Collects}
-use Rattle.offers.specs.Offers.Laws.{collects-same}
-use Rattle.readings.specs.Readings.Inner.{all-held-edges, collects-edges}
+use Rattle.offers.specs.Offers.{AllHeld}
+use Rattle.readings.specs.Readings.Inner.{all-held-edges}
 use Rattle.readings.specs.Readings.{theResult}
-use Rattle.premises.specs.declared.MoveUse.{MoveUse}
 use Rattle.results.specs.declared.EntryUse.{EntryUse}
 use Rattle.results.specs.declared.Use.{Use}
 use Rattle.results.specs.declared.Use.the-variants.{Moves, Entries, Nothing}
 use Rattle.readings.specs.declared.Before.{Before}
-use Rattle.readings.specs.declared.Goal.{Goal}
 use Rattle.readings.specs.declared.Slot.{Slot}
 use Rattle.readings.specs.Before.{tableBefore, Known}
 use Rattle.premises.specs.declared.Source.{Source}
