@@ -26,6 +26,11 @@ readsNew Copied moves entries = moves || entries
 unfoldable pub firstMove : Bool → ℕ → ℕ → ℕ
 firstMove premises old n = elim premises [ true ↦ old | false ↦ n ]
 
+-- the same goal, with these settled states
+abbrev pub settledOn : Goal → ℕ → Goal
+settledOn to s =
+    record { control = to .control; symbol = to .symbol; room = to .room; before = record { new = to .before .new; moves = to .before .moves; entries = to .before .entries; settled = s } }
+
 -- What the premises below number `first` from this source give is held.
 pub record HeldBelow (A : Automaton) (to : Goal) (from : Source) (first : ℕ) : Type 0 where
   pub within : first ≤ length (A .moves)

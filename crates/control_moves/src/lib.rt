@@ -10,16 +10,15 @@ ghost use Rattle.readings.specs.Gathering.{CanCollect, CollectsAll};
 ghost use Rattle.round_news.specs.News.{HasSymbols, NoneHas};
 ghost use Rattle.premises.specs.Premises.{sourceGives};
 ghost use Rattle.premises.specs.Settled.{SettledBy, SourceHeld};
-ghost use Rattle.control_moves.specs.First.{readsNew, firstMove, HeldBelow};
+ghost use Rattle.control_moves.specs.First.{readsNew, firstMove, settledOn, HeldBelow};
 ghost use Rattle.control_moves.specs.Control.{entryGives};
-use offers::Pending;
 use premises::MoveUse;
 use premises::Source;
 use readings::Before;
 use readings::Goal;
 
-// Collects what the moves of entry number e give, where they come from this source. They are found along a chain; the table of the round
-// before, t, the index and `memo` are those of `readings::read_from`, here and in the functions that follow.
+// Collects what the moves of entry number e give, where they come from this source. They are found along a chain; the index
+// and `memo` are those of `readings::read_from`, here and in the functions that follow.
 fn by_entry_moves(
     z: tables::Table,
     inner: &[u64],
@@ -28,17 +27,16 @@ fn by_entry_moves(
     states: &[u16],
     words: &[u16],
     to: Goal,
-    t: Before,
     from: Source,
     e: usize,
     memo: &mut [u64],
     out: &mut [u64],
-    n: Pending,
-) -> Pending
+    n: usize,
+) -> usize
     requires { ⌜ Indexed z (now inner) (now entries) (now moves) (now states) (now words)
-        × CanCollect (automatonOf z (now inner) (now entries) (now moves)) n (now out) (now memo)
-        × SourceHeld (automatonOf z (now inner) (now entries) (now moves)) t to from × (e < z .entries) ⌝ }
-    ensures { λ k. ⌜ CollectsAll (automatonOf z (now (inner .entry)) (now (entries .entry)) (now (moves .entry))) n (now (out .entry))
+        × CanCollect (automatonOf z (now inner) (now entries) (now moves)) (to .room) n (now out) (now memo)
+        × SourceHeld (automatonOf z (now inner) (now entries) (now moves)) to from × (e < z .entries) ⌝ }
+    ensures { λ k. ⌜ CollectsAll (automatonOf z (now (inner .entry)) (now (entries .entry)) (now (moves .entry))) (to .room) n (now (out .entry))
         (entryGives to from e) k (now (out .exit)) (now (memo .exit)) ⌝ }
 {
     let x = tables::entry_at(entries, e);
@@ -60,7 +58,6 @@ fn by_entry_moves(
             states,
             words,
             to,
-            t,
             from,
             i,
             memo,
@@ -81,16 +78,15 @@ fn by_control(
     states: &[u16],
     words: &[u16],
     to: Goal,
-    t: Before,
     from: Source,
     memo: &mut [u64],
     out: &mut [u64],
-    n: Pending,
-) -> Pending
+    n: usize,
+) -> usize
     requires { ⌜ Indexed z (now inner) (now entries) (now moves) (now states) (now words)
-        × CanCollect (automatonOf z (now inner) (now entries) (now moves)) n (now out) (now memo)
-        × SourceHeld (automatonOf z (now inner) (now entries) (now moves)) t to from ⌝ }
-    ensures { λ k. ⌜ CollectsAll (automatonOf z (now (inner .entry)) (now (entries .entry)) (now (moves .entry))) n (now (out .entry))
+        × CanCollect (automatonOf z (now inner) (now entries) (now moves)) (to .room) n (now out) (now memo)
+        × SourceHeld (automatonOf z (now inner) (now entries) (now moves)) to from ⌝ }
+    ensures { λ k. ⌜ CollectsAll (automatonOf z (now (inner .entry)) (now (entries .entry)) (now (moves .entry))) (to .room) n (now (out .entry))
         (sourceGives to from) k (now (out .exit)) (now (memo .exit)) ⌝ }
 {
     let count = z.entries;
@@ -105,7 +101,6 @@ fn by_control(
             states,
             words,
             to,
-            t,
             from,
             e,
             memo,
@@ -126,17 +121,16 @@ fn by_newer(
     states: &[u16],
     words: &[u16],
     to: Goal,
-    t: Before,
     from: Source,
     first: usize,
     memo: &mut [u64],
     out: &mut [u64],
-    n: Pending,
-) -> Pending
+    n: usize,
+) -> usize
     requires { ⌜ Indexed z (now inner) (now entries) (now moves) (now states) (now words)
-        × CanCollect (automatonOf z (now inner) (now entries) (now moves)) n (now out) (now memo)
-        × SourceHeld (automatonOf z (now inner) (now entries) (now moves)) t to from × HeldBelow (automatonOf z (now inner) (now entries) (now moves)) to from first ⌝ }
-    ensures { λ k. ⌜ CollectsAll (automatonOf z (now (inner .entry)) (now (entries .entry)) (now (moves .entry))) n (now (out .entry))
+        × CanCollect (automatonOf z (now inner) (now entries) (now moves)) (to .room) n (now out) (now memo)
+        × SourceHeld (automatonOf z (now inner) (now entries) (now moves)) to from × HeldBelow (automatonOf z (now inner) (now entries) (now moves)) to from first ⌝ }
+    ensures { λ k. ⌜ CollectsAll (automatonOf z (now (inner .entry)) (now (entries .entry)) (now (moves .entry))) (to .room) n (now (out .entry))
         (sourceGives to from) k (now (out .exit)) (now (memo .exit)) ⌝ }
 {
     let count = z.moves;
@@ -151,7 +145,6 @@ fn by_newer(
             states,
             words,
             to,
-            t,
             from,
             i,
             memo,
@@ -201,6 +194,24 @@ fn settled(z: tables::Table, moves: &[u64], t: Before, reads: bool, a: u64) -> u
     round_news::settled_states(moves, t.moves, z.moves, a)
 }
 
+// The same goal, where the states of s have no newer move on its symbol.
+fn settled_goal(to: Goal, s: u64) -> Goal
+    ensures { λ x. ⌜ x ≡ settledOn to s ⌝ }
+{
+    let t = to.before;
+    Goal {
+        control: to.control,
+        symbol: to.symbol,
+        room: to.room,
+        before: Before {
+            new: t.new,
+            moves: t.moves,
+            entries: t.entries,
+            settled: s,
+        },
+    }
+}
+
 // Collects what the moves from this source give: all are looked at where an old premise can give something new, otherwise the newer ones. The
 // symbols of the newer moves are given.
 pub fn by_moves(
@@ -211,24 +222,23 @@ pub fn by_moves(
     states: &[u16],
     words: &[u16],
     to: Goal,
-    t: Before,
     symbols: u64,
     from: Source,
     memo: &mut [u64],
     out: &mut [u64],
-    n: Pending,
-) -> Pending
+    n: usize,
+) -> usize
     requires { ⌜ Indexed z (now inner) (now entries) (now moves) (now states) (now words)
-        × CanCollect (automatonOf z (now inner) (now entries) (now moves)) n (now out) (now memo)
-        × SettledBy (automatonOf z (now inner) (now entries) (now moves)) t (sourceGives to from (tableBefore t (automatonOf z (now inner) (now entries) (now moves))))
-        × HasSymbols (now moves) (t .moves) (z .moves) symbols ⌝ }
-    ensures { λ k. ⌜ CollectsAll (automatonOf z (now (inner .entry)) (now (entries .entry)) (now (moves .entry))) n (now (out .entry))
+        × CanCollect (automatonOf z (now inner) (now entries) (now moves)) (to .room) n (now out) (now memo)
+        × SettledBy (automatonOf z (now inner) (now entries) (now moves)) (to .before) (sourceGives to from (tableBefore (to .before) (automatonOf z (now inner) (now entries) (now moves))))
+        × HasSymbols (now moves) (to .before .moves) (z .moves) symbols ⌝ }
+    ensures { λ k. ⌜ CollectsAll (automatonOf z (now (inner .entry)) (now (entries .entry)) (now (moves .entry))) (to .room) n (now (out .entry))
         (sourceGives to from) k (now (out .exit)) (now (memo .exit)) ⌝ }
 {
     let kind = from.kind;
+    let t = to.before;
     let reads = reads_new(kind, z, t, symbols, to.symbol);
-    let s = settled(z, moves, t, reads, to.symbol);
-    let by = readings::settled_before(t, s);
+    let by = settled_goal(to, settled(z, moves, t, reads, to.symbol));
     if reads {
         return by_control(
             z,
@@ -237,7 +247,6 @@ pub fn by_moves(
             moves,
             states,
             words,
-            to,
             by,
             from,
             memo,
@@ -253,7 +262,6 @@ pub fn by_moves(
         moves,
         states,
         words,
-        to,
         by,
         from,
         first,

@@ -7,25 +7,12 @@ ghost use Rattle.words.specs.Sets.{members};
 ghost use Rattle.tables.specs.Held.{automatonOf};
 ghost use Rattle.joins.specs.Joining.{theJoins};
 ghost use Rattle.readings.specs.Indexed.{Indexed};
-ghost use Rattle.readings.specs.Readings.{slotJoined, edgesTo};
+ghost use Rattle.readings.specs.Readings.{edgesTo};
 ghost use Rattle.readings.specs.Before.{HeldBefore};
 ghost use Rattle.readings.specs.Gathering.{CanCollect, CollectsAll};
 ghost use Rattle.edge_readings.specs.Naming.{namedWith};
 use joins::Joins;
-use offers::Pending;
-use readings::Before;
-use readings::Slot;
-
-// The same symbol of the entry whose set is joined with s.
-fn slot_joined(to: Slot, s: u64) -> Slot
-    ensures { λ x. ⌜ x ≡ slotJoined to s ⌝ }
-{
-    Slot {
-        control: to.control,
-        s: sets::join(to.s, s),
-        symbol: to.symbol,
-    }
-}
+use readings::Goal;
 
 // The order-1 states named with one more, unless its choices all leave the joins as they are, which c tells (see `choices::unchanged`): its
 // reading would add nothing.
@@ -39,9 +26,9 @@ fn name(named: u64, first: u64, c: usize) -> u64
     sets::join(named, sets::one_bit(first))
 }
 
-// Collects the results of the readings of the slot's symbol from the order-2 states left, joined to (order, b, r): one choice of an edge for
-// each state, then the readings from the order-1 states that these edges and `named` name, for the join of the edges' sets and the slot's.
-// States in `memo` are passed over.
+// Collects the results of the readings of the goal's symbol from the order-2 states left, joined to (order, b, r): one choice of an edge for
+// each state, then the readings from the order-1 states that these edges and `named` name, for the join of the edges' sets and s. States in
+// `memo` are passed over.
 pub fn read_edges(
     z: tables::Table,
     inner: &[u64],
@@ -49,8 +36,9 @@ pub fn read_edges(
     moves: &[u64],
     states: &[u16],
     words: &[u16],
-    to: Slot,
-    t: Before,
+    to: Goal,
+    s: u64,
+    new: bool,
     order: u64,
     b: u64,
     r: u64,
@@ -58,15 +46,15 @@ pub fn read_edges(
     named: u64,
     memo: &mut [u64],
     out: &mut [u64],
-    n: Pending,
-) -> Pending
+    n: usize,
+) -> usize
     requires { ⌜ Indexed z (now inner) (now entries) (now moves) (now states) (now words)
-        × CanCollect (automatonOf z (now inner) (now entries) (now moves)) n (now out) (now memo)
-        × HeldBefore (automatonOf z (now inner) (now entries) (now moves)) t (to .symbol) (edgesTo to (theJoins order b r) (members left) named) ⌝ }
-    ensures { λ k. ⌜ CollectsAll (automatonOf z (now (inner .entry)) (now (entries .entry)) (now (moves .entry))) n (now (out .entry))
-        (edgesTo to (theJoins order b r) (members left) named) k (now (out .exit)) (now (memo .exit)) ⌝ }
+        × CanCollect (automatonOf z (now inner) (now entries) (now moves)) (to .room) n (now out) (now memo)
+        × HeldBefore (automatonOf z (now inner) (now entries) (now moves)) to new (edgesTo to s (theJoins order b r) (members left) named) ⌝ }
+    ensures { λ k. ⌜ CollectsAll (automatonOf z (now (inner .entry)) (now (entries .entry)) (now (moves .entry))) (to .room) n (now (out .entry))
+        (edgesTo to s (theJoins order b r) (members left) named) k (now (out .exit)) (now (memo .exit)) ⌝ }
 {
-    if n.room < n.count {
+    if to.room < n {
         return n;
     }
     if left == 0 {
@@ -77,7 +65,8 @@ pub fn read_edges(
             states,
             words,
             to,
-            t,
+            s,
+            new,
             named,
             order,
             b,
@@ -95,7 +84,8 @@ pub fn read_edges(
         states,
         words,
         to,
-        t,
+        s,
+        new,
         order,
         b,
         r,
@@ -115,8 +105,9 @@ fn choose_left(
     moves: &[u64],
     states: &[u16],
     words: &[u16],
-    to: Slot,
-    t: Before,
+    to: Goal,
+    s: u64,
+    new: bool,
     order: u64,
     b: u64,
     r: u64,
@@ -124,16 +115,16 @@ fn choose_left(
     named: u64,
     memo: &mut [u64],
     out: &mut [u64],
-    n: Pending,
-) -> Pending
+    n: usize,
+) -> usize
     requires { ⌜ Indexed z (now inner) (now entries) (now moves) (now states) (now words)
-        × CanCollect (automatonOf z (now inner) (now entries) (now moves)) n (now out) (now memo) × (0 < left)
-        × HeldBefore (automatonOf z (now inner) (now entries) (now moves)) t (to .symbol) (edgesTo to (theJoins order b r) (members left) named) ⌝ }
-    ensures { λ k. ⌜ CollectsAll (automatonOf z (now (inner .entry)) (now (entries .entry)) (now (moves .entry))) n (now (out .entry))
-        (edgesTo to (theJoins order b r) (members left) named) k (now (out .exit)) (now (memo .exit)) ⌝ }
+        × CanCollect (automatonOf z (now inner) (now entries) (now moves)) (to .room) n (now out) (now memo) × (0 < left)
+        × HeldBefore (automatonOf z (now inner) (now entries) (now moves)) to new (edgesTo to s (theJoins order b r) (members left) named) ⌝ }
+    ensures { λ k. ⌜ CollectsAll (automatonOf z (now (inner .entry)) (now (entries .entry)) (now (moves .entry))) (to .room) n (now (out .entry))
+        (edgesTo to s (theJoins order b r) (members left) named) k (now (out .exit)) (now (memo .exit)) ⌝ }
 {
     let count = z.moves as u64;
-    let x = memo_table::edges_state(count, to.control, to.symbol, to.s, left, named, order, b, r);
+    let x = memo_table::edges_state(count, to.control, to.symbol, s, left, named, order, b, r);
     let row = memo_table::place(memo, x);
     if memo_table::holds(memo, row, x) {
         return n;
@@ -147,7 +138,8 @@ fn choose_left(
         states,
         words,
         to,
-        t,
+        s,
+        new,
         order,
         b,
         r,
@@ -161,7 +153,7 @@ fn choose_left(
     k
 }
 
-// Collects the results of the readings of the slot's symbol from an order-2 state and the others, joined to (order, b, r): by each edge of
+// Collects the results of the readings of the goal's symbol from an order-2 state and the others, joined to (order, b, r): by each edge of
 // the state the readings from the others.
 fn read_choices(
     z: tables::Table,
@@ -170,8 +162,9 @@ fn read_choices(
     moves: &[u64],
     states: &[u16],
     words: &[u16],
-    to: Slot,
-    t: Before,
+    to: Goal,
+    s: u64,
+    new: bool,
     order: u64,
     b: u64,
     r: u64,
@@ -179,13 +172,13 @@ fn read_choices(
     named: u64,
     memo: &mut [u64],
     out: &mut [u64],
-    n: Pending,
-) -> Pending
+    n: usize,
+) -> usize
     requires { ⌜ Indexed z (now inner) (now entries) (now moves) (now states) (now words)
-        × CanCollect (automatonOf z (now inner) (now entries) (now moves)) n (now out) (now memo)
-        × HeldBefore (automatonOf z (now inner) (now entries) (now moves)) t (to .symbol) (edgesTo to (theJoins order b r) (part .member ∷ members (part .others)) named) ⌝ }
-    ensures { λ k. ⌜ CollectsAll (automatonOf z (now (inner .entry)) (now (entries .entry)) (now (moves .entry))) n (now (out .entry))
-        (edgesTo to (theJoins order b r) (part .member ∷ members (part .others)) named) k (now (out .exit)) (now (memo .exit)) ⌝ }
+        × CanCollect (automatonOf z (now inner) (now entries) (now moves)) (to .room) n (now out) (now memo)
+        × HeldBefore (automatonOf z (now inner) (now entries) (now moves)) to new (edgesTo to s (theJoins order b r) (part .member ∷ members (part .others)) named) ⌝ }
+    ensures { λ k. ⌜ CollectsAll (automatonOf z (now (inner .entry)) (now (entries .entry)) (now (moves .entry))) (to .room) n (now (out .entry))
+        (edgesTo to s (theJoins order b r) (part .member ∷ members (part .others)) named) k (now (out .exit)) (now (memo .exit)) ⌝ }
 {
     let j = Joins { order, b, r };
     let count = z.edges + z.entries;
@@ -195,7 +188,8 @@ fn read_choices(
         let e = tables::edge_of(z, inner, entries, i);
         if e.state == part.member {
             let c = choices::unchanged(z, moves, states, e.first, to.symbol, j);
-            let by = readings::used(t, z.edges + t.entries, i);
+            let newer = readings::is_newer(new, z.edges + to.before.entries, i);
+            let newest = readings::is_newer(newer, to.before.moves + 1, c);
             k = read_edges(
                 z,
                 inner,
@@ -203,8 +197,9 @@ fn read_choices(
                 moves,
                 states,
                 words,
-                slot_joined(to, e.s),
-                readings::used(by, t.moves + 1, c),
+                to,
+                sets::join(s, e.s),
+                newest,
                 order,
                 b,
                 r,

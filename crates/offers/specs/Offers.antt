@@ -17,7 +17,6 @@ use Rattle.tables.specs.declared.Table.{Table}
 use Rattle.tables.specs.Held.{EntriesStand, MovesStand}
 use Rattle.tables.specs.Pending.{insertWithin, pendingIn}
 use Rattle.move_index.specs.Keys.{ByWords}
-use Rattle.offers.specs.declared.Pending.{Pending}
 
 -- the results kept, with x unless it is to be left out
 unfoldable pub offer : (Result → Bool) → ℕ → Option (List Result) → Result → Option (List Result)
@@ -33,23 +32,16 @@ pub record Collects (A : Automaton) (room n : ℕ) (t : List ℕ) (xs : List Res
   pub collected : pendingIn room r t′ ≡ offerAll (held A) room (pendingIn room n t) xs
   pub number : r ≤ room + 1
 
--- ---- in the code
-
 -- The entries and moves stand in their slices, and the chains are those of all moves, by all their words: whether a result is held can be told.
 pub record WordsIndexed (z : Table) (entries moves words : List ℕ) : Type 0 where
   pub entries-stand : EntriesStand z entries
   pub moves-stand : MovesStand z moves
   pub by-words : ByWords (z .moves) moves words
 
--- Table t has the rows that there is room for, and at most one result more than these is pending.
-pub record Room (n : Pending) (t : List ℕ) : Type 0 where
-  pub room-lent : n .room * 6 ≤ length t
-  pub number : n .count ≤ n .room + 1
-
--- From those pending in table t to those in table t′, with the same room, the results xs of automaton A were offered.
-pub record Collected (A : Automaton) (n : Pending) (t : List ℕ) (xs : List Result) (r : Pending) (t′ : List ℕ) : Type 0 where
-  pub collects : Collects A (n .room) (n .count) t xs (r .count) t′
-  pub same-room : r .room ≡ n .room
+-- There is room for so many rows in table t, and it has at most one row more than that.
+pub record Room (room n : ℕ) (t : List ℕ) : Type 0 where
+  pub room-lent : room * 6 ≤ length t
+  pub number : n ≤ room + 1
 
 -- ---- results that need not be offered
 

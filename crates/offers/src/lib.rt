@@ -6,14 +6,8 @@ ghost use Prim.Native.Nat.{_<_};
 ghost use Rattle.automata.specs.Saturation.{held};
 ghost use Rattle.tables.specs.Records.{asResult};
 ghost use Rattle.tables.specs.Held.{tableOf};
-ghost use Rattle.offers.specs.Offers.{WordsIndexed, Room, Collected};
+ghost use Rattle.offers.specs.Offers.{WordsIndexed, Collects, Room};
 ghost use Rattle.offers.specs.Holding.{heldBy};
-
-// The results that are pending: how many, and for how many there is room. Where there are more than that, they are lost.
-pub struct Pending {
-    pub count: usize,
-    pub room: usize,
-}
 
 // Whether a move of entry number k is this result.
 fn held_by(
@@ -66,8 +60,8 @@ fn is_held(
     false
 }
 
-// Collects a result: unless it is held, it is inserted among the first rows of `out`, those that are pending. Answers those that are pending
-// then, as `tables::insert_result` counts them.
+// Collects a result: unless it is held, it is inserted among the first n rows of `out`. Answers the number of rows then, as
+// `tables::insert_result` does.
 pub fn offer(
     z: tables::Table,
     entries: &[u64],
@@ -75,19 +69,17 @@ pub fn offer(
     words: &[u16],
     x: tables::Result,
     out: &mut [u64],
-    n: Pending,
-) -> Pending
-    requires { ⌜ WordsIndexed z (now entries) (now moves) (now words) × Room n (now out) ⌝ }
-    ensures { λ r. ⌜ Collected (tableOf z (now (entries .entry)) (now (moves .entry))) n (now (out .entry)) (asResult x ∷ []) r (now (out .exit)) ⌝ }
+    n: usize,
+    room: usize,
+) -> usize
+    requires { ⌜ WordsIndexed z (now entries) (now moves) (now words) × Room room n (now out) ⌝ }
+    ensures { λ r. ⌜ Collects (tableOf z (now (entries .entry)) (now (moves .entry))) room n (now (out .entry)) (asResult x ∷ []) r (now (out .exit)) ⌝ }
 {
-    if n.room < n.count {
+    if room < n {
         return n;
     }
     if is_held(z, entries, moves, words, x) {
         return n;
     }
-    Pending {
-        count: tables::insert_result(out, n.count, n.room, x),
-        room: n.room,
-    }
+    tables::insert_result(out, n, room, x)
 }

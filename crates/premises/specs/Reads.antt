@@ -9,7 +9,7 @@ use Rattle.automata.specs.Automaton.{Automaton, Move}
 use Rattle.automata.specs.Derivation.{Result, joinsOf}
 use Rattle.joins.specs.Joining.{theJoins}
 use Rattle.readings.specs.declared.Goal.{Goal}
-use Rattle.readings.specs.Readings.{slotOf, readsTo, edgesTo}
+use Rattle.readings.specs.Readings.{readsTo, edgesTo}
 use Rattle.premises.specs.declared.MoveUse.{MoveUse}
 use Rattle.premises.specs.declared.MoveUse.the-variants.{Rewritten, Pushed1, Pushed2, Copied}
 use Rattle.premises.specs.declared.Push.{Push}
@@ -26,8 +26,8 @@ readsOf Copied S m = Edges
 
 -- what a push gives by move m
 unfoldable pub pushGives : Goal → Push → Move → Automaton → List Result
-pushGives to push m A = when (orderFits (push .order) m) (readsTo (slotOf to (push .s)) (members (m .R)) (theJoins 0 0 (push .rest)) A)
+pushGives to push m A = when (orderFits (push .order) m) (readsTo to (push .s) (members (m .R)) (theJoins 0 0 (push .rest)) A)
 
 -- what a copy gives by move m of an entry with the set S
 unfoldable pub copyGives : Goal → ℕ → Move → Automaton → List Result
-copyGives to S m A = edgesTo (slotOf to 0) (joinsOf m) (members S) 0 A
+copyGives to S m A = edgesTo to 0 (joinsOf m) (members S) 0 A

@@ -25,7 +25,7 @@ pub record SettledBy (A : Automaton) (t : Before) (xs : List Result) : Type 0 wh
   pub none-before : t .new ≡ true → (t .moves ≡ 0) × (t .entries ≡ 0)
   pub held-before : t .new ≡ false → AllHeld A xs
 
--- What the premises from this source gave in the round before is held, and no move on the goal's symbol of a settled state is newer.
-pub record SourceHeld (A : Automaton) (t : Before) (to : Goal) (from : Source) : Type 0 where
-  pub settled-by : SettledBy A t (sourceGives to from (tableBefore t A))
-  pub settles : Settles A t (to .symbol)
+-- What the premises from this source gave in the round before is held, and no newer move on the goal's symbol is one of a settled state.
+pub record SourceHeld (A : Automaton) (to : Goal) (from : Source) : Type 0 where
+  pub settled-by : SettledBy A (to .before) (sourceGives to from (tableBefore (to .before) A))
+  pub settles : Settles A (to .before) (to .symbol)

@@ -14,8 +14,6 @@ ghost use Rattle.premises.specs.Premises.{premiseGives};
 ghost use Rattle.premises.specs.Reads.{readsOf, pushGives, copyGives};
 ghost use Rattle.premises.specs.Steps.{moveGives};
 ghost use Rattle.premises.specs.Settled.{SourceHeld};
-use offers::Pending;
-use readings::Before;
 use readings::Goal;
 
 // How an operation uses a move of an entry.
@@ -77,8 +75,8 @@ fn reads_of(kind: MoveUse, s: u64, m: tables::Move) -> Reads
     }
 }
 
-// Collects what a push gives by move m: the readings from the move's rest set. The index of the moves, in `states` and `words`, the table of
-// the round before, t, and `memo` are those of `readings::read_from`, here and in the functions that follow.
+// Collects what a push gives by move m: the readings from the move's rest set. The index of the moves, in `states` and `words`, `new` and
+// `memo` are those of `readings::read_from`, here and in the functions that follow.
 fn by_push(
     z: tables::Table,
     entries: &[u64],
@@ -86,30 +84,31 @@ fn by_push(
     states: &[u16],
     words: &[u16],
     to: Goal,
-    t: Before,
+    new: bool,
     push: Push,
     m: tables::Move,
     memo: &mut [u64],
     out: &mut [u64],
-    n: Pending,
-) -> Pending
-    requires { ⌜ MovesIndexed z (now entries) (now moves) (now states) (now words) × CanRead z (now entries) (now moves) n (now out) (now memo)
-        × HeldBefore (tableOf z (now entries) (now moves)) t (to .symbol) (pushGives to push (asMove m)) ⌝ }
-    ensures { λ k. ⌜ ReadsAll z (now (entries .entry)) (now (moves .entry)) n (now (out .entry)) (now (memo .entry))
+    n: usize,
+) -> usize
+    requires { ⌜ MovesIndexed z (now entries) (now moves) (now states) (now words) × CanRead z (now entries) (now moves) (to .room) n (now out) (now memo)
+        × HeldBefore (tableOf z (now entries) (now moves)) to new (pushGives to push (asMove m)) ⌝ }
+    ensures { λ k. ⌜ ReadsAll z (now (entries .entry)) (now (moves .entry)) (to .room) n (now (out .entry)) (now (memo .entry))
         (pushGives to push (asMove m)) k (now (out .exit)) (now (memo .exit)) ⌝ }
 {
     if !order_fits(push.order, m.order) {
         return n;
     }
-    let at = readings::slot_of(to, push.s);
+    let s = push.s;
     readings::read_from(
         z,
         entries,
         moves,
         states,
         words,
-        at,
-        t,
+        to,
+        s,
+        new,
         m.r,
         0,
         0,
@@ -129,20 +128,19 @@ fn by_copy(
     states: &[u16],
     words: &[u16],
     to: Goal,
-    t: Before,
+    new: bool,
     s: u64,
     m: tables::Move,
     memo: &mut [u64],
     out: &mut [u64],
-    n: Pending,
-) -> Pending
+    n: usize,
+) -> usize
     requires { ⌜ Indexed z (now inner) (now entries) (now moves) (now states) (now words)
-        × CanCollect (automatonOf z (now inner) (now entries) (now moves)) n (now out) (now memo)
-        × HeldBefore (automatonOf z (now inner) (now entries) (now moves)) t (to .symbol) (copyGives to s (asMove m)) ⌝ }
-    ensures { λ k. ⌜ CollectsAll (automatonOf z (now (inner .entry)) (now (entries .entry)) (now (moves .entry))) n (now (out .entry))
+        × CanCollect (automatonOf z (now inner) (now entries) (now moves)) (to .room) n (now out) (now memo)
+        × HeldBefore (automatonOf z (now inner) (now entries) (now moves)) to new (copyGives to s (asMove m)) ⌝ }
+    ensures { λ k. ⌜ CollectsAll (automatonOf z (now (inner .entry)) (now (entries .entry)) (now (moves .entry))) (to .room) n (now (out .entry))
         (copyGives to s (asMove m)) k (now (out .exit)) (now (memo .exit)) ⌝ }
 {
-    let at = readings::slot_of(to, 0);
     edge_readings::read_edges(
         z,
         inner,
@@ -150,8 +148,9 @@ fn by_copy(
         moves,
         states,
         words,
-        at,
-        t,
+        to,
+        0,
+        new,
         m.order,
         m.b,
         m.r,
@@ -172,25 +171,25 @@ fn by_premise(
     states: &[u16],
     words: &[u16],
     to: Goal,
-    t: Before,
+    new: bool,
     kind: MoveUse,
     s: u64,
     m: tables::Move,
     memo: &mut [u64],
     out: &mut [u64],
-    n: Pending,
-) -> Pending
+    n: usize,
+) -> usize
     requires { ⌜ Indexed z (now inner) (now entries) (now moves) (now states) (now words)
-        × CanCollect (automatonOf z (now inner) (now entries) (now moves)) n (now out) (now memo)
-        × HeldBefore (automatonOf z (now inner) (now entries) (now moves)) t (to .symbol) (premiseGives to kind s (asMove m)) ⌝ }
-    ensures { λ k. ⌜ CollectsAll (automatonOf z (now (inner .entry)) (now (entries .entry)) (now (moves .entry))) n (now (out .entry))
+        × CanCollect (automatonOf z (now inner) (now entries) (now moves)) (to .room) n (now out) (now memo)
+        × HeldBefore (automatonOf z (now inner) (now entries) (now moves)) to new (premiseGives to kind s (asMove m)) ⌝ }
+    ensures { λ k. ⌜ CollectsAll (automatonOf z (now (inner .entry)) (now (entries .entry)) (now (moves .entry))) (to .room) n (now (out .entry))
         (premiseGives to kind s (asMove m)) k (now (out .exit)) (now (memo .exit)) ⌝ }
 {
     let read = reads_of(kind, s, m);
     match read {
         Reads::Nothing => {
-            let x = readings::result(readings::slot_of(to, s), m.order, m.b, m.r);
-            offers::offer(z, entries, moves, words, x, out, n)
+            let x = readings::result(to, s, m.order, m.b, m.r);
+            offers::offer(z, entries, moves, words, x, out, n, to.room)
         }
         Reads::Rest(push) => by_push(
             z,
@@ -199,7 +198,7 @@ fn by_premise(
             states,
             words,
             to,
-            t,
+            new,
             push,
             m,
             memo,
@@ -214,7 +213,7 @@ fn by_premise(
             states,
             words,
             to,
-            t,
+            new,
             s,
             m,
             memo,
@@ -233,17 +232,16 @@ pub fn by_move(
     states: &[u16],
     words: &[u16],
     to: Goal,
-    t: Before,
     from: Source,
     i: usize,
     memo: &mut [u64],
     out: &mut [u64],
-    n: Pending,
-) -> Pending
+    n: usize,
+) -> usize
     requires { ⌜ Indexed z (now inner) (now entries) (now moves) (now states) (now words)
-        × CanCollect (automatonOf z (now inner) (now entries) (now moves)) n (now out) (now memo)
-        × SourceHeld (automatonOf z (now inner) (now entries) (now moves)) t to from × (i < z .moves) ⌝ }
-    ensures { λ k. ⌜ CollectsAll (automatonOf z (now (inner .entry)) (now (entries .entry)) (now (moves .entry))) n (now (out .entry))
+        × CanCollect (automatonOf z (now inner) (now entries) (now moves)) (to .room) n (now out) (now memo)
+        × SourceHeld (automatonOf z (now inner) (now entries) (now moves)) to from × (i < z .moves) ⌝ }
+    ensures { λ k. ⌜ CollectsAll (automatonOf z (now (inner .entry)) (now (entries .entry)) (now (moves .entry))) (to .room) n (now (out .entry))
         (moveGives to from (rowAt moveRow (now (moves .entry)) i)) k (now (out .exit)) (now (memo .exit)) ⌝ }
 {
     let m = tables::move_at(moves, i);
@@ -255,7 +253,7 @@ pub fn by_move(
     }
     let s = tables::entry_set(z, entries, m.state);
     let kind = from.kind;
-    let by = readings::used(t, t.moves, i);
+    let new = to.before.moves <= i;
     by_premise(
         z,
         inner,
@@ -264,7 +262,7 @@ pub fn by_move(
         states,
         words,
         to,
-        by,
+        new,
         kind,
         s,
         m,

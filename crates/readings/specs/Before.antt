@@ -2,29 +2,21 @@
 -- Assumes nothing.
 pub mod Laws
 use Prim.Native.Nat.{ℕ, _≤_, _<_}
-use mathlib.Core.Bool.{Bool, false, _||_}
+use mathlib.Core.Bool.{Bool, false}
 use mathlib.Core.Path.{_≡_}
 use mathlib.Core.List.{List}
 use lib.ListN.{length}
-use lib.Dec.{leb}
 use Rattle.words.specs.Sets.Laws.{Has}
 use Rattle.automata.specs.Automaton.{Automaton, moveAt}
 use Rattle.automata.specs.Derivation.{Result}
 use Rattle.automata.specs.Saturation.{upTo}
 use Rattle.offers.specs.Offers.{AllHeld}
 use Rattle.readings.specs.declared.Before.{Before}
+use Rattle.readings.specs.declared.Goal.{Goal}
 
 -- the table of the round before
 abbrev pub tableBefore : Before → Automaton → Automaton
 tableBefore t A = upTo (record { moves = t .moves; entries = t .entries }) A
-
--- the same, where number i is used, of numbers whose newer ones begin with `first`
-abbrev pub usedBy : Before → ℕ → ℕ → Before
-usedBy t first i = record { new = t .new || leb first i; moves = t .moves; entries = t .entries; settled = t .settled }
-
--- the same, with these settled states
-abbrev pub settledOn : Before → ℕ → Before
-settledOn t s = record { new = t .new; moves = t .moves; entries = t .entries; settled = s }
 
 -- The table of the round before is no larger, and no move on symbol a of a state of `settled` is newer.
 pub record Settles (A : Automaton) (t : Before) (a : ℕ) : Type 0 where
@@ -36,7 +28,8 @@ pub record Settles (A : Automaton) (t : Before) (a : ℕ) : Type 0 where
 pub record Known (A : Automaton) (new : Bool) (xs : List Result) : Type 0 where
   pub known : new ≡ false → AllHeld A xs
 
--- What the table of the round before gives on symbol a is held in A, where nothing new was used so far.
-pub record HeldBefore (A : Automaton) (t : Before) (a : ℕ) (gives : Automaton → List Result) : Type 0 where
-  pub settles : Settles A t a
-  pub known : Known A (t .new) (gives (tableBefore t A))
+-- What the table of the round before gives is held in A, where nothing new was used so far, and no newer move on the goal's symbol is one of a
+-- settled state.
+pub record HeldBefore (A : Automaton) (to : Goal) (new : Bool) (gives : Automaton → List Result) : Type 0 where
+  pub settles : Settles A (to .before) (to .symbol)
+  pub known : Known A new (gives (tableBefore (to .before) A))

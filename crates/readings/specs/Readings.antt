@@ -15,7 +15,6 @@ use Rattle.automata.specs.Automaton.{Automaton, moveAt, edgeAt, movesOf, edgesO
 use Rattle.automata.specs.Derivation.{Result, Joins, joinMove}
 use Rattle.tables.specs.declared.Result.{Result as ResultWords}
 use Rattle.readings.specs.declared.Goal.{Goal}
-use Rattle.readings.specs.declared.Slot.{Slot}
 
 -- the result (joins) to symbol a of entry [p,S]
 abbrev pub resultTo : ℕ → ℕ → ℕ → Joins → Result
@@ -45,20 +44,12 @@ module _ (A : Automaton) (p a : ℕ) where
 
 -- ---- in the code
 
--- the symbol that is meant, of the entry with set S
-abbrev pub slotOf : Goal → ℕ → Slot
-slotOf to S = record { control = to .control; s = S; symbol = to .symbol }
+-- the results of readings, to the goal's symbol of its entry with the set S
+abbrev pub readsTo : Goal → ℕ → List ℕ → Joins → Automaton → List Result
+readsTo to S rs j A = readResults A (to .control) (to .symbol) S rs j
 
--- the same symbol of the entry whose set is joined with S
-abbrev pub slotJoined : Slot → ℕ → Slot
-slotJoined to S = record { control = to .control; s = join (to .s) S; symbol = to .symbol }
-
--- the results of readings, to this symbol of this entry
-abbrev pub readsTo : Slot → List ℕ → Joins → Automaton → List Result
-readsTo to rs j A = readResults A (to .control) (to .symbol) (to .s) rs j
-
-abbrev pub edgesTo : Slot → Joins → List ℕ → ℕ → Automaton → List Result
-edgesTo to j qs N A = edgeResults A (to .control) (to .symbol) j qs N (to .s)
+abbrev pub edgesTo : Goal → ℕ → Joins → List ℕ → ℕ → Automaton → List Result
+edgesTo to S j qs N A = edgeResults A (to .control) (to .symbol) j qs N S
 
 -- What is given depends on the moves alone.
 abbrev pub ByMoves : (Automaton → List Result) → Type 0

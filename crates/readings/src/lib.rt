@@ -9,29 +9,14 @@ ghost use Rattle.words.specs.Sets.{partOf, members};
 ghost use Rattle.tables.specs.Held.{tableOf};
 ghost use Rattle.joins.specs.Joining.{theJoins};
 ghost use Rattle.readings.specs.Indexed.{MovesIndexed};
-ghost use Rattle.readings.specs.Readings.{theResult, slotOf, readsTo};
-ghost use Rattle.readings.specs.Before.{usedBy, settledOn, HeldBefore};
+ghost use Rattle.readings.specs.Readings.{theResult, readsTo};
+ghost use Rattle.readings.specs.Before.{HeldBefore};
 ghost use Rattle.readings.specs.Gathering.{CanRead, ReadsAll};
 use joins::Joined;
 use joins::Joins;
-use offers::Pending;
-
-// Where results go: to this symbol of entries of this control.
-pub struct Goal {
-    pub control: u64,
-    pub symbol: u64,
-}
-
-// Where the results of a reading go: to this symbol of the entry of this control and set.
-pub struct Slot {
-    pub control: u64,
-    pub s: u64,
-    pub symbol: u64,
-}
 
 // The table of the round before: so many moves and entries. What it gives is held, so only what the last round added is looked at, as in
-// semi-naive evaluation. Of what is `new` nothing is known: of everything in round 1, and of what uses a newer move or entry. No move on the
-// goal's symbol of a state of `settled` is newer.
+// semi-naive evaluation; in round 1, where there is none, all is `new`. No move on a goal's symbol of a state of `settled` is newer.
 pub struct Before {
     pub new: bool,
     pub moves: usize,
@@ -39,24 +24,21 @@ pub struct Before {
     pub settled: u64,
 }
 
-// The goal's symbol of its entry with the set s.
-pub fn slot_of(to: Goal, s: u64) -> Slot
-    ensures { λ x. ⌜ x ≡ slotOf to s ⌝ }
-{
-    Slot {
-        control: to.control,
-        s: s,
-        symbol: to.symbol,
-    }
+// Where results go: to this symbol of entries of this control, as far as there is room for them; and the table of the round before.
+pub struct Goal {
+    pub control: u64,
+    pub symbol: u64,
+    pub room: usize,
+    pub before: Before,
 }
 
-// The result (order, b, r) to this symbol of this entry.
-pub fn result(to: Slot, order: u64, b: u64, r: u64) -> tables::Result
-    ensures { λ x. ⌜ x ≡ theResult (to .control) (to .s) (to .symbol) order b r ⌝ }
+// The result (order, b, r) to the goal's symbol of its entry with the set s.
+pub fn result(to: Goal, s: u64, order: u64, b: u64, r: u64) -> tables::Result
+    ensures { λ x. ⌜ x ≡ theResult (to .control) s (to .symbol) order b r ⌝ }
 {
     tables::Result {
         control: to.control,
-        s: to.s,
+        s: s,
         symbol: to.symbol,
         order: order,
         b: b,
@@ -67,17 +49,17 @@ pub fn result(to: Slot, order: u64, b: u64, r: u64) -> tables::Result
 // ---- what is new
 
 // Whether nothing is new: nothing was so far, and none of the order-1 states left has a newer move.
-fn is_settled(left: u64, t: Before) -> bool
-    ensures { λ r. ⌜ r ≡ not (t .new) && partOf left (t .settled) ⌝ }
+fn is_settled(new: bool, left: u64, t: Before) -> bool
+    ensures { λ r. ⌜ r ≡ not new && partOf left (t .settled) ⌝ }
 {
-    if t.new {
+    if new {
         return false;
     }
     sets::part_of(left, t.settled)
 }
 
 // Whether something is new: it was so far, or number i is one of the newer ones, which begin with number `first`.
-fn is_newer(new: bool, first: usize, i: usize) -> bool
+pub fn is_newer(new: bool, first: usize, i: usize) -> bool
     ensures { λ r. ⌜ r ≡ new || leb first i ⌝ }
 {
     if new {
@@ -86,67 +68,44 @@ fn is_newer(new: bool, first: usize, i: usize) -> bool
     first <= i
 }
 
-// What is known of the round before where number i is used, of numbers whose newer ones begin with `first`.
-pub fn used(t: Before, first: usize, i: usize) -> Before
-    ensures { λ x. ⌜ x ≡ usedBy t first i ⌝ }
-{
-    Before {
-        new: is_newer(t.new, first, i),
-        moves: t.moves,
-        entries: t.entries,
-        settled: t.settled,
-    }
-}
-
-// The same, where the states of s have no newer move on the symbol that is read.
-pub fn settled_before(t: Before, s: u64) -> Before
-    ensures { λ x. ⌜ x ≡ settledOn t s ⌝ }
-{
-    Before {
-        new: t.new,
-        moves: t.moves,
-        entries: t.entries,
-        settled: s,
-    }
-}
-
 // ---- readings
 
-// Collects the results of the readings of the slot's symbol from the order-1 states left, joined to (order, b, r): one choice of a move for
-// each state, beginning with a state that has few. Where nothing new was used so far, what the earlier table gives is held, and readings
-// without a newer move are passed over. The rows of `memo` hold states of this recursion that were worked through: all their results are
-// held or collected, so such a state is passed over too. Which states stand there at the end is left open.
+// Collects the results of the readings of the goal's symbol from the order-1 states left, joined to (order, b, r), for the set s: one choice
+// of a move for each state, beginning with a state that has few. Where nothing new was used so far, what the earlier table gives is held, and
+// readings without a newer move are passed over. The rows of `memo` hold states of this recursion that were worked through: all their results
+// are held or collected, so such a state is passed over too. Which states stand there at the end is left open.
 pub fn read_from(
     z: tables::Table,
     entries: &[u64],
     moves: &[u64],
     states: &[u16],
     words: &[u16],
-    to: Slot,
-    t: Before,
+    to: Goal,
+    s: u64,
+    new: bool,
     left: u64,
     order: u64,
     b: u64,
     r: u64,
     memo: &mut [u64],
     out: &mut [u64],
-    n: Pending,
-) -> Pending
+    n: usize,
+) -> usize
     requires { ⌜ MovesIndexed z (now entries) (now moves) (now states) (now words)
-        × CanRead z (now entries) (now moves) n (now out) (now memo)
-        × HeldBefore (tableOf z (now entries) (now moves)) t (to .symbol) (readsTo to (members left) (theJoins order b r)) ⌝ }
-    ensures { λ k. ⌜ ReadsAll z (now (entries .entry)) (now (moves .entry)) n (now (out .entry)) (now (memo .entry))
-        (readsTo to (members left) (theJoins order b r)) k (now (out .exit)) (now (memo .exit)) ⌝ }
+        × CanRead z (now entries) (now moves) (to .room) n (now out) (now memo)
+        × HeldBefore (tableOf z (now entries) (now moves)) to new (readsTo to s (members left) (theJoins order b r)) ⌝ }
+    ensures { λ k. ⌜ ReadsAll z (now (entries .entry)) (now (moves .entry)) (to .room) n (now (out .entry)) (now (memo .entry))
+        (readsTo to s (members left) (theJoins order b r)) k (now (out .exit)) (now (memo .exit)) ⌝ }
 {
-    if n.room < n.count {
+    if to.room < n {
         return n;
     }
-    if is_settled(left, t) {
+    if is_settled(new, left, to.before) {
         return n;
     }
     if left == 0 {
-        let x = result(to, order, b, r);
-        return offers::offer(z, entries, moves, words, x, out, n);
+        let x = result(to, s, order, b, r);
+        return offers::offer(z, entries, moves, words, x, out, n, to.room);
     }
     read_left(
         z,
@@ -155,7 +114,8 @@ pub fn read_from(
         states,
         words,
         to,
-        t,
+        s,
+        new,
         left,
         order,
         b,
@@ -173,24 +133,25 @@ fn read_left(
     moves: &[u64],
     states: &[u16],
     words: &[u16],
-    to: Slot,
-    t: Before,
+    to: Goal,
+    s: u64,
+    new: bool,
     left: u64,
     order: u64,
     b: u64,
     r: u64,
     memo: &mut [u64],
     out: &mut [u64],
-    n: Pending,
-) -> Pending
+    n: usize,
+) -> usize
     requires { ⌜ MovesIndexed z (now entries) (now moves) (now states) (now words)
-        × CanRead z (now entries) (now moves) n (now out) (now memo) × (0 < left)
-        × HeldBefore (tableOf z (now entries) (now moves)) t (to .symbol) (readsTo to (members left) (theJoins order b r)) ⌝ }
-    ensures { λ k. ⌜ ReadsAll z (now (entries .entry)) (now (moves .entry)) n (now (out .entry)) (now (memo .entry))
-        (readsTo to (members left) (theJoins order b r)) k (now (out .exit)) (now (memo .exit)) ⌝ }
+        × CanRead z (now entries) (now moves) (to .room) n (now out) (now memo) × (0 < left)
+        × HeldBefore (tableOf z (now entries) (now moves)) to new (readsTo to s (members left) (theJoins order b r)) ⌝ }
+    ensures { λ k. ⌜ ReadsAll z (now (entries .entry)) (now (moves .entry)) (to .room) n (now (out .entry)) (now (memo .entry))
+        (readsTo to s (members left) (theJoins order b r)) k (now (out .exit)) (now (memo .exit)) ⌝ }
 {
     let count = z.moves as u64;
-    let x = memo_table::read_state(count, to.control, to.symbol, to.s, left, order, b, r);
+    let x = memo_table::read_state(count, to.control, to.symbol, s, left, order, b, r);
     let row = memo_table::place(memo, x);
     if memo_table::holds(memo, row, x) {
         return n;
@@ -207,7 +168,8 @@ fn read_left(
         states,
         words,
         to,
-        t,
+        s,
+        new,
         part,
         order,
         b,
@@ -220,7 +182,7 @@ fn read_left(
     k
 }
 
-// Collects the results of the readings of the slot's symbol from a state and the others, joined to (order, b, r): by each move of the state
+// Collects the results of the readings of the goal's symbol from a state and the others, joined to (order, b, r): by each move of the state
 // the readings from the others.
 fn read_moves(
     z: tables::Table,
@@ -228,21 +190,22 @@ fn read_moves(
     moves: &[u64],
     states: &[u16],
     words: &[u16],
-    to: Slot,
-    t: Before,
+    to: Goal,
+    s: u64,
+    new: bool,
     part: sets::Split,
     order: u64,
     b: u64,
     r: u64,
     memo: &mut [u64],
     out: &mut [u64],
-    n: Pending,
-) -> Pending
+    n: usize,
+) -> usize
     requires { ⌜ MovesIndexed z (now entries) (now moves) (now states) (now words)
-        × CanRead z (now entries) (now moves) n (now out) (now memo)
-        × HeldBefore (tableOf z (now entries) (now moves)) t (to .symbol) (readsTo to (part .member ∷ members (part .others)) (theJoins order b r)) ⌝ }
-    ensures { λ k. ⌜ ReadsAll z (now (entries .entry)) (now (moves .entry)) n (now (out .entry)) (now (memo .entry))
-        (readsTo to (part .member ∷ members (part .others)) (theJoins order b r)) k (now (out .exit)) (now (memo .exit)) ⌝ }
+        × CanRead z (now entries) (now moves) (to .room) n (now out) (now memo)
+        × HeldBefore (tableOf z (now entries) (now moves)) to new (readsTo to s (part .member ∷ members (part .others)) (theJoins order b r)) ⌝ }
+    ensures { λ k. ⌜ ReadsAll z (now (entries .entry)) (now (moves .entry)) (to .room) n (now (out .entry)) (now (memo .entry))
+        (readsTo to s (part .member ∷ members (part .others)) (theJoins order b r)) k (now (out .exit)) (now (memo .exit)) ⌝ }
 {
     let j = Joins { order, b, r };
     let mut k = n;
@@ -251,6 +214,7 @@ fn read_moves(
         let i = c - 1;
         let m = tables::move_at(moves, i);
         if let Joined::To(more) = joins::candidate(m, part.member, to.symbol, j) {
+            let newer = is_newer(new, to.before.moves, i);
             k = read_from(
                 z,
                 entries,
@@ -258,7 +222,8 @@ fn read_moves(
                 states,
                 words,
                 to,
-                used(t, t.moves, i),
+                s,
+                newer,
                 part.others,
                 more.order,
                 more.b,

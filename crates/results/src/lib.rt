@@ -9,7 +9,7 @@ ghost use Rattle.tables.specs.Records.{asResult};
 ghost use Rattle.tables.specs.Layouts.{entryRow};
 ghost use Rattle.tables.specs.Held.{automatonOf, tableOf};
 ghost use Rattle.tables.specs.Pending.{pendingIn, limited};
-ghost use Rattle.offers.specs.Offers.{WordsIndexed, Room, Collected};
+ghost use Rattle.offers.specs.Offers.{WordsIndexed, Room, Collects};
 ghost use Rattle.readings.specs.Indexed.{Indexed};
 ghost use Rattle.readings.specs.Before.{tableBefore, Known};
 ghost use Rattle.readings.specs.Memo.{MemoUpTo};
@@ -22,7 +22,6 @@ ghost use Rattle.results.specs.Entries.{EntriesKnown};
 ghost use Rattle.results.specs.Collecting.{rulesIn, newResults, RoundReady};
 ghost use Rattle.results.specs.Steps.{entryStep};
 ghost use Rattle.results.specs.Uses.{movesFrom, useOf, useGives};
-use offers::Pending;
 use premises::MoveUse;
 use premises::Source;
 use readings::Before;
@@ -40,10 +39,9 @@ fn entry_result(to: Goal, kind: EntryUse, s: u64, r: u64) -> tables::Result
     ensures { λ x. ⌜ asResult x ≡ entryResult (to .control) (to .symbol) kind s r ⌝ }
 {
     let bit = sets::one_bit(r);
-    let at = readings::slot_of(to, s);
     match kind {
-        EntryUse::Popped => readings::result(at, 0, 0, bit),
-        EntryUse::Collapsed => readings::result(at, 1, bit, 0),
+        EntryUse::Popped => readings::result(to, s, 0, 0, bit),
+        EntryUse::Collapsed => readings::result(to, s, 1, bit, 0),
     }
 }
 
@@ -58,10 +56,10 @@ fn by_entry(
     q: u64,
     i: usize,
     out: &mut [u64],
-    n: Pending,
-) -> Pending
-    requires { ⌜ WordsIndexed z (now entries) (now moves) (now words) × Room n (now out) × (i < z .entries) ⌝ }
-    ensures { λ r. ⌜ Collected (tableOf z (now (entries .entry)) (now (moves .entry))) n (now (out .entry))
+    n: usize,
+) -> usize
+    requires { ⌜ WordsIndexed z (now entries) (now moves) (now words) × Room (to .room) n (now out) × (i < z .entries) ⌝ }
+    ensures { λ r. ⌜ Collects (tableOf z (now (entries .entry)) (now (moves .entry))) (to .room) n (now (out .entry))
         (entryStep (tableOf z (now (entries .entry)) (now (moves .entry))) (to .control) (to .symbol) kind q i (rowAt entryRow (now (entries .entry)) i)) r (now (out .exit)) ⌝ }
 {
     let e = tables::entry_at(entries, i);
@@ -69,7 +67,7 @@ fn by_entry(
         return n;
     }
     let x = entry_result(to, kind, e.s, z.inner1 + i as u64);
-    offers::offer(z, entries, moves, words, x, out, n)
+    offers::offer(z, entries, moves, words, x, out, n, to.room)
 }
 
 // Collects what the entries of control q give. What the entries below number `first` give is held.
@@ -83,11 +81,11 @@ fn by_entries(
     q: u64,
     first: usize,
     out: &mut [u64],
-    n: Pending,
-) -> Pending
-    requires { ⌜ WordsIndexed z (now entries) (now moves) (now words) × Room n (now out)
+    n: usize,
+) -> usize
+    requires { ⌜ WordsIndexed z (now entries) (now moves) (now words) × Room (to .room) n (now out)
         × EntriesKnown (tableOf z (now entries) (now moves)) (to .control) (to .symbol) kind q first ⌝ }
-    ensures { λ r. ⌜ Collected (tableOf z (now (entries .entry)) (now (moves .entry))) n (now (out .entry))
+    ensures { λ r. ⌜ Collects (tableOf z (now (entries .entry)) (now (moves .entry))) (to .room) n (now (out .entry))
         (entriesResults (tableOf z (now (entries .entry)) (now (moves .entry))) (to .control) (to .symbol) kind q) r (now (out .exit)) ⌝ }
 {
     let count = z.entries;
@@ -106,19 +104,19 @@ fn by_nothing(
     entries: &[u64],
     moves: &[u64],
     words: &[u16],
-    t: Before,
+    to: Goal,
     x: tables::Result,
     out: &mut [u64],
-    n: Pending,
-) -> Pending
-    requires { ⌜ WordsIndexed z (now entries) (now moves) (now words) × Room n (now out)
-        × Known (tableOf z (now entries) (now moves)) (t .new) (asResult x ∷ []) ⌝ }
-    ensures { λ r. ⌜ Collected (tableOf z (now (entries .entry)) (now (moves .entry))) n (now (out .entry)) (asResult x ∷ []) r (now (out .exit)) ⌝ }
+    n: usize,
+) -> usize
+    requires { ⌜ WordsIndexed z (now entries) (now moves) (now words) × Room (to .room) n (now out)
+        × Known (tableOf z (now entries) (now moves)) (to .before .new) (asResult x ∷ []) ⌝ }
+    ensures { λ r. ⌜ Collects (tableOf z (now (entries .entry)) (now (moves .entry))) (to .room) n (now (out .entry)) (asResult x ∷ []) r (now (out .exit)) ⌝ }
 {
-    if !t.new {
+    if !to.before.new {
         return n;
     }
-    offers::offer(z, entries, moves, words, x, out, n)
+    offers::offer(z, entries, moves, words, x, out, n, to.room)
 }
 
 // What a rule's operation uses: the moves from a source, the entries of the control that it goes to, or nothing, for one result.
@@ -140,30 +138,22 @@ fn moves_from(kind: MoveUse, symbol: u64, control: u64) -> Use
 }
 
 // What a rule's operation uses.
-fn use_of(rule: case_records::Rule) -> Use
-    requires { ⌜ rule .next < 64 ⌝ }
+fn use_of(to: Goal, rule: case_records::Rule) -> Use
+    requires { ⌜ (rule .next < 64) × (to .control ≡ rule .control) × (to .symbol ≡ rule .symbol) ⌝ }
     ensures { λ r. ⌜ r ≡ useOf (rule .control) (rule .symbol) (rule .next) (theOperation (rule .operation)) ⌝ }
 {
     let q = rule.next;
     let bit = sets::one_bit(q);
-    let to = Goal {
-        control: rule.control,
-        symbol: rule.symbol,
-    };
     let operation = rule.operation;
     match operation {
         case_records::Operation::Rewrite(b) => moves_from(MoveUse::Rewritten, b, q),
         case_records::Operation::Push1(b) => moves_from(MoveUse::Pushed1, b, q),
         case_records::Operation::Push2(b) => moves_from(MoveUse::Pushed2, b, q),
-        case_records::Operation::Copy => moves_from(MoveUse::Copied, to.symbol, q),
+        case_records::Operation::Copy => moves_from(MoveUse::Copied, rule.symbol, q),
         case_records::Operation::Pop1 => Use::Entries(EntryUse::Popped),
-        case_records::Operation::Pop2 => {
-            Use::Nothing(readings::result(readings::slot_of(to, bit), 0, 0, 0))
-        }
+        case_records::Operation::Pop2 => Use::Nothing(readings::result(to, bit, 0, 0, 0)),
         case_records::Operation::Collapse1 => Use::Entries(EntryUse::Collapsed),
-        case_records::Operation::Collapse2 => {
-            Use::Nothing(readings::result(readings::slot_of(to, 0), 2, bit, 0))
-        }
+        case_records::Operation::Collapse2 => Use::Nothing(readings::result(to, 0, 2, bit, 0)),
     }
 }
 
@@ -177,21 +167,21 @@ fn by_use(
     states: &[u16],
     words: &[u16],
     to: Goal,
-    t: Before,
     symbols: u64,
     q: u64,
     used: Use,
     memo: &mut [u64],
     out: &mut [u64],
-    n: Pending,
-) -> Pending
+    n: usize,
+) -> usize
     requires { ⌜ Indexed z (now inner) (now entries) (now moves) (now states) (now words)
-        × CanCollect (automatonOf z (now inner) (now entries) (now moves)) n (now out) (now memo)
-        × SettledBy (automatonOf z (now inner) (now entries) (now moves)) t (useGives to q used (tableBefore t (automatonOf z (now inner) (now entries) (now moves))))
-        × HasSymbols (now moves) (t .moves) (z .moves) symbols ⌝ }
-    ensures { λ k. ⌜ CollectsAll (automatonOf z (now (inner .entry)) (now (entries .entry)) (now (moves .entry))) n (now (out .entry))
+        × CanCollect (automatonOf z (now inner) (now entries) (now moves)) (to .room) n (now out) (now memo)
+        × SettledBy (automatonOf z (now inner) (now entries) (now moves)) (to .before) (useGives to q used (tableBefore (to .before) (automatonOf z (now inner) (now entries) (now moves))))
+        × HasSymbols (now moves) (to .before .moves) (z .moves) symbols ⌝ }
+    ensures { λ k. ⌜ CollectsAll (automatonOf z (now (inner .entry)) (now (entries .entry)) (now (moves .entry))) (to .room) n (now (out .entry))
         (useGives to q used) k (now (out .exit)) (now (memo .exit)) ⌝ }
 {
+    let old = to.before.entries;
     match used {
         Use::Moves(from) => control_moves::by_moves(
             z,
@@ -201,15 +191,14 @@ fn by_use(
             states,
             words,
             to,
-            t,
             symbols,
             from,
             memo,
             out,
             n,
         ),
-        Use::Entries(k) => by_entries(z, entries, moves, words, to, k, q, t.entries, out, n),
-        Use::Nothing(x) => by_nothing(z, entries, moves, words, t, x, out, n),
+        Use::Entries(k) => by_entries(z, entries, moves, words, to, k, q, old, out, n),
+        Use::Nothing(x) => by_nothing(z, entries, moves, words, to, x, out, n),
     }
 }
 
@@ -224,23 +213,26 @@ fn by_rule(
     t: Before,
     symbols: u64,
     rule: case_records::Rule,
+    room: usize,
     memo: &mut [u64],
     out: &mut [u64],
-    n: Pending,
-) -> Pending
+    n: usize,
+) -> usize
     requires { ⌜ Indexed z (now inner) (now entries) (now moves) (now states) (now words)
-        × CanCollect (automatonOf z (now inner) (now entries) (now moves)) n (now out) (now memo)
+        × CanCollect (automatonOf z (now inner) (now entries) (now moves)) room n (now out) (now memo)
         × SettledBy (automatonOf z (now inner) (now entries) (now moves)) t (ruleGives (theRule rule) (tableBefore t (automatonOf z (now inner) (now entries) (now moves))))
         × HasSymbols (now moves) (t .moves) (z .moves) symbols × (rule .next < 64) ⌝ }
-    ensures { λ k. ⌜ CollectsAll (automatonOf z (now (inner .entry)) (now (entries .entry)) (now (moves .entry))) n (now (out .entry))
+    ensures { λ k. ⌜ CollectsAll (automatonOf z (now (inner .entry)) (now (entries .entry)) (now (moves .entry))) room n (now (out .entry))
         (ruleGives (theRule rule)) k (now (out .exit)) (now (memo .exit)) ⌝ }
 {
     let to = Goal {
         control: rule.control,
         symbol: rule.symbol,
+        room: room,
+        before: t,
     };
     let q = rule.next;
-    let used = use_of(rule);
+    let used = use_of(to, rule);
     by_use(
         z,
         inner,
@@ -249,7 +241,6 @@ fn by_rule(
         states,
         words,
         to,
-        t,
         symbols,
         q,
         used,
@@ -283,10 +274,7 @@ pub fn collect(
     ensures memo { λ n. ⌜ MemoUpTo (z .moves) (now (memo .exit)) ⌝ }
 {
     let symbols = round_news::new_symbols(moves, t.moves, z.moves);
-    let mut n = Pending {
-        count: 0,
-        room: room,
-    };
+    let mut n: usize = 0;
     let mut i: usize = 0;
     while i < count {
         let rule = case_records::rule_at(body, i);
@@ -300,11 +288,12 @@ pub fn collect(
             t,
             symbols,
             rule,
+            room,
             memo,
             out,
             n,
         );
         i += 1;
     }
-    n.count
+    n
 }

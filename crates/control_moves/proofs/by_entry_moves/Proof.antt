@@ -8,7 +8,7 @@ use Rattle.tables.specs.Held.{automatonOf}
 use Rattle.chains.specs.Chains.{lastBelow}
 use Rattle.move_index.specs.Keys.{stateKey, stateKeyAt}
 use Rattle.readings.specs.Memo.{MemoHolds}
-use Rattle.readings.specs.Gathering.Laws.{in-room, collected-by, nothing-collected}
+use Rattle.readings.specs.Gathering.Laws.{nothing-collected}
 use Rattle.readings.specs.Turns.{OnChain}
 use Rattle.readings.specs.Turns.Laws.{chain-starts, chain-goes}
 use Rattle.control_moves.specs.Control.{ChainDownTo}
@@ -18,23 +18,22 @@ use Rattle.control_moves.proofs.by_entry_moves.Statement.{statement}
 use Rattle.control_moves.proofs.by_entry_moves.Tie as tie
 
 abbrev Inv-loop : tie.InvT-loop
-Inv-loop z inner entries moves states words to t from e memo₀ out₀ n c₀ memo out k c =
+Inv-loop z inner entries moves states words to from e memo₀ out₀ n k₀ c₀ memo out k c =
     (c ≤ z .moves)
     × OnChain moves (stateKey (z .inner1 + e) (from .symbol)) c
-    × ChainDownTo (automatonOf z inner entries moves) (to .control) (to .symbol) (from .kind) (from .symbol) (from .control) e (n .room) (n .count) out₀ c (k .count) out
+    × ChainDownTo (automatonOf z inner entries moves) (to .control) (to .symbol) (from .kind) (from .symbol) (from .control) e (to .room) n out₀ c k out
     × (length out ≡ length out₀)
-    × MemoHolds (automatonOf z inner entries moves) (k .room) (k .count) out memo
+    × MemoHolds (automatonOf z inner entries moves) (to .room) k out memo
     × (length memo ≡ length memo₀)
-    × (k .room ≡ n .room)
 
 abbrev μ-loop : tie.MeasureT-loop
-μ-loop z inner entries moves states words to t from e memo₀ out₀ n c₀ memo out k c = c
+μ-loop z inner entries moves states words to from e memo₀ out₀ n k₀ c₀ memo out k c = c
 
 entry-at-requires : tie.Need-entry-at-requires Inv-loop μ-loop
 entry-at-requires c κs = omega (arith, c .before .before .before .before .before .before .before .pre .3, c .before .before .before .before .before .before .before .pre .0 .moves-indexed .by-words .entries-stand .entries-lent)
 
 returns : tie.Need-returns Inv-loop μ-loop
-returns c = nothing-collected _ _ _ _ (c .before .before .before .before .before .before .before .before .before .before .before .pre .1) _ (entry-other (c .before .before .before .before .before .before .before .before .before .before .before .args .z) _ _ _ _ _ _ _ _ _ _ _ _ _ (c .before .before .before .before .before .before .before .before .before .before .before .pre .3) (c .before .before .before .entry-at .ensures) (c .before .before .before .before .before .before .before .before .before .before .before .pre .1 .room .number) (c .if1 .taken))
+returns c = nothing-collected _ _ _ _ _ _ (c .before .before .before .before .before .before .before .before .before .before .before .pre .1) (entry-other (c .before .before .before .before .before .before .before .before .before .before .before .args .z) _ _ _ _ _ _ _ _ _ _ _ _ _ (c .before .before .before .before .before .before .before .before .before .before .before .pre .3) (c .before .before .before .entry-at .ensures) (c .before .before .before .before .before .before .before .before .before .before .before .pre .1 .stands .number) (c .if1 .taken))
 
 add-state-key : tie.Need-add-state-key Inv-loop μ-loop
 add-state-key c = omega (arith, c .before .before .before .before .before .before .before .before .before .before .before .before .pre .3, c .before .before .before .before .before .before .before .before .before .before .before .before .pre .0 .moves-indexed .by-words .entries-stand .states-few)
@@ -49,7 +48,7 @@ loop-holds : tie.Need-loop-holds Inv-loop μ-loop
 loop-holds c =
     let first = c .last .ensures _ _ (c .before .before .before .before .before .before .before .before .before .before .before .before .before .before .pre .0 .moves-indexed .by-state) ∙ ap (λ key. lastBelow (stateKeyAt (c .before .before .before .before .before .before .before .before .before .before .before .before .before .before .args .moves .now)) key (c .before .before .before .before .before .before .before .before .before .before .before .before .before .before .args .z .moves)) (c .before .state-key .ensures .0) in
     let chain = chain-starts (c .before .before .before .before .before .before .before .before .before .before .before .before .before .before .args .moves .now) _ _ _ first in
-    (chain .0, chain .1, walk-none (c .before .before .before .before .before .before .before .before .before .before .before .before .before .before .args .z) _ _ _ _ _ _ _ _ _ _ _ _ _ (c .before .before .before .before .before .before .before .before .before .before .before .before .before .before .pre .1 .room .number) first, refl, c .before .before .before .before .before .before .before .before .before .before .before .before .before .before .pre .1 .memo-holds, refl, refl)
+    (chain .0, chain .1, walk-none (c .before .before .before .before .before .before .before .before .before .before .before .before .before .before .args .z) _ _ _ _ _ _ _ _ _ _ _ _ _ (c .before .before .before .before .before .before .before .before .before .before .before .before .before .before .pre .1 .stands .number) first, refl, c .before .before .before .before .before .before .before .before .before .before .before .before .before .before .pre .1 .memo-holds, refl)
 
 sub-i : tie.Need-sub-i Inv-loop μ-loop
 sub-i c = search needs
@@ -58,7 +57,7 @@ by-move-requires : tie.Need-by-move-requires Inv-loop μ-loop
 by-move-requires c κs = (
   c .before .before .before .before .before .before .before .before .before .before .before .before .before .before .before .before .before .before .pre .0,
   record {
-    room = record { room-lent = omega (arith, c .before .before .before .before .before .before .before .before .before .before .before .before .before .before .before .before .before .before .pre .1 .room .room-lent, c .before .before .before .loop .inv .3, c .before .before .before .loop .inv .6); number = omega (arith, c .before .before .before .loop .inv .2 .collected .number, c .before .before .before .loop .inv .6) };
+    stands = record { room-lent = omega (arith, c .before .before .before .before .before .before .before .before .before .before .before .before .before .before .before .before .before .before .pre .1 .stands .room-lent, c .before .before .before .loop .inv .3); number = c .before .before .before .loop .inv .2 .collected .number };
     memo-holds = c .before .before .before .loop .inv .4;
   },
   c .before .before .before .before .before .before .before .before .before .before .before .before .before .before .before .before .before .before .pre .2,
@@ -78,8 +77,7 @@ loop-less c =
 loop-again : tie.Need-loop-again Inv-loop μ-loop
 loop-again c =
     let done = c .before .before .before .before .before .by-move in
-    let here = in-room (c .before .before .before .before .before .before .before .before .before .loop .inv .6) (done .ensures .collected) in
-    let long = done .kept .1 .1 .1 .1 .1 .1 .1 .1 .1 .1 .1 .0 in
+    let long = done .kept .1 .1 .1 .1 .1 .1 .1 .1 .1 .1 .0 in
     let some = c .before .before .before .before .before .before .before .before .loop-test .taken in
     let within = let b = c .before .before .before .before .before .before .before .before .before .loop .inv .0 in let l : c .before .before .before .before .before .before .before .before .before .loop .c - 1 < c .before .before .before .before .before .before .before .before .before .before .before .before .before .before .before .before .before .before .before .before .before .before .before .before .args .z .moves = omega (arith, b, some) in l in
     let key = c .before .before .before .before .before .before .before .before .before .loop .inv .1 (c .before .before .before .before .before .before .before .before .before .loop .c - 1) (omega (arith, some)) in
@@ -87,11 +85,10 @@ loop-again c =
     let chain = chain-goes (c .before .before .before .before .before .before .before .before .before .before .before .before .before .before .before .before .before .before .before .before .before .before .before .before .args .moves .now) _ _ _ _ within key next in (
       chain .0,
       chain .1,
-      walk-more (c .before .before .before .before .before .before .before .before .before .before .before .before .before .before .before .before .before .before .before .before .before .before .before .before .args .z) _ _ _ _ _ _ _ _ _ _ _ _ _ _ _ _ _ _ _ (c .before .before .before .before .before .before .before .before .before .loop .inv .2) (omega (arith, some)) within key next (here .0) long,
+      walk-more (c .before .before .before .before .before .before .before .before .before .before .before .before .before .before .before .before .before .before .before .before .before .before .before .before .args .z) _ _ _ _ _ _ _ _ _ _ _ _ _ _ _ _ _ _ _ (c .before .before .before .before .before .before .before .before .before .loop .inv .2) (omega (arith, some)) within key next (done .ensures .collects) long,
       long ∙ c .before .before .before .before .before .before .before .before .before .loop .inv .3,
       done .ensures .memo-holds,
-      done .kept .1 .1 .1 .1 .1 .1 .1 .1 .1 .1 .0 ∙ c .before .before .before .before .before .before .before .before .before .loop .inv .5,
-      here .1,
+      done .kept .1 .1 .1 .1 .1 .1 .1 .1 .1 .0 ∙ c .before .before .before .before .before .before .before .before .before .loop .inv .5,
     )
 
 same-length : tie.Need-same-length Inv-loop μ-loop
@@ -103,7 +100,7 @@ same-length-2 c = c .before .loop .inv .3
 returns-2 : tie.Need-returns-2 Inv-loop μ-loop
 returns-2 c =
     record {
-      collected = collected-by (entry-own (c .before .before .before .before .before .before .before .before .before .before .before .before .before .before .before .before .args .z) _ _ _ _ _ _ _ _ _ _ _ _ _ (c .before .before .before .before .before .before .before .before .before .before .before .before .before .before .before .before .pre .3) (c .before .before .before .before .before .before .before .before .entry-at .ensures) _ _ (c .before .before .before .before .before .if1 .left) (walk-all (c .before .before .before .before .before .before .before .before .before .before .before .before .before .before .before .before .args .z) _ _ _ _ _ _ _ _ _ _ _ _ _ _ _ (c .before .loop .inv .2) (c .loop-test .left))) (c .before .loop .inv .6);
+      collects = entry-own (c .before .before .before .before .before .before .before .before .before .before .before .before .before .before .before .before .args .z) _ _ _ _ _ _ _ _ _ _ _ _ _ (c .before .before .before .before .before .before .before .before .before .before .before .before .before .before .before .before .pre .3) (c .before .before .before .before .before .before .before .before .entry-at .ensures) _ _ (c .before .before .before .before .before .if1 .left) (walk-all (c .before .before .before .before .before .before .before .before .before .before .before .before .before .before .before .before .args .z) _ _ _ _ _ _ _ _ _ _ _ _ _ _ _ (c .before .loop .inv .2) (c .loop-test .left));
       memo-holds = c .before .loop .inv .4;
     }
 

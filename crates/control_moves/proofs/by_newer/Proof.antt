@@ -6,7 +6,6 @@ use native.Mathlib.Omega.{arith}
 use lib.ListN.{length}
 use Rattle.tables.specs.Held.{automatonOf}
 use Rattle.readings.specs.Memo.{MemoHolds}
-use Rattle.readings.specs.Gathering.Laws.{in-room, collected-by}
 use Rattle.tables.specs.Rows.Laws.{length-rowsIn}
 use Rattle.tables.specs.Layouts.{moveRow}
 use Rattle.premises.specs.Steps.Laws.{MovesUpTo, moves-more, moves-all}
@@ -16,25 +15,24 @@ use Rattle.control_moves.proofs.by_newer.Statement.{statement}
 use Rattle.control_moves.proofs.by_newer.Tie as tie
 
 abbrev Inv-loop : tie.InvT-loop
-Inv-loop z inner entries moves states words to t from first memo₀ out₀ count n i₀ memo out k i =
+Inv-loop z inner entries moves states words to from first memo₀ out₀ n count k₀ i₀ memo out k i =
     (i ≤ count)
-    × MovesUpTo z inner entries moves (to .control) (to .symbol) (from .kind) (from .symbol) (from .control) (n .room) (n .count) out₀ i (k .count) out
+    × MovesUpTo z inner entries moves (to .control) (to .symbol) (from .kind) (from .symbol) (from .control) (to .room) n out₀ i k out
     × (length out ≡ length out₀)
-    × MemoHolds (automatonOf z inner entries moves) (k .room) (k .count) out memo
+    × MemoHolds (automatonOf z inner entries moves) (to .room) k out memo
     × (length memo ≡ length memo₀)
-    × (k .room ≡ n .room)
 
 abbrev μ-loop : tie.MeasureT-loop
-μ-loop z inner entries moves states words to t from first memo₀ out₀ count n i₀ memo out k i = count - i
+μ-loop z inner entries moves states words to from first memo₀ out₀ n count k₀ i₀ memo out k i = count - i
 
 loop-holds : tie.Need-loop-holds Inv-loop μ-loop
-loop-holds c = (omega (arith, c .before .before .before .before .before .before .before .pre .3 .within, length-rowsIn moveRow (c .before .before .before .before .before .before .before .args .z .moves) (c .before .before .before .before .before .before .before .args .moves .now)), below-past (c .before .before .before .before .before .before .before .args .z) _ _ _ _ _ _ _ _ _ (c .before .before .before .before .before .before .before .pre .3) (c .before .before .before .before .before .before .before .pre .1 .room .number), refl, c .before .before .before .before .before .before .before .pre .1 .memo-holds, refl, refl)
+loop-holds c = (omega (arith, c .before .before .before .before .before .before .before .pre .3 .within, length-rowsIn moveRow (c .before .before .before .before .before .before .before .args .z .moves) (c .before .before .before .before .before .before .before .args .moves .now)), below-past (c .before .before .before .before .before .before .before .args .z) _ _ _ _ _ _ _ _ _ (c .before .before .before .before .before .before .before .pre .3) (c .before .before .before .before .before .before .before .pre .1 .stands .number), refl, c .before .before .before .before .before .before .before .pre .1 .memo-holds, refl)
 
 by-move-requires : tie.Need-by-move-requires Inv-loop μ-loop
 by-move-requires c κs = (
   c .before .before .before .before .before .before .before .before .before .before .before .pre .0,
   record {
-    room = record { room-lent = omega (arith, c .before .before .before .before .before .before .before .before .before .before .before .pre .1 .room .room-lent, c .before .before .before .loop .inv .2, c .before .before .before .loop .inv .5); number = omega (arith, c .before .before .before .loop .inv .1 .offered .number, c .before .before .before .loop .inv .5) };
+    stands = record { room-lent = omega (arith, c .before .before .before .before .before .before .before .before .before .before .before .pre .1 .stands .room-lent, c .before .before .before .loop .inv .2); number = c .before .before .before .loop .inv .1 .offered .number };
     memo-holds = c .before .before .before .loop .inv .3;
   },
   c .before .before .before .before .before .before .before .before .before .before .before .pre .2,
@@ -51,14 +49,12 @@ loop-again : tie.Need-loop-again Inv-loop μ-loop
 loop-again c =
     let within = c .before .before .before .before .before .before .before .loop-test .taken in
     let done = c .before .before .before .before .by-move in
-    let here = in-room (c .before .before .before .before .before .before .before .before .loop .inv .5) (done .ensures .collected) in
-    let long = done .kept .1 .1 .1 .1 .1 .1 .1 .1 .1 .1 .1 .0 in (
+    let long = done .kept .1 .1 .1 .1 .1 .1 .1 .1 .1 .1 .0 in (
       omega (arith, within),
-      moves-more (c .before .before .before .before .before .before .before .before .before .before .before .before .before .before .before .before .args .z) _ _ _ _ _ _ _ _ _ _ _ _ _ _ _ _ (c .before .before .before .before .before .before .before .before .loop .inv .1) within (here .0) long,
+      moves-more (c .before .before .before .before .before .before .before .before .before .before .before .before .before .before .before .before .args .z) _ _ _ _ _ _ _ _ _ _ _ _ _ _ _ _ (c .before .before .before .before .before .before .before .before .loop .inv .1) within (done .ensures .collects) long,
       long ∙ c .before .before .before .before .before .before .before .before .loop .inv .2,
       done .ensures .memo-holds,
-      done .kept .1 .1 .1 .1 .1 .1 .1 .1 .1 .1 .0 ∙ c .before .before .before .before .before .before .before .before .loop .inv .4,
-      here .1,
+      done .kept .1 .1 .1 .1 .1 .1 .1 .1 .1 .0 ∙ c .before .before .before .before .before .before .before .before .loop .inv .4,
     )
 
 same-length : tie.Need-same-length Inv-loop μ-loop
@@ -68,7 +64,7 @@ same-length-2 : tie.Need-same-length-2 Inv-loop μ-loop
 same-length-2 c = c .before .loop .inv .2
 
 returns : tie.Need-returns Inv-loop μ-loop
-returns c = record { collected = collected-by (moves-all (c .before .before .before .before .before .before .before .before .before .args .z) _ _ _ _ _ _ _ _ _ _ _ _ _ _ (c .before .loop .inv .1) (c .loop-test .left)) (c .before .loop .inv .5); memo-holds = c .before .loop .inv .3 }
+returns c = record { collects = moves-all (c .before .before .before .before .before .before .before .before .before .args .z) _ _ _ _ _ _ _ _ _ _ _ _ _ _ (c .before .loop .inv .1) (c .loop-test .left); memo-holds = c .before .loop .inv .3 }
 
 pub by-newer-spec : {M : Type 1} → statement M
 by-newer-spec = tie.close (tie.spec Inv-loop μ-loop loop-holds by-move-requires add-i loop-less loop-again same-length same-length-2 returns)

@@ -27,7 +27,8 @@ use Rattle.tables.specs.Held.Laws.{row-move}
 use Rattle.offers.specs.Offers.{AllHeld}
 use Rattle.readings.specs.declared.Before.{Before}
 use Rattle.readings.specs.declared.Goal.{Goal}
-use Rattle.readings.specs.Before.{tableBefore, settledOn}
+use Rattle.readings.specs.Before.{tableBefore}
+use Rattle.readings.specs.Gathering.{CanCollect, CollectsAll}
 use Rattle.round_news.specs.News.{HasSymbols, NoneHas}
 use Rattle.premises.specs.declared.MoveUse.{MoveUse}
 use Rattle.premises.specs.declared.MoveUse.the-variants.{Rewritten, Pushed1, Pushed2, Copied}
@@ -37,7 +38,7 @@ use Rattle.premises.specs.Steps.Laws.{moveOffers, MovesUpTo, moves-past}
 use Rattle.premises.specs.Settled.{SettledBy, SourceHeld}
 use Rattle.premises.specs.Settled.Laws.{premise-same, length-moves, length-entries}
 use Rattle.premises.specs.Settled.Known.{premise-known, there}
-use Rattle.control_moves.specs.First.{readsNew, firstMove, HeldBelow}
+use Rattle.control_moves.specs.First.{readsNew, firstMove, settledOn, HeldBelow}
 
 -- ---- an old premise
 
@@ -57,10 +58,10 @@ module _ (A : Automaton) (t : Before) (p a : ℕ) (k : MoveUse) (b q : ℕ) (s :
       }
 
 -- the states that have no newer move on the goal's symbol
-pub source-held : (z : Table) (inner entries moves : List ℕ) (t t′ : Before) (to : Goal) (from : Source) (s : ℕ)
-    → SettledBy (automatonOf z inner entries moves) t (sourceGives to from (tableBefore t (automatonOf z inner entries moves)))
-    → NoneHas moves (t .moves) (z .moves) (to .symbol) s → s < 2 ^ 64 → t′ ≡ settledOn t s → SourceHeld (automatonOf z inner entries moves) t′ to from
-source-held z inner entries moves t t′ to from s h none small e =
+pub source-held : (z : Table) (inner entries moves : List ℕ) (to to′ : Goal) (from : Source) (s : ℕ)
+    → SettledBy (automatonOf z inner entries moves) (to .before) (sourceGives to from (tableBefore (to .before) (automatonOf z inner entries moves)))
+    → NoneHas moves (to .before .moves) (z .moves) (to .symbol) s → s < 2 ^ 64 → to′ ≡ settledOn to s → SourceHeld (automatonOf z inner entries moves) to′ from
+source-held z inner entries moves to to′ from s h none small e =
     let len : length (rowsIn moveRow (z .moves) moves) ≡ z .moves = length-rowsIn moveRow (z .moves) moves in
     rw e (record {
       settled-by = record {
@@ -92,47 +93,47 @@ quiet-cases Copied false entries f = inr (refl, λ c. f)
 
 -- ---- the premises that are passed over
 
-module _ (z : Table) (inner entries moves : List ℕ) (t : Before) (to : Goal) (from : Source) (symbols : ℕ)
-    (s : SettledBy (automatonOf z inner entries moves) t (sourceGives to from (tableBefore t (automatonOf z inner entries moves))))
-    (news : HasSymbols moves (t .moves) (z .moves) symbols) where
+module _ (z : Table) (inner entries moves : List ℕ) (to : Goal) (from : Source) (symbols : ℕ)
+    (s : SettledBy (automatonOf z inner entries moves) (to .before) (sourceGives to from (tableBefore (to .before) (automatonOf z inner entries moves))))
+    (news : HasSymbols moves (to .before .moves) (z .moves) symbols) where
   -- a symbol that no newer move has
   old-symbol : (c : ℕ) → member symbols (c % 64) ≡ false → (i : ℕ) → i < length (automatonOf z inner entries moves .moves)
-      → moveAt (automatonOf z inner entries moves) i .symbol ≡ c → i < t .moves
+      → moveAt (automatonOf z inner entries moves) i .symbol ≡ c → i < to .before .moves
   old-symbol c f i l e =
       let len : length (rowsIn moveRow (z .moves) moves) ≡ z .moves = length-rowsIn moveRow (z .moves) moves in
       let d : i < z .moves = omega arith in
-      by-test (leb (t .moves) i)
+      by-test (leb (to .before .moves) i)
       (λ v. absurd (false≢true (sym f
       ∙ ap (λ (n : ℕ). member symbols (n % 64)) (sym e ∙ ap (λ (y : Move). y .symbol) (sym (row-move z inner entries moves i (rowAt moveRow moves i) d refl)))
-      ∙ news .has-symbol i (leb-true (t .moves) i v) d .has)))
-      (λ v. leb-false (t .moves) i v)
+      ∙ news .has-symbol i (leb-true (to .before .moves) i v) d .has)))
+      (λ v. leb-false (to .before .moves) i v)
 
   -- what an old premise gives, where nothing is new for its reading
-  quiet-held : readsNew (from .kind) (member symbols (to .symbol % 64)) (ltb (t .entries) (z .entries)) ≡ false
-      → (i : ℕ) → i < t .moves → List·Memᴰ i (controlMoves (automatonOf z inner entries moves) (from .control) (from .symbol))
+  quiet-held : readsNew (from .kind) (member symbols (to .symbol % 64)) (ltb (to .before .entries) (z .entries)) ≡ false
+      → (i : ℕ) → i < to .before .moves → List·Memᴰ i (controlMoves (automatonOf z inner entries moves) (from .control) (from .symbol))
       → AllHeld (automatonOf z inner entries moves)
       (premiseResults (automatonOf z inner entries moves) (to .control) (to .symbol) (from .kind) (entrySet (automatonOf z inner entries moves) (moveAt (automatonOf z inner entries moves) i .state)) (moveAt (automatonOf z inner entries moves) i))
   unfolding premiseResults
   quiet-held f i l m =
       let A : Automaton = automatonOf z inner entries moves in
-      let E : Automaton = tableBefore t A in
+      let E : Automaton = tableBefore (to .before) A in
       let len : length (rowsIn entryRow (z .entries) entries) ≡ z .entries = length-rowsIn entryRow (z .entries) entries in
       ⊎-elim
       (λ e.
       let h : AllHeld A (premiseResults E (to .control) (to .symbol) Rewritten (entrySet A (moveAt A i .state)) (moveAt A i)) =
-      subst (λ (u : MoveUse). AllHeld A (premiseResults E (to .control) (to .symbol) u (entrySet A (moveAt A i .state)) (moveAt A i))) e (premise-known A t (to .control) (to .symbol) (from .kind) (from .symbol) (from .control) s i l m) in
+      subst (λ (u : MoveUse). AllHeld A (premiseResults E (to .control) (to .symbol) u (entrySet A (moveAt A i .state)) (moveAt A i))) e (premise-known A (to .before) (to .control) (to .symbol) (from .kind) (from .symbol) (from .control) s i l m) in
       subst (λ (u : MoveUse). AllHeld A (premiseResults A (to .control) (to .symbol) u (entrySet A (moveAt A i .state)) (moveAt A i))) (sym e) h)
-      (λ e. premise-held A t (to .control) (to .symbol) (from .kind) (from .symbol) (from .control) s i l m (old-symbol (to .symbol) (e .0))
-      (λ c. by-test (ltb (t .entries) (z .entries))
+      (λ e. premise-held A (to .before) (to .control) (to .symbol) (from .kind) (from .symbol) (from .control) s i l m (old-symbol (to .symbol) (e .0))
+      (λ c. by-test (ltb (to .before .entries) (z .entries))
       (λ v. absurd (false≢true (sym (e .1 c) ∙ v)))
-      (λ v. let g : z .entries ≤ t .entries = ltb-false (t .entries) (z .entries) v in omega arith)))
-      (quiet-cases (from .kind) (member symbols (to .symbol % 64)) (ltb (t .entries) (z .entries)) f)
+      (λ v. let g : z .entries ≤ to .before .entries = ltb-false (to .before .entries) (z .entries) v in omega arith)))
+      (quiet-cases (from .kind) (member symbols (to .symbol % 64)) (ltb (to .before .entries) (z .entries)) f)
 
-  pub held-below : (reads : Bool) (first : ℕ) → reads ≡ readsNew (from .kind) (member symbols (to .symbol % 64)) (ltb (t .entries) (z .entries)) → reads ≡ false
-      → first ≡ firstMove (member symbols (from .symbol % 64)) (t .moves) (z .moves) → HeldBelow (automatonOf z inner entries moves) to from first
+  pub held-below : (reads : Bool) (first : ℕ) → reads ≡ readsNew (from .kind) (member symbols (to .symbol % 64)) (ltb (to .before .entries) (z .entries)) → reads ≡ false
+      → first ≡ firstMove (member symbols (from .symbol % 64)) (to .before .moves) (z .moves) → HeldBelow (automatonOf z inner entries moves) to from first
   unfolding firstMove controlMoves moveAt
   held-below reads first e v f = by-test (member symbols (from .symbol % 64))
-      (λ u. let n : first ≡ t .moves = f ∙ rw (firstMove, u) refl in
+      (λ u. let n : first ≡ to .before .moves = f ∙ rw (firstMove, u) refl in
       let c = s .moves-before in
       record { within = omega (arith, c, n); below = λ i l m. quiet-held (sym e ∙ v) i (omega (arith, l, n)) m })
       (λ u. let n : first ≡ z .moves = f ∙ rw (firstMove, u) refl in
@@ -143,6 +144,17 @@ module _ (z : Table) (inner entries moves : List ℕ) (t : Before) (to : Goal) (
             let w = places-out (λ y. eqb (y .symbol) (from .symbol) && entryOf (automatonOf z inner entries moves) (from .control) (y .state)) (rowsIn moveRow (z .moves) moves) noMove m in
             quiet-held (sym e ∙ v) i (old-symbol (from .symbol) u i (w .0) (eqb-true _ _ (and-left (eqb (moveAt (automatonOf z inner entries moves) i .symbol) (from .symbol)) _ (w .1)))) m;
       })
+
+-- whatever states are settled
+pub held-below-settled : (A : Automaton) (to to′ : Goal) (from : Source) (first s : ℕ) → to′ ≡ settledOn to s → HeldBelow A to from first → HeldBelow A to′ from first
+held-below-settled A to to′ from first s e h = rw e (record { within = h .within; below = h .below })
+
+pub settled-can : (A : Automaton) (to to′ : Goal) (s : ℕ) {n : ℕ} {t memo : List ℕ} → to′ ≡ settledOn to s → CanCollect A (to .room) n t memo → CanCollect A (to′ .room) n t memo
+settled-can A to to′ s {n} {t} {memo} e c = rw e c
+
+pub settled-collects : (A : Automaton) (to to′ : Goal) (from : Source) (s : ℕ) {n r : ℕ} {t t′ memo : List ℕ} → to′ ≡ settledOn to s → CollectsAll A (to′ .room) n t (sourceGives to′ from) r t′ memo
+    → CollectsAll A (to .room) n t (sourceGives to from) r t′ memo
+settled-collects A to to′ from s {n} {r} {t} {t′} {memo} e c = subst (λ (x : Goal). CollectsAll A (x .room) n t (sourceGives x from) r t′ memo) e c
 
 -- what the moves below number `first` give need not be offered
 pub below-past : (z : Table) (inner entries moves : List ℕ) (to : Goal) (from : Source) (first room n : ℕ) (t : List ℕ) → HeldBelow (automatonOf z inner entries moves) to from first → n ≤ room + 1

@@ -10,14 +10,13 @@ use Rattle.tables.specs.Rows.Laws.{length-rowsIn}
 use Rattle.tables.specs.Layouts.{moveRow, entryRow}
 use Rattle.tables.specs.Held.{automatonOf}
 use Rattle.joins.specs.Joining.{theJoins}
-use Rattle.offers.specs.declared.Pending.{Pending}
 use Rattle.offers.specs.Offers.Laws.{collects-over}
-use Rattle.edge_readings.specs.Edges.Laws.{EdgesUpTo, edges-none, edges-yes, edges-no, edges-all, edges-slot, fewer-edges, held-first, held-end, held-edge}
+use Rattle.edge_readings.specs.Edges.Laws.{EdgesUpTo, edges-none, edges-yes, edges-no, edges-all, fewer-edges, held-first, held-end, held-edge}
 use Rattle.edge_readings.specs.Edges.Collected.{all-first, all-end, all-noted}
 use Rattle.readings.specs.Readings.Inner.{reads-alone, held-table}
 use Rattle.readings.specs.Memo.{MemoHolds}
-use Rattle.readings.specs.Memo.Laws.{edges-gives, memo-found}
-use Rattle.readings.specs.Gathering.Laws.{in-room, collected-by, holds-same, nothing-collected, can-read, read-collected}
+use Rattle.readings.specs.Memo.Laws.{edges-gives, memo-found, memo-same}
+use Rattle.readings.specs.Gathering.Laws.{nothing-collected, can-read, read-collected}
 use borrow.Author.Needs.{needs}
 use borrow.Fn.Kinds.{In}
 use borrow.Fn.PlainCycle.{Measures, is, falls, and}
@@ -37,21 +36,21 @@ use Rattle.sets.proofs.least_member.Reads as least-member-reads
 use Rattle.memo_table.proofs.put.Reads as put-reads
 use Rattle.tables.proofs.edge_of.Reads as edge-of-reads
 use Rattle.choices.proofs.unchanged.Reads as unchanged-reads
-use Rattle.readings.proofs.used.Reads as used-reads
-use Rattle.edge_readings.proofs.slot_joined.Reads as slot-joined-reads
+use Rattle.readings.proofs.is_newer.Reads as is-newer-reads
+use Rattle.sets.proofs.join.Reads as join-reads
 use Rattle.edge_readings.proofs.name.Reads as name-reads
 use Rattle.readings.proofs.read_from.Reads as read-from-reads
 use Rattle.edge_readings.proofs.+choose_left+read_choices+read_edges.{statement}
 use Rattle.edge_readings.proofs.+choose_left+read_choices+read_edges.Tie.{close}
 
 abbrev μ-choose-left : Measures 7 choose-left-kinds.ps ℕ
-μ-choose-left κs a = length (members (a .1 .1 .1 .1 .1 .1 .1 .1 .1 .1 .1 .0)) * 3 + 1
+μ-choose-left κs a = length (members (a .1 .1 .1 .1 .1 .1 .1 .1 .1 .1 .1 .1 .0)) * 3 + 1
 
 abbrev μ-read-choices : Measures 7 read-choices-kinds.ps ℕ
-μ-read-choices κs a = length (members (a .1 .1 .1 .1 .1 .1 .1 .1 .1 .1 .1 .0 .others)) * 3 + 3
+μ-read-choices κs a = length (members (a .1 .1 .1 .1 .1 .1 .1 .1 .1 .1 .1 .1 .0 .others)) * 3 + 3
 
 abbrev μ-read-edges : Measures 7 read-edges-kinds.ps ℕ
-μ-read-edges κs a = length (members (a .1 .1 .1 .1 .1 .1 .1 .1 .1 .1 .1 .0)) * 3 + 2
+μ-read-edges κs a = length (members (a .1 .1 .1 .1 .1 .1 .1 .1 .1 .1 .1 .1 .0)) * 3 + 2
 
 abbrev choose-left-at : ℕ → In 7 choose-left-kinds.ps
 choose-left-at t = and 7 choose-left-kinds.ps (is 7 choose-left-kinds.ps μ-choose-left t) choose-left.Pre
@@ -104,28 +103,28 @@ choose-left-returns : (t : ℕ) → choose-left-lts.Need-returns (choose-left-cl
 choose-left-returns t c =
     let few = length-rowsIn moveRow (c .before .before .before .before .before .before .before .before .before .before .before .before .before .args .z .moves) (c .before .before .before .before .before .before .before .before .before .before .before .before .before .args .moves .now) in
     let h = c .before .before .before .before .before .before .before .before .before .before .before .before .before .pre .1 .1 in
-    nothing-collected _ _ _ _ h _
-    (memo-found _ _ _ _ _ (edges-gives _ _ _ _ _ _ _ _ _ _ few _ (c .before .before .before .before .before .edges-state .ensures)) (h .memo-holds) (h .room .number) (c .before .before .before .place .ensures) (c .before .holds .ensures) (c .if1 .taken))
+    nothing-collected _ _ _ _ _ _ h
+    (memo-found _ _ _ _ _ (edges-gives _ _ _ _ _ _ _ _ _ _ few _ (c .before .before .before .before .before .edges-state .ensures)) (h .memo-holds) (h .stands .number) (c .before .before .before .place .ensures) (c .before .holds .ensures) (c .if1 .taken))
 
 choose-left-least-member-requires : (t : ℕ) → choose-left-lts.Need-least-member-requires (choose-left-claims t) (choose-left-at t) choose-left.Post
 choose-left-least-member-requires t c κs = c .before .before .before .before .before .before .before .before .before .before .before .before .before .pre .1 .2
 
 choose-left-read-choices-requires : (t : ℕ) → choose-left-lts.Need-read-choices-requires (choose-left-claims t) (choose-left-at t) choose-left.Post
-choose-left-read-choices-requires t c κs = (fewer-edges _ _ _ _ (c .before .before .least-member .ensures .0) (c .before .before .before .before .before .before .before .before .before .before .before .before .before .before .before .before .pre .0), (c .before .before .before .before .before .before .before .before .before .before .before .before .before .before .before .before .pre .1 .0, c .before .before .before .before .before .before .before .before .before .before .before .before .before .before .before .before .pre .1 .1, held-first _ _ _ _ _ _ (c .before .before .before .before .before .before .before .before .before .before .before .before .before .before .before .before .pre .1 .3) _ _ (c .before .before .least-member .ensures .0)))
+choose-left-read-choices-requires t c κs = (fewer-edges _ _ _ _ (c .before .before .least-member .ensures .0) (c .before .before .before .before .before .before .before .before .before .before .before .before .before .before .before .before .pre .0), (c .before .before .before .before .before .before .before .before .before .before .before .before .before .before .before .before .pre .1 .0, c .before .before .before .before .before .before .before .before .before .before .before .before .before .before .before .before .pre .1 .1, held-first _ (c .before .before .before .before .before .before .before .before .before .before .before .before .before .before .before .before .args .to) _ _ _ _ _ (c .before .before .before .before .before .before .before .before .before .before .before .before .before .before .before .before .pre .1 .3) _ _ (c .before .before .least-member .ensures .0)))
 
 choose-left-put-requires : (t : ℕ) → choose-left-lts.Need-put-requires (choose-left-claims t) (choose-left-at t) choose-left.Post
-choose-left-put-requires t c κs = omega (arith, c .before .before .before .before .before .before .before .before .before .before .before .before .place .ensures, c .before .before .before .before .before .read-choices .kept .1 .1 .1 .1 .1 .1 .1 .1 .1 .1 .1 .1 .1 .0)
+choose-left-put-requires t c κs = omega (arith, c .before .before .before .before .before .before .before .before .before .before .before .before .place .ensures, c .before .before .before .before .before .read-choices .kept .1 .1 .1 .1 .1 .1 .1 .1 .1 .1 .1 .1 .1 .1 .0)
 
 choose-left-same-length-2 : (t : ℕ) → choose-left-lts.Need-same-length-2 (choose-left-claims t) (choose-left-at t) choose-left.Post
-choose-left-same-length-2 t c = c .before .before .put .kept .0 ∙ c .before .before .before .before .before .before .before .before .read-choices .kept .1 .1 .1 .1 .1 .1 .1 .1 .1 .1 .1 .1 .1 .0
+choose-left-same-length-2 t c = c .before .before .put .kept .0 ∙ c .before .before .before .before .before .before .before .before .read-choices .kept .1 .1 .1 .1 .1 .1 .1 .1 .1 .1 .1 .1 .1 .1 .0
 
 choose-left-same-length-3 : (t : ℕ) → choose-left-lts.Need-same-length-3 (choose-left-claims t) (choose-left-at t) choose-left.Post
-choose-left-same-length-3 t c = c .before .before .before .before .before .before .before .before .read-choices .kept .1 .1 .1 .1 .1 .1 .1 .1 .1 .1 .1 .1 .1 .1 .0
+choose-left-same-length-3 t c = c .before .before .before .before .before .before .before .before .read-choices .kept .1 .1 .1 .1 .1 .1 .1 .1 .1 .1 .1 .1 .1 .1 .1 .0
 
 choose-left-returns-2 : (t : ℕ) → choose-left-lts.Need-returns-2 (choose-left-claims t) (choose-left-at t) choose-left.Post
 choose-left-returns-2 t c =
-    all-noted _ _ _ _ _ _ _ _ _ _ _ _ _ _ _ _ _ (length-rowsIn moveRow (c .before .before .before .before .before .before .before .before .before .before .before .before .before .before .before .before .before .before .before .before .before .before .before .before .before .args .z .moves) (c .before .before .before .before .before .before .before .before .before .before .before .before .before .before .before .before .before .before .before .before .before .before .before .before .before .args .moves .now)) refl (c .before .before .before .before .before .before .before .before .before .before .before .before .before .before .before .before .before .edges-state .ensures)
-    (all-first _ _ _ _ _ _ _ _ _ _ _ _ (c .before .before .before .before .before .before .before .before .before .before .before .least-member .ensures .0) (c .before .before .before .before .before .before .before .before .read-choices .ensures)) (omega (arith, c .before .before .before .before .before .before .before .before .before .before .before .before .before .before .before .place .ensures, c .before .before .before .before .before .before .before .before .read-choices .kept .1 .1 .1 .1 .1 .1 .1 .1 .1 .1 .1 .1 .1 .0)) (c .before .before .put .ensures)
+    all-noted _ _ _ _ _ _ _ (c .before .before .before .before .before .before .before .before .before .before .before .before .before .before .before .before .before .before .before .before .before .before .before .before .before .args .to) _ _ _ _ _ _ _ _ _ _ _ (length-rowsIn moveRow (c .before .before .before .before .before .before .before .before .before .before .before .before .before .before .before .before .before .before .before .before .before .before .before .before .before .args .z .moves) (c .before .before .before .before .before .before .before .before .before .before .before .before .before .before .before .before .before .before .before .before .before .before .before .before .before .args .moves .now)) refl (c .before .before .before .before .before .before .before .before .before .before .before .before .before .before .before .before .before .edges-state .ensures)
+    (all-first _ _ _ _ _ _ _ (c .before .before .before .before .before .before .before .before .before .before .before .before .before .before .before .before .before .before .before .before .before .before .before .before .before .args .to) _ _ _ _ _ _ (c .before .before .before .before .before .before .before .before .before .before .before .least-member .ensures .0) (c .before .before .before .before .before .before .before .before .read-choices .ensures)) (omega (arith, c .before .before .before .before .before .before .before .before .before .before .before .before .before .before .before .place .ensures, c .before .before .before .before .before .before .before .before .read-choices .kept .1 .1 .1 .1 .1 .1 .1 .1 .1 .1 .1 .1 .1 .1 .0)) (c .before .before .put .ensures)
 
 -- what the callees of read_choices require and ensure
 abbrev read-choices-claims : ℕ → read-choices-lts.Claims
@@ -134,10 +133,10 @@ read-choices-claims t = (
   edge-of-reads.Learnt,
   unchanged-reads.Asked,
   unchanged-reads.Learnt,
-  used-reads.Asked,
-  used-reads.Learnt,
-  slot-joined-reads.Asked,
-  slot-joined-reads.Learnt,
+  is-newer-reads.Asked,
+  is-newer-reads.Learnt,
+  join-reads.Asked,
+  join-reads.Learnt,
   name-reads.Asked,
   name-reads.Learnt,
   read-edges-below t,
@@ -145,22 +144,21 @@ read-choices-claims t = (
 )
 
 abbrev read-choices-Inv-loop : read-choices-lts.InvT-loop
-read-choices-Inv-loop z inner entries moves states words to t order b r part named memo₀ out₀ j count n i₀ memo out k i =
+read-choices-Inv-loop z inner entries moves states words to s new order b r part named memo₀ out₀ n j count k₀ i₀ memo out k i =
     (i ≤ count)
-    × EdgesUpTo z inner entries moves (to .control) (to .symbol) (theJoins order b r) (part .member) (members (part .others)) named (to .s) (n .room) (n .count) out₀ i (k .count) out
+    × EdgesUpTo z inner entries moves (to .control) (to .symbol) (theJoins order b r) (part .member) (members (part .others)) named s (to .room) n out₀ i k out
     × (length out ≡ length out₀)
-    × MemoHolds (automatonOf z inner entries moves) (k .room) (k .count) out memo
+    × MemoHolds (automatonOf z inner entries moves) (to .room) k out memo
     × (length memo ≡ length memo₀)
-    × (k .room ≡ n .room)
 
 abbrev read-choices-μ-loop : read-choices-lts.MeasureT-loop
-read-choices-μ-loop z inner entries moves states words to t order b r part named memo₀ out₀ j count n i₀ memo out k i = count - i
+read-choices-μ-loop z inner entries moves states words to s new order b r part named memo₀ out₀ n j count k₀ i₀ memo out k i = count - i
 
 read-choices-add-count : (t : ℕ) → read-choices-lts.Need-add-count (read-choices-claims t) (read-choices-at t) read-choices.Post read-choices-Inv-loop read-choices-μ-loop
 read-choices-add-count t c = omega (arith, c .before .before .before .before .before .before .before .before .pre .1 .0 .edges-stand .edges-lent, c .before .before .before .before .before .before .before .before .pre .1 .0 .moves-indexed .by-words .entries-stand .states-few)
 
 read-choices-loop-holds : (t : ℕ) → read-choices-lts.Need-loop-holds (read-choices-claims t) (read-choices-at t) read-choices.Post read-choices-Inv-loop read-choices-μ-loop
-read-choices-loop-holds t c = (search needs, edges-none (c .before .before .before .before .before .before .before .before .args .z) _ _ _ _ _ _ _ _ _ _ _ _ _ (c .before .before .before .before .before .before .before .before .pre .1 .1 .room .number), refl, c .before .before .before .before .before .before .before .before .pre .1 .1 .memo-holds, refl, refl)
+read-choices-loop-holds t c = (search needs, edges-none (c .before .before .before .before .before .before .before .before .args .z) _ _ _ _ _ _ _ _ _ _ _ _ _ (c .before .before .before .before .before .before .before .before .pre .1 .1 .stands .number), refl, c .before .before .before .before .before .before .before .before .pre .1 .1 .memo-holds, refl)
 
 read-choices-edge-of-requires : (t : ℕ) → read-choices-lts.Need-edge-of-requires (read-choices-claims t) (read-choices-at t) read-choices.Post read-choices-Inv-loop read-choices-μ-loop
 read-choices-edge-of-requires t c κs = (c .before .before .before .before .before .before .before .before .before .before .pre .1 .0 .edges-stand, c .before .before .before .before .before .before .before .before .before .before .pre .1 .0 .moves-indexed .by-words .entries-stand, c .loop-test .taken)
@@ -168,20 +166,20 @@ read-choices-edge-of-requires t c κs = (c .before .before .before .before .befo
 read-choices-unchanged-requires : (t : ℕ) → read-choices-lts.Need-unchanged-requires (read-choices-claims t) (read-choices-at t) read-choices.Post read-choices-Inv-loop read-choices-μ-loop
 read-choices-unchanged-requires t c κs = (c .before .before .before .before .before .before .before .before .before .before .before .before .before .before .pre .1 .0 .moves-indexed .by-words .moves-stand, c .before .before .before .before .before .before .before .before .before .before .before .before .before .before .pre .1 .0 .moves-indexed .by-state)
 
-read-choices-add-used : (t : ℕ) → read-choices-lts.Need-add-used (read-choices-claims t) (read-choices-at t) read-choices.Post read-choices-Inv-loop read-choices-μ-loop
-read-choices-add-used t c = omega (arith, read-choices-add-count t (c .before .before .before .before .before .before .before .before .before), c .before .before .before .before .before .before .before .before .before .before .before .before .before .before .before .before .before .pre .1 .2 .settles .entries-before, length-rowsIn entryRow (c .before .before .before .before .before .before .before .before .before .before .before .before .before .before .before .before .before .args .z .entries) (c .before .before .before .before .before .before .before .before .before .before .before .before .before .before .before .before .before .args .entries .now))
+read-choices-add-is-newer : (t : ℕ) → read-choices-lts.Need-add-is-newer (read-choices-claims t) (read-choices-at t) read-choices.Post read-choices-Inv-loop read-choices-μ-loop
+read-choices-add-is-newer t c = omega (arith, read-choices-add-count t (c .before .before .before .before .before .before .before .before .before), c .before .before .before .before .before .before .before .before .before .before .before .before .before .before .before .before .before .pre .1 .2 .settles .entries-before, length-rowsIn entryRow (c .before .before .before .before .before .before .before .before .before .before .before .before .before .before .before .before .before .args .z .entries) (c .before .before .before .before .before .before .before .before .before .before .before .before .before .before .before .before .before .args .entries .now))
 
-read-choices-used-requires : (t : ℕ) → read-choices-lts.Need-used-requires (read-choices-claims t) (read-choices-at t) read-choices.Post read-choices-Inv-loop read-choices-μ-loop
-read-choices-used-requires t c κs = search needs
+read-choices-is-newer-requires : (t : ℕ) → read-choices-lts.Need-is-newer-requires (read-choices-claims t) (read-choices-at t) read-choices.Post read-choices-Inv-loop read-choices-μ-loop
+read-choices-is-newer-requires t c κs = search needs
 
-read-choices-slot-joined-requires : (t : ℕ) → read-choices-lts.Need-slot-joined-requires (read-choices-claims t) (read-choices-at t) read-choices.Post read-choices-Inv-loop read-choices-μ-loop
-read-choices-slot-joined-requires t c κs = search needs
+read-choices-add-is-newer-2 : (t : ℕ) → read-choices-lts.Need-add-is-newer-2 (read-choices-claims t) (read-choices-at t) read-choices.Post read-choices-Inv-loop read-choices-μ-loop
+read-choices-add-is-newer-2 t c = omega (arith, c .before .before .before .before .before .before .before .before .before .before .before .before .before .before .before .before .before .before .before .pre .1 .0 .moves-indexed .by-state .few, c .before .before .before .before .before .before .before .before .before .before .before .before .before .before .before .before .before .before .before .pre .1 .2 .settles .moves-before, length-rowsIn moveRow (c .before .before .before .before .before .before .before .before .before .before .before .before .before .before .before .before .before .before .before .args .z .moves) (c .before .before .before .before .before .before .before .before .before .before .before .before .before .before .before .before .before .before .before .args .moves .now))
 
-read-choices-add-used-2 : (t : ℕ) → read-choices-lts.Need-add-used-2 (read-choices-claims t) (read-choices-at t) read-choices.Post read-choices-Inv-loop read-choices-μ-loop
-read-choices-add-used-2 t c = omega (arith, c .before .before .before .before .before .before .before .before .before .before .before .before .before .before .before .before .before .before .before .before .pre .1 .0 .moves-indexed .by-state .few, c .before .before .before .before .before .before .before .before .before .before .before .before .before .before .before .before .before .before .before .before .pre .1 .2 .settles .moves-before, length-rowsIn moveRow (c .before .before .before .before .before .before .before .before .before .before .before .before .before .before .before .before .before .before .before .before .args .z .moves) (c .before .before .before .before .before .before .before .before .before .before .before .before .before .before .before .before .before .before .before .before .args .moves .now))
+read-choices-is-newer-requires-2 : (t : ℕ) → read-choices-lts.Need-is-newer-requires-2 (read-choices-claims t) (read-choices-at t) read-choices.Post read-choices-Inv-loop read-choices-μ-loop
+read-choices-is-newer-requires-2 t c κs = search needs
 
-read-choices-used-requires-2 : (t : ℕ) → read-choices-lts.Need-used-requires-2 (read-choices-claims t) (read-choices-at t) read-choices.Post read-choices-Inv-loop read-choices-μ-loop
-read-choices-used-requires-2 t c κs = search needs
+read-choices-join-requires : (t : ℕ) → read-choices-lts.Need-join-requires (read-choices-claims t) (read-choices-at t) read-choices.Post read-choices-Inv-loop read-choices-μ-loop
+read-choices-join-requires t c κs = search needs
 
 read-choices-name-requires : (t : ℕ) → read-choices-lts.Need-name-requires (read-choices-claims t) (read-choices-at t) read-choices.Post read-choices-Inv-loop read-choices-μ-loop
 read-choices-name-requires t c κs = c .before .before .before .before .before .before .before .before .before .before .edge-of .ensures .1
@@ -193,10 +191,10 @@ read-choices-read-edges-requires t c κs =
       (
         c .before .before .before .before .before .before .before .before .before .before .before .before .before .before .before .before .before .before .before .before .before .before .before .before .pre .1 .0,
         record {
-          room = record { room-lent = omega (arith, h .room .room-lent, c .before .before .before .before .before .before .before .before .before .before .before .before .before .before .before .loop .inv .2, c .before .before .before .before .before .before .before .before .before .before .before .before .before .before .before .loop .inv .5); number = omega (arith, c .before .before .before .before .before .before .before .before .before .before .before .before .before .before .before .loop .inv .1 .offered .number, c .before .before .before .before .before .before .before .before .before .before .before .before .before .before .before .loop .inv .5) };
+          stands = record { room-lent = omega (arith, h .stands .room-lent, c .before .before .before .before .before .before .before .before .before .before .before .before .before .before .before .loop .inv .2); number = c .before .before .before .before .before .before .before .before .before .before .before .before .before .before .before .loop .inv .1 .offered .number };
           memo-holds = c .before .before .before .before .before .before .before .before .before .before .before .before .before .before .before .loop .inv .3;
         },
-        held-edge (c .before .before .before .before .before .before .before .before .before .before .before .before .before .before .before .before .before .before .before .before .before .before .before .before .args .z) _ _ _ (c .before .before .before .before .before .before .before .before .before .before .before .before .before .before .before .before .before .before .before .before .before .before .before .before .args .t) _ _ _ _ _ _ _ _ _ _ _ _ (c .before .before .before .before .before .before .before .before .before .before .before .before .before .before .loop-test .taken) (c .before .before .before .before .before .before .before .before .before .before .before .before .before .edge-of .ensures .0) (c .before .before .before .before .before .before .before .before .before .before .if1 .taken) (c .before .before .before .before .before .before .before .before .before .unchanged .ensures _ refl) (c .before .before .before .before .before .before .used .ensures) (c .before .before .before .used2 .ensures) (c .before .before .name .ensures) (c .before .before .before .before .before .slot-joined .ensures) (c .before .before .before .before .before .before .before .before .before .before .before .before .before .before .before .before .before .before .before .before .before .before .before .before .pre .1 .2),
+        held-edge (c .before .before .before .before .before .before .before .before .before .before .before .before .before .before .before .before .before .before .before .before .before .before .before .before .args .z) _ _ _ (c .before .before .before .before .before .before .before .before .before .before .before .before .before .before .before .before .before .before .before .before .before .before .before .before .args .to) _ _ _ _ _ _ _ _ _ _ _ _ _ (c .before .before .before .before .before .before .before .before .before .before .before .before .before .before .loop-test .taken) (c .before .before .before .before .before .before .before .before .before .before .before .before .before .edge-of .ensures .0) (c .before .before .before .before .before .before .before .before .before .before .if1 .taken) (c .before .before .before .before .before .before .before .before .before .unchanged .ensures _ refl) (c .before .before .before .before .before .before .is-newer .ensures) (c .before .before .before .before .is-newer2 .ensures) (c .before .before .name .ensures) (c .before .before .before .join .ensures) (c .before .before .before .before .before .before .before .before .before .before .before .before .before .before .before .before .before .before .before .before .before .before .before .before .pre .1 .2),
       ),
     )
 
@@ -212,23 +210,20 @@ read-choices-loop-again t c =
     let edge = c .before .before .before .edge-of .ensures .0 in ⊎-elim
     (λ w.
     let done = w .11 in
-    let here = in-room (c .before .before .before .before .before .loop .inv .5) (done .ensures .collected) in
-    let long = done .kept .1 .1 .1 .1 .1 .1 .1 .1 .1 .1 .1 .1 .1 .1 .0 in (
+    let long = done .kept .1 .1 .1 .1 .1 .1 .1 .1 .1 .1 .1 .1 .1 .1 .1 .0 in (
       omega (arith, within),
-      edges-yes (c .before .before .before .before .before .before .before .before .before .before .before .before .before .before .args .z) _ _ _ _ _ _ _ _ _ _ _ _ _ _ _ _ _ (c .before .before .before .before .before .loop .inv .1) within edge _ _ _ _ _ _ _ (w .0 .taken) (w .1 .ensures _ refl) (w .8 .ensures) refl
-          (edges-slot _ _ _ _ _ _ _ (w .5 .ensures) (here .0)) long (w .17) (ap (λ (x : Pending). x .count) (w .18)),
+      edges-yes (c .before .before .before .before .before .before .before .before .before .before .before .before .before .before .args .z) _ _ _ _ _ _ _ _ _ _ _ _ _ _ _ _ _ (c .before .before .before .before .before .loop .inv .1) within edge _ _ _ _ _ _ _ (w .0 .taken) (w .1 .ensures _ refl) (w .8 .ensures) (w .7 .ensures)
+          (done .ensures .collects) long (w .17) (w .18),
       ap length (w .17) ∙ long ∙ c .before .before .before .before .before .loop .inv .2,
-      holds-same (done .ensures .memo-holds) (w .16) (w .17) (w .18),
-      ap length (w .16) ∙ done .kept .1 .1 .1 .1 .1 .1 .1 .1 .1 .1 .1 .1 .1 .0 ∙ c .before .before .before .before .before .loop .inv .4,
-      ap (λ (x : Pending). x .room) (w .18) ∙ here .1,
+      memo-same (done .ensures .memo-holds) (w .16) (w .17) (w .18),
+      ap length (w .16) ∙ done .kept .1 .1 .1 .1 .1 .1 .1 .1 .1 .1 .1 .1 .1 .1 .0 ∙ c .before .before .before .before .before .loop .inv .4,
     ))
     (λ w. (
       omega (arith, within),
-      edges-no (c .before .before .before .before .before .before .before .before .before .before .before .before .before .before .args .z) _ _ _ _ _ _ _ _ _ _ _ _ _ _ _ _ _ (c .before .before .before .before .before .loop .inv .1) within edge _ _ (w .0 .left) (w .2) (ap (λ (x : Pending). x .count) (w .3)),
+      edges-no (c .before .before .before .before .before .before .before .before .before .before .before .before .before .before .args .z) _ _ _ _ _ _ _ _ _ _ _ _ _ _ _ _ _ (c .before .before .before .before .before .loop .inv .1) within edge _ _ (w .0 .left) (w .2) (w .3),
       ap length (w .2) ∙ c .before .before .before .before .before .loop .inv .2,
-      holds-same (c .before .before .before .before .before .loop .inv .3) (w .1) (w .2) (w .3),
+      memo-same (c .before .before .before .before .before .loop .inv .3) (w .1) (w .2) (w .3),
       ap length (w .1) ∙ c .before .before .before .before .before .loop .inv .4,
-      ap (λ (x : Pending). x .room) (w .3) ∙ c .before .before .before .before .before .loop .inv .5,
     ))
     (c .if1 .came)
 
@@ -239,7 +234,7 @@ read-choices-same-length-2 : (t : ℕ) → read-choices-lts.Need-same-length-2 (
 read-choices-same-length-2 t c = c .before .loop .inv .2
 
 read-choices-returns : (t : ℕ) → read-choices-lts.Need-returns (read-choices-claims t) (read-choices-at t) read-choices.Post read-choices-Inv-loop read-choices-μ-loop
-read-choices-returns t c = record { collected = collected-by (edges-all (c .before .before .before .before .before .before .before .before .before .before .args .z) _ _ _ _ _ _ _ _ _ _ _ _ _ _ _ _ (c .before .loop .inv .1) (c .loop-test .left)) (c .before .loop .inv .5); memo-holds = c .before .loop .inv .3 }
+read-choices-returns t c = record { collects = edges-all (c .before .before .before .before .before .before .before .before .before .before .args .z) _ _ _ _ _ _ _ _ _ _ _ _ _ _ _ _ (c .before .loop .inv .1) (c .loop-test .left); memo-holds = c .before .loop .inv .3 }
 
 -- what the callees of read_edges require and ensure
 abbrev read-edges-claims : ℕ → read-edges-lts.Claims
@@ -251,28 +246,28 @@ read-edges-claims t = (
 )
 
 read-edges-returns : (t : ℕ) → read-edges-lts.Need-returns (read-edges-claims t) (read-edges-at t) read-edges.Post
-read-edges-returns t c = nothing-collected _ _ _ _ (c .before .before .before .before .before .before .before .before .before .pre .1 .1) _ (collects-over _ _ _ (c .before .before .before .before .before .before .before .before .before .pre .1 .1 .room .number) (c .if1 .taken))
+read-edges-returns t c = nothing-collected _ _ _ _ _ _ (c .before .before .before .before .before .before .before .before .before .pre .1 .1) (collects-over _ _ _ (c .before .before .before .before .before .before .before .before .before .pre .1 .1 .stands .number) (c .if1 .taken))
 
 read-edges-read-from-requires : (t : ℕ) → read-edges-lts.Need-read-from-requires (read-edges-claims t) (read-edges-at t) read-edges.Post
-read-edges-read-from-requires t c κs = (c .before .before .before .before .before .before .before .before .before .before .before .before .pre .1 .0 .moves-indexed, can-read (c .before .before .before .before .before .before .before .before .before .before .before .before .args .z) _ _ _ _ _ _ (c .before .before .before .before .before .before .before .before .before .before .before .before .pre .1 .1), held-table (c .before .before .before .before .before .before .before .before .before .before .before .before .args .z) _ _ _ _ _ _ (reads-alone _ _ _) (held-end _ _ _ _ _ _ (c .before .before .before .before .before .before .before .before .before .before .before .before .pre .1 .2) (c .before .before .if2 .taken)))
+read-edges-read-from-requires t c κs = (c .before .before .before .before .before .before .before .before .before .before .before .before .pre .1 .0 .moves-indexed, can-read (c .before .before .before .before .before .before .before .before .before .before .before .before .args .z) _ _ _ _ _ _ _ (c .before .before .before .before .before .before .before .before .before .before .before .before .pre .1 .1), held-table (c .before .before .before .before .before .before .before .before .before .before .before .before .args .z) _ _ _ (c .before .before .before .before .before .before .before .before .before .before .before .before .args .to) _ _ (reads-alone (c .before .before .before .before .before .before .before .before .before .before .before .before .args .to) _ _ _) (held-end _ (c .before .before .before .before .before .before .before .before .before .before .before .before .args .to) _ _ _ _ _ (c .before .before .before .before .before .before .before .before .before .before .before .before .pre .1 .2) (c .before .before .if2 .taken)))
 
 read-edges-same-length : (t : ℕ) → read-edges-lts.Need-same-length (read-edges-claims t) (read-edges-at t) read-edges.Post
-read-edges-same-length t c = c .before .before .before .before .read-from .kept .1 .1 .1 .1 .1 .1 .1 .1 .1 .1 .1 .0
+read-edges-same-length t c = c .before .before .before .before .read-from .kept .1 .1 .1 .1 .1 .1 .1 .1 .1 .1 .1 .1 .0
 
 read-edges-same-length-2 : (t : ℕ) → read-edges-lts.Need-same-length-2 (read-edges-claims t) (read-edges-at t) read-edges.Post
-read-edges-same-length-2 t c = c .before .before .before .before .read-from .kept .1 .1 .1 .1 .1 .1 .1 .1 .1 .1 .1 .1 .0
+read-edges-same-length-2 t c = c .before .before .before .before .read-from .kept .1 .1 .1 .1 .1 .1 .1 .1 .1 .1 .1 .1 .1 .0
 
 read-edges-returns-2 : (t : ℕ) → read-edges-lts.Need-returns-2 (read-edges-claims t) (read-edges-at t) read-edges.Post
-read-edges-returns-2 t c = all-end _ _ _ _ _ _ _ _ _ _ (c .before .before .before .before .before .before .before .if2 .taken) (read-collected (c .before .before .before .before .before .before .before .before .before .before .before .before .before .before .before .before .before .args .z) _ _ _ _ _ _ (c .before .before .before .before .before .before .before .before .before .before .before .before .before .before .before .before .before .pre .1 .1) _ _ _ _ (reads-alone _ _ _) (c .before .before .before .before .read-from .ensures))
+read-edges-returns-2 t c = all-end _ _ _ _ _ _ _ (c .before .before .before .before .before .before .before .before .before .before .before .before .before .before .before .before .before .args .to) _ _ _ _ (c .before .before .before .before .before .before .before .if2 .taken) (read-collected (c .before .before .before .before .before .before .before .before .before .before .before .before .before .before .before .before .before .args .z) _ _ _ _ _ _ _ (c .before .before .before .before .before .before .before .before .before .before .before .before .before .before .before .before .before .pre .1 .1) _ _ _ _ (reads-alone (c .before .before .before .before .before .before .before .before .before .before .before .before .before .before .before .before .before .args .to) _ _ _) (c .before .before .before .before .read-from .ensures))
 
 read-edges-choose-left-requires : (t : ℕ) → read-edges-lts.Need-choose-left-requires (read-edges-claims t) (read-edges-at t) read-edges.Post
 read-edges-choose-left-requires t c κs = (omega (arith, c .before .before .before .before .before .before .before .before .before .before .before .before .pre .0), (c .before .before .before .before .before .before .before .before .before .before .before .before .pre .1 .0, c .before .before .before .before .before .before .before .before .before .before .before .before .pre .1 .1, omega (arith, c .before .before .if2 .left), c .before .before .before .before .before .before .before .before .before .before .before .before .pre .1 .2))
 
 read-edges-same-length-3 : (t : ℕ) → read-edges-lts.Need-same-length-3 (read-edges-claims t) (read-edges-at t) read-edges.Post
-read-edges-same-length-3 t c = c .before .before .before .before .choose-left .kept .1 .1 .1 .1 .1 .1 .1 .1 .1 .1 .1 .1 .1 .0
+read-edges-same-length-3 t c = c .before .before .before .before .choose-left .kept .1 .1 .1 .1 .1 .1 .1 .1 .1 .1 .1 .1 .1 .1 .0
 
 read-edges-same-length-4 : (t : ℕ) → read-edges-lts.Need-same-length-4 (read-edges-claims t) (read-edges-at t) read-edges.Post
-read-edges-same-length-4 t c = c .before .before .before .before .choose-left .kept .1 .1 .1 .1 .1 .1 .1 .1 .1 .1 .1 .1 .1 .1 .0
+read-edges-same-length-4 t c = c .before .before .before .before .choose-left .kept .1 .1 .1 .1 .1 .1 .1 .1 .1 .1 .1 .1 .1 .1 .1 .0
 
 read-edges-returns-3 : (t : ℕ) → read-edges-lts.Need-returns-3 (read-edges-claims t) (read-edges-at t) read-edges.Post
 read-edges-returns-3 t c = c .before .before .before .before .choose-left .ensures
@@ -296,11 +291,11 @@ pub +choose-left+read-choices+read-edges-spec : {M : Type 1} → statement M
     (read-choices-loop-holds t)
     (read-choices-edge-of-requires t)
     (read-choices-unchanged-requires t)
-    (read-choices-add-used t)
-    (read-choices-used-requires t)
-    (read-choices-slot-joined-requires t)
-    (read-choices-add-used-2 t)
-    (read-choices-used-requires-2 t)
+    (read-choices-add-is-newer t)
+    (read-choices-is-newer-requires t)
+    (read-choices-add-is-newer-2 t)
+    (read-choices-is-newer-requires-2 t)
+    (read-choices-join-requires t)
     (read-choices-name-requires t)
     (read-choices-read-edges-requires t)
     (read-choices-add-i t)

@@ -18,7 +18,7 @@ use Rattle.tables.specs.declared.Table.{Table}
 use Rattle.tables.specs.Held.{automatonOf, edgesIn}
 use Rattle.offers.specs.Offers.{Collects}
 use Rattle.offers.specs.Offers.Laws.{OfferedBelow, passed-none, passed-more, passed-all, collects-same, collects-none}
-use Rattle.readings.specs.Readings.{readResults, edgeResults, slotJoined, readsTo, edgesTo}
+use Rattle.readings.specs.Readings.{readResults, edgeResults, readsTo, edgesTo}
 use Rattle.offers.specs.Offers.Alike.{covered-in, collects-alike}
 use Rattle.tables.specs.Rows.{rowsIn}
 use Rattle.tables.specs.Rows.Laws.{length-rowsIn}
@@ -26,9 +26,8 @@ use Rattle.tables.specs.Layouts.{edgeRow}
 use Rattle.tables.specs.Held.Laws.{length-edgesIn}
 use Rattle.choices.specs.Unchanged.{Unchanged}
 use Rattle.readings.specs.declared.Before.{Before}
-use Rattle.readings.specs.declared.Slot.{Slot}
-use Rattle.readings.specs.Before.{tableBefore, usedBy, Known, HeldBefore}
-use Rattle.readings.specs.Before.Laws.{settles-used}
+use Rattle.readings.specs.declared.Goal.{Goal}
+use Rattle.readings.specs.Before.{tableBefore, Known, HeldBefore}
 use Rattle.edge_readings.specs.Naming.{namedWith}
 use Rattle.edge_readings.specs.Naming.Laws.{named-less, named-more, known-edge}
 use Rattle.edge_readings.specs.Edges.{edgesTest}
@@ -105,11 +104,6 @@ known-by z inner entries moves w p a j q qs N S i c N′ S′ e new newer newest
     (subst (λ (x : Edge). Unchanged A (x .first) a j c) f u)
     (d ∙ ap (λ (x : ℕ). new || leb (x + w .entries) i) (sym rows)) g k)
 
--- the entry whose set is joined
-pub edges-slot : (A : Automaton) (to to′ : Slot) (j : Joins) (qs : List ℕ) (N S : ℕ) {room n k : ℕ} {t t′ : List ℕ} → to′ ≡ slotJoined to S → Collects A room n t (edgesTo to′ j qs N A) k t′
-    → Collects A room n t (edgeResults A (to .control) (to .symbol) j qs N (join (to .s) S)) k t′
-edges-slot A to to′ j qs N S e c = collects-same (ap (λ (x : Slot). edgesTo x j qs N A) e) c
-
 -- no state is left
 pub edges-end : (A : Automaton) (p a : ℕ) (j : Joins) (N S left : ℕ) → left ≡ 0 → readResults A p a S (members N) j ≡ edgeResults A p a j (members left) N S
 unfolding edgeResults
@@ -131,27 +125,22 @@ module _ (A E : Automaton) (p a : ℕ) (j : Joins) (N S left : ℕ) (new : Bool)
 
 -- ---- what is held, handed on
 
-module _ (A : Automaton) (t : Before) (to : Slot) (j : Joins) (N left : ℕ) (h : HeldBefore A t (to .symbol) (edgesTo to j (members left) N)) where
+module _ (A : Automaton) (to : Goal) (S : ℕ) (new : Bool) (j : Joins) (N left : ℕ) (h : HeldBefore A to new (edgesTo to S j (members left) N)) where
   -- the first of the states left first
-  pub held-first : (q : ℕ) (qs : List ℕ) → members left ≡ q ∷ qs → HeldBefore A t (to .symbol) (edgesTo to j (q ∷ qs) N)
-  held-first q qs e = record { settles = h .settles; known = known-left A (tableBefore t A) (to .control) (to .symbol) j N (to .s) left (t .new) q qs e (h .known) }
+  pub held-first : (q : ℕ) (qs : List ℕ) → members left ≡ q ∷ qs → HeldBefore A to new (edgesTo to S j (q ∷ qs) N)
+  held-first q qs e = record { settles = h .settles; known = known-left A (tableBefore (to .before) A) (to .control) (to .symbol) j N S left new q qs e (h .known) }
 
   -- where no state is left
-  pub held-end : left ≡ 0 → HeldBefore A t (to .symbol) (readsTo to (members N) j)
-  held-end e = record { settles = h .settles; known = known-end A (tableBefore t A) (to .control) (to .symbol) j N (to .s) left (t .new) e (h .known) }
+  pub held-end : left ≡ 0 → HeldBefore A to new (readsTo to S (members N) j)
+  held-end e = record { settles = h .settles; known = known-end A (tableBefore (to .before) A) (to .control) (to .symbol) j N S left new e (h .known) }
 
 -- by edge i of state q
-pub held-edge : (z : Table) (inner entries moves : List ℕ) (t : Before) (to : Slot) (j : Joins) (q : ℕ) (qs : List ℕ) (N i c N′ : ℕ) (e : Edge) (to′ : Slot) (t′ t″ : Before)
+pub held-edge : (z : Table) (inner entries moves : List ℕ) (to : Goal) (S : ℕ) (j : Joins) (q : ℕ) (qs : List ℕ) (N i c N′ S′ : ℕ) (e : Edge) (new newer newest : Bool)
     → i < z .edges + z .entries → e ≡ getD (edgesIn z inner entries) i noEdge → e .state ≡ q → Unchanged (automatonOf z inner entries moves) (e .first) (to .symbol) j c
-    → t′ ≡ usedBy t (z .edges + t .entries) i → t″ ≡ usedBy t′ (t .moves + 1) c → N′ ≡ namedWith N (e .first) c → to′ ≡ slotJoined to (e .S)
-    → HeldBefore (automatonOf z inner entries moves) t (to .symbol) (edgesTo to j (q ∷ qs) N)
-    → HeldBefore (automatonOf z inner entries moves) t″ (to′ .symbol) (edgesTo to′ j qs N′)
-held-edge z inner entries moves t to j q qs N i c N′ e to′ t′ t″ b f y u d g en es h =
-    let A : Automaton = automatonOf z inner entries moves in
-    let t₁ : Before = usedBy t (z .edges + t .entries) i in
-    let t₂ : Before = usedBy t₁ (t .moves + 1) c in
-    let both : t″ ≡ t₂ = g ∙ ap (λ (x : Before). usedBy x (t .moves + 1) c) d in
-    rw (both, es) (record {
-      settles = settles-used A t₁ (to .symbol) (t .moves + 1) c (settles-used A t (to .symbol) (z .edges + t .entries) i (h .settles));
-      known = known-by z inner entries moves t (to .control) (to .symbol) j q qs N (to .s) i c N′ (join (to .s) (e .S)) e (t .new) (t₁ .new) (t₂ .new) b f y u refl refl en refl (h .known);
-    })
+    → newer ≡ new || leb (z .edges + to .before .entries) i → newest ≡ newer || leb (to .before .moves + 1) c → N′ ≡ namedWith N (e .first) c → S′ ≡ join S (e .S)
+    → HeldBefore (automatonOf z inner entries moves) to new (edgesTo to S j (q ∷ qs) N) → HeldBefore (automatonOf z inner entries moves) to newest (edgesTo to S′ j qs N′)
+held-edge z inner entries moves to S j q qs N i c N′ S′ e new newer newest b f y u d g en es h =
+    record {
+      settles = h .settles;
+      known = known-by z inner entries moves (to .before) (to .control) (to .symbol) j q qs N S i c N′ S′ e new newer newest b f y u d g en es (h .known);
+    }

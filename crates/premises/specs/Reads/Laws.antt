@@ -2,7 +2,7 @@
 -- Assumes nothing.
 use Prim.Native.Nat.{ℕ}
 use mathlib.Core.Bool.{Bool, true, false}
-use mathlib.Core.Path.{_≡_, refl, ap, sym, _∙_, subst}
+use mathlib.Core.Path.{_≡_, refl, ap, sym, _∙_}
 use mathlib.Core.List.{List, [], _∷_}
 use native.Mathlib.Omega.{arith}
 use Rattle.words.specs.Sets.{join, members}
@@ -13,12 +13,9 @@ use Rattle.tables.specs.declared.Table.{Table}
 use Rattle.tables.specs.declared.Result.{Result as ResultWords}
 use Rattle.tables.specs.Records.{asResult}
 use Rattle.joins.specs.Joining.{theJoins}
-use Rattle.offers.specs.declared.Pending.{Pending}
-use Rattle.readings.specs.declared.Before.{Before}
 use Rattle.readings.specs.declared.Goal.{Goal}
-use Rattle.readings.specs.declared.Slot.{Slot}
 use Rattle.readings.specs.Before.{HeldBefore}
-use Rattle.readings.specs.Readings.{theResult, slotOf, readsTo, edgesTo, ByMoves}
+use Rattle.readings.specs.Readings.{theResult, readsTo, edgesTo, ByMoves}
 use Rattle.readings.specs.Readings.Inner.{reads-alone}
 use Rattle.readings.specs.Gathering.{ReadsAll, CollectsAll}
 use Rattle.readings.specs.Gathering.Laws.{held-same, reads-all-same, collects-all-same}
@@ -39,14 +36,12 @@ pushIn (Rest push) = push
 pushIn Edges = record { order = 0; s = 0; rest = 0 }
 
 module _ (to : Goal) (S : ℕ) (m : Move) (A : Automaton) where
-  pub by-nothing : (k : MoveUse) (at : Slot) (x : ResultWords) → readsOf k S m ≡ Nothing → at ≡ slotOf to S → x ≡ theResult (at .control) (at .s) (at .symbol) (m .order) (m .B) (m .R)
-      → asResult x ∷ [] ≡ premiseGives to k S m A
+  pub by-nothing : (k : MoveUse) (x : ResultWords) → readsOf k S m ≡ Nothing → x ≡ theResult (to .control) S (to .symbol) (m .order) (m .B) (m .R) → asResult x ∷ [] ≡ premiseGives to k S m A
   unfolding readsOf premiseResults
-  by-nothing Rewritten at x e g f =
-      ap (λ (y : ResultWords). asResult y ∷ []) f ∙ ap (λ (y : Slot). asResult (theResult (y .control) (y .s) (y .symbol) (m .order) (m .B) (m .R)) ∷ []) g
-  by-nothing Pushed1 at x e g f = let z : _≡_ {A = ℕ} 0 1 = cc in absurd (omega arith)
-  by-nothing Pushed2 at x e g f = let z : _≡_ {A = ℕ} 0 1 = cc in absurd (omega arith)
-  by-nothing Copied at x e g f = let z : _≡_ {A = ℕ} 0 1 = cc in absurd (omega arith)
+  by-nothing Rewritten x e f = ap (λ (y : ResultWords). asResult y ∷ []) f
+  by-nothing Pushed1 x e f = let z : _≡_ {A = ℕ} 0 1 = cc in absurd (omega arith)
+  by-nothing Pushed2 x e f = let z : _≡_ {A = ℕ} 0 1 = cc in absurd (omega arith)
+  by-nothing Copied x e f = let z : _≡_ {A = ℕ} 0 1 = cc in absurd (omega arith)
 
   pub by-rest : (k : MoveUse) (push : Push) → readsOf k S m ≡ Rest push → pushGives to push m A ≡ premiseGives to k S m A
   unfolding readsOf premiseResults pushGives pushIn
@@ -63,16 +58,17 @@ module _ (to : Goal) (S : ℕ) (m : Move) (A : Automaton) where
   by-edges Copied e = refl
 
 module _ (to : Goal) (S : ℕ) (m : Move) (k : MoveUse) where
-  pub rest-held : (push : Push) → readsOf k S m ≡ Rest push → (A : Automaton) (t : Before) → HeldBefore A t (to .symbol) (premiseGives to k S m) → HeldBefore A t (to .symbol) (pushGives to push m)
-  rest-held push e A t h = held-same (premiseGives to k S m) (pushGives to push m) (sym (by-rest to S m _ k push e)) h
+  pub rest-held : (push : Push) → readsOf k S m ≡ Rest push → (A : Automaton) (new : Bool) → HeldBefore A to new (premiseGives to k S m) → HeldBefore A to new (pushGives to push m)
+  rest-held push e A new h = held-same (premiseGives to k S m) (pushGives to push m) (sym (by-rest to S m _ k push e)) h
 
-  pub rest-collected : (push : Push) → readsOf k S m ≡ Rest push → (A : Automaton) {n r : Pending} {t t′ memo : List ℕ} → CollectsAll A n t (pushGives to push m) r t′ memo → CollectsAll A n t (premiseGives to k S m) r t′ memo
+  pub rest-collected : (push : Push) → readsOf k S m ≡ Rest push → (A : Automaton) {room n r : ℕ} {t t′ memo : List ℕ} → CollectsAll A room n t (pushGives to push m) r t′ memo
+      → CollectsAll A room n t (premiseGives to k S m) r t′ memo
   rest-collected push e A c = collects-all-same (pushGives to push m) (premiseGives to k S m) (by-rest to S m A k push e) c
 
-  pub edges-held : readsOf k S m ≡ Edges → (A : Automaton) (t : Before) → HeldBefore A t (to .symbol) (premiseGives to k S m) → HeldBefore A t (to .symbol) (copyGives to S m)
-  edges-held e A t h = held-same (premiseGives to k S m) (copyGives to S m) (sym (by-edges to S m _ k e)) h
+  pub edges-held : readsOf k S m ≡ Edges → (A : Automaton) (new : Bool) → HeldBefore A to new (premiseGives to k S m) → HeldBefore A to new (copyGives to S m)
+  edges-held e A new h = held-same (premiseGives to k S m) (copyGives to S m) (sym (by-edges to S m _ k e)) h
 
-  pub edges-collected : readsOf k S m ≡ Edges → (A : Automaton) {n r : Pending} {t t′ memo : List ℕ} → CollectsAll A n t (copyGives to S m) r t′ memo → CollectsAll A n t (premiseGives to k S m) r t′ memo
+  pub edges-collected : readsOf k S m ≡ Edges → (A : Automaton) {room n r : ℕ} {t t′ memo : List ℕ} → CollectsAll A room n t (copyGives to S m) r t′ memo → CollectsAll A room n t (premiseGives to k S m) r t′ memo
   edges-collected e A c = collects-all-same (copyGives to S m) (premiseGives to k S m) (by-edges to S m A k e) c
 
 -- ---- in the code
@@ -98,42 +94,33 @@ module _ (k : MoveUse) (S : ℕ) (m : Move) where
 
 pub push-alone : (to : Goal) (push : Push) (m : Move) → ByMoves (pushGives to push m)
 unfolding pushGives
-push-alone to push m A B e =
-    ap (when (orderFits (push .order) m)) (reads-alone (slotOf to (push .s)) (members (m .R)) (theJoins 0 0 (push .rest)) A B e)
+push-alone to push m A B e = ap (when (orderFits (push .order) m)) (reads-alone to (push .s) (members (m .R)) (theJoins 0 0 (push .rest)) A B e)
 
 module _ (to : Goal) (push : Push) (m : Move) (fits : Bool) (f : fits ≡ orderFits (push .order) m) where
   -- a push that does not fit gives nothing
   pub push-none : fits ≡ false → (A : Automaton) → [] ≡ pushGives to push m A
   unfolding pushGives when
-  push-none g A = ap (λ (x : Bool). when x (readsTo (slotOf to (push .s)) (members (m .R)) (theJoins 0 0 (push .rest)) A)) (sym g ∙ f)
+  push-none g A = ap (λ (x : Bool). when x (readsTo to (push .s) (members (m .R)) (theJoins 0 0 (push .rest)) A)) (sym g ∙ f)
 
-  module _ (g : fits ≡ true) (at : Slot) (e : at ≡ slotOf to (push .s)) where
-    push-reads : (A : Automaton) → readsTo at (members (m .R)) (theJoins 0 0 (push .rest)) A ≡ pushGives to push m A
+  module _ (g : fits ≡ true) where
+    push-reads : (A : Automaton) → readsTo to (push .s) (members (m .R)) (theJoins 0 0 (push .rest)) A ≡ pushGives to push m A
     unfolding pushGives when
-    push-reads A =
-        ap (λ (x : Slot). readsTo x (members (m .R)) (theJoins 0 0 (push .rest)) A) e
-        ∙ ap (λ (x : Bool). when x (readsTo (slotOf to (push .s)) (members (m .R)) (theJoins 0 0 (push .rest)) A)) (sym g ∙ f)
+    push-reads A = ap (λ (x : Bool). when x (readsTo to (push .s) (members (m .R)) (theJoins 0 0 (push .rest)) A)) (sym g ∙ f)
 
-    pub push-held : (A : Automaton) (t : Before) → HeldBefore A t (to .symbol) (pushGives to push m) → HeldBefore A t (at .symbol) (readsTo at (members (m .R)) (theJoins 0 0 (push .rest)))
-    push-held A t h =
-        subst (λ (a : ℕ). HeldBefore A t a (readsTo at (members (m .R)) (theJoins 0 0 (push .rest)))) (sym (ap (λ (x : Slot). x .symbol) e))
-        (held-same (pushGives to push m) (readsTo at (members (m .R)) (theJoins 0 0 (push .rest))) (sym (push-reads _)) h)
+    pub push-held : (A : Automaton) (new : Bool) → HeldBefore A to new (pushGives to push m) → HeldBefore A to new (readsTo to (push .s) (members (m .R)) (theJoins 0 0 (push .rest)))
+    push-held A new h = held-same (pushGives to push m) (readsTo to (push .s) (members (m .R)) (theJoins 0 0 (push .rest))) (sym (push-reads _)) h
 
-    pub push-read : (z : Table) (entries moves : List ℕ) {n r : Pending} {t t′ memo memo′ : List ℕ} → ReadsAll z entries moves n t memo (readsTo at (members (m .R)) (theJoins 0 0 (push .rest))) r t′ memo′
-        → ReadsAll z entries moves n t memo (pushGives to push m) r t′ memo′
-    push-read z entries moves c = reads-all-same (readsTo at (members (m .R)) (theJoins 0 0 (push .rest))) (pushGives to push m) z entries moves (push-reads _) c
+    pub push-read : (z : Table) (entries moves : List ℕ) {room n r : ℕ} {t t′ memo memo′ : List ℕ} → ReadsAll z entries moves room n t memo (readsTo to (push .s) (members (m .R)) (theJoins 0 0 (push .rest))) r t′ memo′
+        → ReadsAll z entries moves room n t memo (pushGives to push m) r t′ memo′
+    push-read z entries moves c = reads-all-same (readsTo to (push .s) (members (m .R)) (theJoins 0 0 (push .rest))) (pushGives to push m) z entries moves (push-reads _) c
 
 -- ---- copies
 
-module _ (to : Goal) (S : ℕ) (m : Move) (at : Slot) (e : at ≡ slotOf to 0) where
-  copy-reads : (A : Automaton) → edgesTo at (joinsOf m) (members S) 0 A ≡ copyGives to S m A
+module _ (to : Goal) (S : ℕ) (m : Move) where
+  pub copy-held : (A : Automaton) (new : Bool) → HeldBefore A to new (copyGives to S m) → HeldBefore A to new (edgesTo to 0 (joinsOf m) (members S) 0)
   unfolding copyGives
-  copy-reads A = ap (λ (x : Slot). edgesTo x (joinsOf m) (members S) 0 A) e
+  copy-held A new h = held-same (copyGives to S m) (edgesTo to 0 (joinsOf m) (members S) 0) refl h
 
-  pub copy-held : (A : Automaton) (t : Before) → HeldBefore A t (to .symbol) (copyGives to S m) → HeldBefore A t (at .symbol) (edgesTo at (joinsOf m) (members S) 0)
-  copy-held A t h =
-      subst (λ (a : ℕ). HeldBefore A t a (edgesTo at (joinsOf m) (members S) 0)) (sym (ap (λ (x : Slot). x .symbol) e))
-      (held-same (copyGives to S m) (edgesTo at (joinsOf m) (members S) 0) (sym (copy-reads _)) h)
-
-  pub copy-collected : (A : Automaton) {n r : Pending} {t t′ memo : List ℕ} → CollectsAll A n t (edgesTo at (joinsOf m) (members S) 0) r t′ memo → CollectsAll A n t (copyGives to S m) r t′ memo
-  copy-collected A c = collects-all-same (edgesTo at (joinsOf m) (members S) 0) (copyGives to S m) (copy-reads A) c
+  pub copy-collected : (A : Automaton) {room n r : ℕ} {t t′ memo : List ℕ} → CollectsAll A room n t (edgesTo to 0 (joinsOf m) (members S) 0) r t′ memo → CollectsAll A room n t (copyGives to S m) r t′ memo
+  unfolding copyGives
+  copy-collected A c = collects-all-same (edgesTo to 0 (joinsOf m) (members S) 0) (copyGives to S m) refl c

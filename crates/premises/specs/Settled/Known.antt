@@ -2,12 +2,12 @@
 -- Assumes nothing.
 use Prim.Native.Nat.{ℕ, _<_}
 use mathlib.Core.Bool.{Bool, true, _&&_}
-use mathlib.Core.Path.{_≡_, refl, ap, ap₂, sym, _∙_, subst}
+use mathlib.Core.Path.{_≡_, ap, ap₂, sym, _∙_, subst}
 use mathlib.Core.List.{List, [], List·Memᴰ}
 use native.Mathlib.Omega.{arith}
 use lib.ListN.{length, getD}
-use lib.Dec.{eqb}
-use borrow.Author.Tests.{eq-eqb}
+use lib.Dec.{eqb, leb}
+use borrow.Author.Tests.{eq-eqb, leb-false}
 use Rattle.words.specs.Lists.Laws.{each-in, places-in}
 use Rattle.automata.specs.Automaton.{Automaton, Move, noMove, moveAt, entryAt, entryOf, entrySet}
 use Rattle.automata.specs.Derivation.{controlMoves}
@@ -20,8 +20,7 @@ use Rattle.tables.specs.Held.Laws.{row-move}
 use Rattle.offers.specs.Offers.{AllHeld}
 use Rattle.readings.specs.declared.Before.{Before}
 use Rattle.readings.specs.declared.Goal.{Goal}
-use Rattle.readings.specs.Before.{tableBefore, usedBy, HeldBefore}
-use Rattle.readings.specs.Before.Laws.{newer-no, settles-used}
+use Rattle.readings.specs.Before.{tableBefore, HeldBefore}
 use Rattle.premises.specs.declared.MoveUse.{MoveUse}
 use Rattle.premises.specs.declared.Source.{Source}
 use Rattle.premises.specs.Premises.{premiseResults, movesResults, premiseGives}
@@ -57,27 +56,26 @@ module _ (z : Table) (inner entries moves : List ℕ) (p a : ℕ) (k : MoveUse) 
       let len : length (rowsIn moveRow (z .moves) moves) ≡ z .moves = length-rowsIn moveRow (z .moves) moves in
       places-in (λ m. eqb (m .symbol) b && entryOf (automatonOf z inner entries moves) q (m .state)) (rowsIn moveRow (z .moves) moves) noMove i (omega arith) h
 
-module _ (z : Table) (inner entries moves : List ℕ) (t : Before) (to : Goal) (from : Source) (s : SourceHeld (automatonOf z inner entries moves) t to from) where
+module _ (z : Table) (inner entries moves : List ℕ) (to : Goal) (from : Source) (s : SourceHeld (automatonOf z inner entries moves) to from) where
   -- move i as a premise, where it passes the code's tests
-  pub held-premise : (i : ℕ) (m : Move) (of : Bool) (S : ℕ) (t′ : Before) → i < z .moves → m ≡ rowAt moveRow moves i → m .symbol ≡ from .symbol
-      → of ≡ entryOf (tableOf z entries []) (from .control) (m .state) → of ≡ true → S ≡ entrySet (tableOf z entries []) (m .state) → t′ ≡ usedBy t (t .moves) i
-      → HeldBefore (automatonOf z inner entries moves) t′ (to .symbol) (premiseGives to (from .kind) S m)
+  pub held-premise : (i : ℕ) (m : Move) (of new : Bool) (S : ℕ) → i < z .moves → m ≡ rowAt moveRow moves i → m .symbol ≡ from .symbol
+      → of ≡ entryOf (tableOf z entries []) (from .control) (m .state) → of ≡ true → S ≡ entrySet (tableOf z entries []) (m .state) → new ≡ leb (to .before .moves) i
+      → HeldBefore (automatonOf z inner entries moves) to new (premiseGives to (from .kind) S m)
   unfolding entryOf entrySet entryAt
-  held-premise i m of S t′ l r y g o d u =
+  held-premise i m of new S l r y g o d u =
       let A : Automaton = automatonOf z inner entries moves in
       let p = to .control in let a = to .symbol in let k = from .kind in let b = from .symbol in let q = from .control in
       let same : m ≡ moveAt A i = row-move z inner entries moves i m l r in
       let test : controlTest z inner entries moves p a k b q m ≡ true = ap₂ _&&_ (eq-eqb (m .symbol) b y) (sym g ∙ o) in
-      rw u
-      (record {
-        settles = settles-used A t a (t .moves) i (s .settles);
+      record {
+        settles = s .settles;
         known = record {
           known = λ f.
-              let (_, old) = newer-no (t .new) (t .moves) i _ refl f in
+              let old : i < to .before .moves = leb-false (to .before .moves) i (sym u ∙ f) in
               let row : controlTest z inner entries moves p a k b q (getD (rowsIn moveRow (z .moves) moves) i noMove) ≡ true =
               ap (controlTest z inner entries moves p a k b q) (getD-rowsIn moveRow (z .moves) moves i noMove l ∙ sym r) ∙ test in
               rw d
-              (subst (λ (n : Move). AllHeld A (premiseResults (tableBefore t A) p a k (entrySet A (n .state)) n)) (sym same)
-              (premise-known A t p a k b q (s .settled-by) i old (there z inner entries moves p a k b q i l row)));
+              (subst (λ (n : Move). AllHeld A (premiseResults (tableBefore (to .before) A) p a k (entrySet A (n .state)) n)) (sym same)
+              (premise-known A (to .before) p a k b q (s .settled-by) i old (there z inner entries moves p a k b q i l row)));
         };
-      })
+      }

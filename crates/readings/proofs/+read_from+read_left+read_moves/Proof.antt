@@ -12,12 +12,11 @@ use Rattle.tables.specs.Held.{tableOf}
 use Rattle.chains.specs.Chains.{lastBelow}
 use Rattle.move_index.specs.Keys.{stateKey, stateKeyAt}
 use Rattle.joins.specs.Joining.{theJoins, asJoined}
-use Rattle.offers.specs.declared.Pending.{Pending}
 use Rattle.offers.specs.Offers.Laws.{collects-over}
 use Rattle.offers.specs.Offers.Alike.{collects-all-held}
 use Rattle.readings.specs.Before.Laws.{held-settled, held-apart, held-move}
 use Rattle.readings.specs.Gathering.{MemoKept}
-use Rattle.readings.specs.Gathering.Laws.{in-room, collected-by, offer-read, nothing-read, read-found, read-first, read-noted, kept-on, kept-same}
+use Rattle.readings.specs.Gathering.Laws.{offer-read, nothing-read, read-found, read-first, read-noted, kept-on, kept-same}
 use Rattle.readings.specs.Turns.{OnChain, ReadDownTo}
 use Rattle.readings.specs.Turns.Laws.{down-none, down-yes, down-no, down-all, chain-starts, chain-goes, candidate-there, read-end, fewer-others}
 use borrow.Author.Needs.{needs}
@@ -45,19 +44,19 @@ use Rattle.move_index.proofs.state_key.Reads as state-key-reads
 use Rattle.chains.proofs.last.Reads as last-reads
 use Rattle.tables.proofs.move_at.Reads as move-at-reads
 use Rattle.joins.proofs.candidate.Reads as candidate-reads
-use Rattle.readings.proofs.used.Reads as used-reads
+use Rattle.readings.proofs.is_newer.Reads as is-newer-reads
 use Rattle.chains.proofs.before.Reads as before-reads
 use Rattle.readings.proofs.+read_from+read_left+read_moves.{statement}
 use Rattle.readings.proofs.+read_from+read_left+read_moves.Tie.{close}
 
 abbrev μ-read-from : Measures 6 read-from-kinds.ps ℕ
-μ-read-from κs a = length (members (a .1 .1 .1 .1 .1 .1 .1 .0)) * 3 + 2
+μ-read-from κs a = length (members (a .1 .1 .1 .1 .1 .1 .1 .1 .0)) * 3 + 2
 
 abbrev μ-read-left : Measures 6 read-left-kinds.ps ℕ
-μ-read-left κs a = length (members (a .1 .1 .1 .1 .1 .1 .1 .0)) * 3 + 1
+μ-read-left κs a = length (members (a .1 .1 .1 .1 .1 .1 .1 .1 .0)) * 3 + 1
 
 abbrev μ-read-moves : Measures 6 read-moves-kinds.ps ℕ
-μ-read-moves κs a = length (members (a .1 .1 .1 .1 .1 .1 .1 .0 .others)) * 3 + 3
+μ-read-moves κs a = length (members (a .1 .1 .1 .1 .1 .1 .1 .1 .0 .others)) * 3 + 3
 
 abbrev read-from-at : ℕ → In 6 read-from-kinds.ps
 read-from-at t = and 6 read-from-kinds.ps (is 6 read-from-kinds.ps μ-read-from t) read-from.Pre
@@ -91,34 +90,34 @@ read-from-claims t = (
 )
 
 read-from-returns : (t : ℕ) → read-from-lts.Need-returns (read-from-claims t) (read-from-at t) read-from.Post
-read-from-returns t c = nothing-read (c .before .before .before .before .before .before .before .before .args .z) _ _ _ _ _ _ (collects-over _ _ _ (c .before .before .before .before .before .before .before .before .pre .1 .1 .room .number) (c .if1 .taken))
+read-from-returns t c = nothing-read (c .before .before .before .before .before .before .before .before .args .z) _ _ _ _ _ _ _ (collects-over _ _ _ (c .before .before .before .before .before .before .before .before .pre .1 .1 .stands .number) (c .if1 .taken))
 
 read-from-is-settled-requires : (t : ℕ) → read-from-lts.Need-is-settled-requires (read-from-claims t) (read-from-at t) read-from.Post
 read-from-is-settled-requires t c κs = search needs
 
 read-from-returns-2 : (t : ℕ) → read-from-lts.Need-returns-2 (read-from-claims t) (read-from-at t) read-from.Post
-read-from-returns-2 t c = nothing-read (c .before .before .before .before .before .before .before .before .before .before .args .z) _ _ _ _ _ _ (collects-all-held _ _ _ (c .before .before .before .before .before .before .before .before .before .before .pre .1 .1 .room .number) (held-settled _ _ _ _ _ _ (c .before .before .before .before .before .before .before .before .before .before .pre .1 .2) (c .before .is-settled .ensures) (c .if2 .taken)))
+read-from-returns-2 t c = nothing-read (c .before .before .before .before .before .before .before .before .before .before .args .z) _ _ _ _ _ _ _ (collects-all-held _ _ _ (c .before .before .before .before .before .before .before .before .before .before .pre .1 .1 .stands .number) (held-settled _ _ _ _ _ _ _ (c .before .before .before .before .before .before .before .before .before .before .pre .1 .2) (c .before .is-settled .ensures) (c .if2 .taken)))
 
 read-from-result-requires : (t : ℕ) → read-from-lts.Need-result-requires (read-from-claims t) (read-from-at t) read-from.Post
 read-from-result-requires t c κs = search needs
 
 read-from-offer-requires : (t : ℕ) → read-from-lts.Need-offer-requires (read-from-claims t) (read-from-at t) read-from.Post
-read-from-offer-requires t c κs = (c .before .before .before .before .before .before .before .before .before .before .before .before .before .pre .1 .0 .by-words, c .before .before .before .before .before .before .before .before .before .before .before .before .before .pre .1 .1 .room)
+read-from-offer-requires t c κs = (c .before .before .before .before .before .before .before .before .before .before .before .before .before .pre .1 .0 .by-words, c .before .before .before .before .before .before .before .before .before .before .before .before .before .pre .1 .1 .stands)
 
 read-from-same-length : (t : ℕ) → read-from-lts.Need-same-length (read-from-claims t) (read-from-at t) read-from.Post
 read-from-same-length t c = search needs
 
 read-from-returns-3 : (t : ℕ) → read-from-lts.Need-returns-3 (read-from-claims t) (read-from-at t) read-from.Post
-read-from-returns-3 t c = offer-read (c .before .before .before .before .before .before .before .before .before .before .before .before .before .before .before .before .args .z) _ _ _ _ _ _ _ _ _ (read-end (c .before .before .before .before .before .before .before .before .before .before .before .before .before .before .before .before .args .z) _ _ _ _ _ _ _ _ _ _ _ _ _ _ _ (c .before .before .before .before .before .if3 .taken) (c .before .before .before .before .result .ensures)) (c .before .before .offer .ensures)
+read-from-returns-3 t c = offer-read (c .before .before .before .before .before .before .before .before .before .before .before .before .before .before .before .before .args .z) _ _ _ _ _ _ _ _ _ _ (c .before .before .offer .ensures) (read-end (c .before .before .before .before .before .before .before .before .before .before .before .before .before .before .before .before .args .z) _ _ _ _ _ _ _ _ _ _ _ _ _ _ _ (c .before .before .before .before .before .if3 .taken) (c .before .before .before .before .result .ensures) (c .before .before .offer .ensures))
 
 read-from-read-left-requires : (t : ℕ) → read-from-lts.Need-read-left-requires (read-from-claims t) (read-from-at t) read-from.Post
 read-from-read-left-requires t c κs = (omega (arith, c .before .before .before .before .before .before .before .before .before .before .before .before .before .pre .0), (c .before .before .before .before .before .before .before .before .before .before .before .before .before .pre .1 .0, c .before .before .before .before .before .before .before .before .before .before .before .before .before .pre .1 .1, omega (arith, c .before .before .if3 .left), c .before .before .before .before .before .before .before .before .before .before .before .before .before .pre .1 .2))
 
 read-from-same-length-2 : (t : ℕ) → read-from-lts.Need-same-length-2 (read-from-claims t) (read-from-at t) read-from.Post
-read-from-same-length-2 t c = c .before .before .before .before .read-left .kept .1 .1 .1 .1 .1 .1 .1 .1 .1 .1 .1 .0
+read-from-same-length-2 t c = c .before .before .before .before .read-left .kept .1 .1 .1 .1 .1 .1 .1 .1 .1 .1 .1 .1 .0
 
 read-from-same-length-3 : (t : ℕ) → read-from-lts.Need-same-length-3 (read-from-claims t) (read-from-at t) read-from.Post
-read-from-same-length-3 t c = c .before .before .before .before .read-left .kept .1 .1 .1 .1 .1 .1 .1 .1 .1 .1 .1 .1 .0
+read-from-same-length-3 t c = c .before .before .before .before .read-left .kept .1 .1 .1 .1 .1 .1 .1 .1 .1 .1 .1 .1 .1 .0
 
 read-from-returns-4 : (t : ℕ) → read-from-lts.Need-returns-4 (read-from-claims t) (read-from-at t) read-from.Post
 read-from-returns-4 t c = c .before .before .before .before .read-left .ensures
@@ -155,7 +154,7 @@ read-left-same-length : (t : ℕ) → read-left-lts.Need-same-length (read-left-
 read-left-same-length t c = search needs
 
 read-left-returns : (t : ℕ) → read-left-lts.Need-returns (read-left-claims t) (read-left-at t) read-left.Post
-read-left-returns t c = read-found (c .before .before .before .before .before .before .before .before .before .before .before .before .args .z) _ _ _ _ _ _ _ _ _ _ _ _ _ (length-rowsIn moveRow (c .before .before .before .before .before .before .before .before .before .before .before .before .args .z .moves) (c .before .before .before .before .before .before .before .before .before .before .before .before .args .moves .now)) (c .before .before .before .before .before .read-state .ensures) _ (c .before .before .before .before .before .before .before .before .before .before .before .before .pre .1 .1) (c .before .before .before .place .ensures) (c .before .holds .ensures) (c .if1 .taken)
+read-left-returns t c = read-found (c .before .before .before .before .before .before .before .before .before .before .before .before .args .z) _ _ _ _ _ _ (c .before .before .before .before .before .before .before .before .before .before .before .before .args .to) _ _ _ _ _ _ _ _ (length-rowsIn moveRow (c .before .before .before .before .before .before .before .before .before .before .before .before .args .z .moves) (c .before .before .before .before .before .before .before .before .before .before .before .before .args .moves .now)) (c .before .before .before .before .before .read-state .ensures) _ (c .before .before .before .before .before .before .before .before .before .before .before .before .pre .1 .1) (c .before .before .before .place .ensures) (c .before .holds .ensures) (c .if1 .taken)
 
 read-left-fewest-requires : (t : ℕ) → read-left-lts.Need-fewest-requires (read-left-claims t) (read-left-at t) read-left.Post
 read-left-fewest-requires t c κs = (c .before .before .before .before .before .before .before .before .before .before .before .before .pre .1 .0 .by-words .moves-stand, c .before .before .before .before .before .before .before .before .before .before .before .before .pre .1 .0 .by-state, c .before .before .before .before .before .before .before .before .before .before .before .before .pre .1 .2)
@@ -164,21 +163,21 @@ read-left-without-requires : (t : ℕ) → read-left-lts.Need-without-requires (
 read-left-without-requires t c κs = (c .fewest .ensures .1, c .fewest .ensures .0)
 
 read-left-read-moves-requires : (t : ℕ) → read-left-lts.Need-read-moves-requires (read-left-claims t) (read-left-at t) read-left.Post
-read-left-read-moves-requires t c κs = (fewer-others _ _ _ _ (c .before .before .before .fewest .ensures .0) (c .before .before .without .ensures) (c .before .before .before .before .before .before .before .before .before .before .before .before .before .before .before .before .pre .0), (c .before .before .before .before .before .before .before .before .before .before .before .before .before .before .before .before .pre .1 .0, c .before .before .before .before .before .before .before .before .before .before .before .before .before .before .before .before .pre .1 .1, held-apart _ _ _ _ _ _ _ (c .before .before .before .fewest .ensures .0) (c .before .before .without .ensures) (c .before .before .before .before .before .before .before .before .before .before .before .before .before .before .before .before .pre .1 .3)))
+read-left-read-moves-requires t c κs = (fewer-others _ _ _ _ (c .before .before .before .fewest .ensures .0) (c .before .before .without .ensures) (c .before .before .before .before .before .before .before .before .before .before .before .before .before .before .before .before .pre .0), (c .before .before .before .before .before .before .before .before .before .before .before .before .before .before .before .before .pre .1 .0, c .before .before .before .before .before .before .before .before .before .before .before .before .before .before .before .before .pre .1 .1, held-apart _ _ _ _ _ _ _ _ (c .before .before .before .fewest .ensures .0) (c .before .before .without .ensures) (c .before .before .before .before .before .before .before .before .before .before .before .before .before .before .before .before .pre .1 .3)))
 
 read-left-put-requires : (t : ℕ) → read-left-lts.Need-put-requires (read-left-claims t) (read-left-at t) read-left.Post
-read-left-put-requires t c κs = omega (arith, c .before .before .before .before .before .before .before .before .before .before .before .before .before .place .ensures, c .before .before .before .before .before .read-moves .kept .1 .1 .1 .1 .1 .1 .1 .1 .1 .1 .1 .0)
+read-left-put-requires t c κs = omega (arith, c .before .before .before .before .before .before .before .before .before .before .before .before .before .place .ensures, c .before .before .before .before .before .read-moves .kept .1 .1 .1 .1 .1 .1 .1 .1 .1 .1 .1 .1 .0)
 
 read-left-same-length-2 : (t : ℕ) → read-left-lts.Need-same-length-2 (read-left-claims t) (read-left-at t) read-left.Post
-read-left-same-length-2 t c = c .before .before .put .kept .0 ∙ c .before .before .before .before .before .before .before .before .read-moves .kept .1 .1 .1 .1 .1 .1 .1 .1 .1 .1 .1 .0
+read-left-same-length-2 t c = c .before .before .put .kept .0 ∙ c .before .before .before .before .before .before .before .before .read-moves .kept .1 .1 .1 .1 .1 .1 .1 .1 .1 .1 .1 .1 .0
 
 read-left-same-length-3 : (t : ℕ) → read-left-lts.Need-same-length-3 (read-left-claims t) (read-left-at t) read-left.Post
-read-left-same-length-3 t c = c .before .before .before .before .before .before .before .before .read-moves .kept .1 .1 .1 .1 .1 .1 .1 .1 .1 .1 .1 .1 .0
+read-left-same-length-3 t c = c .before .before .before .before .before .before .before .before .read-moves .kept .1 .1 .1 .1 .1 .1 .1 .1 .1 .1 .1 .1 .1 .0
 
 read-left-returns-2 : (t : ℕ) → read-left-lts.Need-returns-2 (read-left-claims t) (read-left-at t) read-left.Post
 read-left-returns-2 t c =
-    read-noted (c .before .before .before .before .before .before .before .before .before .before .before .before .before .before .before .before .before .before .before .before .before .before .before .before .before .args .z) _ _ _ _ _ _ _ _ _ _ _ _ _ (length-rowsIn moveRow (c .before .before .before .before .before .before .before .before .before .before .before .before .before .before .before .before .before .before .before .before .before .before .before .before .before .args .z .moves) (c .before .before .before .before .before .before .before .before .before .before .before .before .before .before .before .before .before .before .before .before .before .before .before .before .before .args .moves .now)) (c .before .before .before .before .before .before .before .before .before .before .before .before .before .before .before .before .before .before .read-state .ensures) _ _ _ _
-    (read-first (c .before .before .before .before .before .before .before .before .before .before .before .before .before .before .before .before .before .before .before .before .before .before .before .before .before .args .z) _ _ _ _ _ _ _ _ _ _ _ _ _ (c .before .before .before .before .before .before .before .before .before .before .before .before .fewest .ensures .0) (c .before .before .before .before .before .before .before .before .before .before .before .without .ensures) (c .before .before .before .before .before .before .before .before .read-moves .ensures)) (omega (arith, c .before .before .before .before .before .before .before .before .before .before .before .before .before .before .before .before .place .ensures, c .before .before .before .before .before .before .before .before .read-moves .kept .1 .1 .1 .1 .1 .1 .1 .1 .1 .1 .1 .0)) (c .before .before .put .ensures)
+    read-noted (c .before .before .before .before .before .before .before .before .before .before .before .before .before .before .before .before .before .before .before .before .before .before .before .before .before .args .z) _ _ _ _ _ _ (c .before .before .before .before .before .before .before .before .before .before .before .before .before .before .before .before .before .before .before .before .before .before .before .before .before .args .to) _ _ _ _ _ _ _ _ (length-rowsIn moveRow (c .before .before .before .before .before .before .before .before .before .before .before .before .before .before .before .before .before .before .before .before .before .before .before .before .before .args .z .moves) (c .before .before .before .before .before .before .before .before .before .before .before .before .before .before .before .before .before .before .before .before .before .before .before .before .before .args .moves .now)) (c .before .before .before .before .before .before .before .before .before .before .before .before .before .before .before .before .before .before .read-state .ensures) _ _ _ _
+    (read-first (c .before .before .before .before .before .before .before .before .before .before .before .before .before .before .before .before .before .before .before .before .before .before .before .before .before .args .z) _ _ _ _ _ _ _ _ _ (c .before .before .before .before .before .before .before .before .before .before .before .before .before .before .before .before .before .before .before .before .before .before .before .before .before .args .to) _ _ _ _ _ (c .before .before .before .before .before .before .before .before .before .before .before .before .fewest .ensures .0) (c .before .before .before .before .before .before .before .before .before .before .before .without .ensures) (c .before .before .before .before .before .before .before .before .read-moves .ensures)) (omega (arith, c .before .before .before .before .before .before .before .before .before .before .before .before .before .before .before .before .place .ensures, c .before .before .before .before .before .before .before .before .read-moves .kept .1 .1 .1 .1 .1 .1 .1 .1 .1 .1 .1 .1 .0)) (c .before .before .put .ensures)
 
 -- what the callees of read_moves require and ensure
 abbrev read-moves-claims : ℕ → read-moves-lts.Claims
@@ -191,8 +190,8 @@ read-moves-claims t = (
   move-at-reads.Learnt,
   candidate-reads.Asked,
   candidate-reads.Learnt,
-  used-reads.Asked,
-  used-reads.Learnt,
+  is-newer-reads.Asked,
+  is-newer-reads.Learnt,
   read-from-below t,
   read-from.Post,
   before-reads.Asked,
@@ -200,17 +199,16 @@ read-moves-claims t = (
 )
 
 abbrev read-moves-Inv-loop : read-moves-lts.InvT-loop
-read-moves-Inv-loop z entries moves states words to t part order b r memo₀ out₀ j n c₀ memo out k c =
+read-moves-Inv-loop z entries moves states words to s new part order b r memo₀ out₀ n j k₀ c₀ memo out k c =
     (c ≤ z .moves)
     × OnChain moves (stateKey (part .member) (to .symbol)) c
-    × ReadDownTo (tableOf z entries moves) (to .control) (to .symbol) (to .s) (theJoins order b r) (part .member) (members (part .others)) (n .room) (n .count) out₀ c (k .count) out
+    × ReadDownTo (tableOf z entries moves) (to .control) (to .symbol) s (theJoins order b r) (part .member) (members (part .others)) (to .room) n out₀ c k out
     × (length out ≡ length out₀)
-    × MemoKept z entries moves n out₀ memo₀ k out memo
+    × MemoKept z entries moves (to .room) n out₀ memo₀ k out memo
     × (length memo ≡ length memo₀)
-    × (k .room ≡ n .room)
 
 abbrev read-moves-μ-loop : read-moves-lts.MeasureT-loop
-read-moves-μ-loop z entries moves states words to t part order b r memo₀ out₀ j n c₀ memo out k c = c
+read-moves-μ-loop z entries moves states words to s new part order b r memo₀ out₀ n j k₀ c₀ memo out k c = c
 
 read-moves-state-key-requires : (t : ℕ) → read-moves-lts.Need-state-key-requires (read-moves-claims t) (read-moves-at t) read-moves.Post read-moves-Inv-loop read-moves-μ-loop
 read-moves-state-key-requires t c κs = search needs
@@ -222,7 +220,7 @@ read-moves-loop-holds : (t : ℕ) → read-moves-lts.Need-loop-holds (read-moves
 read-moves-loop-holds t c =
     let first = c .last .ensures _ _ (c .before .before .before .before .before .before .before .before .pre .1 .0 .by-state) ∙ ap (λ key. lastBelow (stateKeyAt (c .before .before .before .before .before .before .before .before .args .moves .now)) key (c .before .before .before .before .before .before .before .before .args .z .moves)) (c .before .state-key .ensures .0) in
     let chain = chain-starts (c .before .before .before .before .before .before .before .before .args .moves .now) _ _ _ first in
-    (chain .0, chain .1, down-none (c .before .before .before .before .before .before .before .before .args .z) _ _ _ _ _ _ _ _ _ _ _ _ (c .before .before .before .before .before .before .before .before .pre .1 .1 .room .number) first, refl, (λ inner h. h), refl, refl)
+    (chain .0, chain .1, down-none (c .before .before .before .before .before .before .before .before .args .z) _ _ _ _ _ _ _ _ _ _ _ _ (c .before .before .before .before .before .before .before .before .pre .1 .1 .stands .number) first, refl, (λ inner h. h), refl)
 
 read-moves-sub-i : (t : ℕ) → read-moves-lts.Need-sub-i (read-moves-claims t) (read-moves-at t) read-moves.Post read-moves-Inv-loop read-moves-μ-loop
 read-moves-sub-i t c = search needs
@@ -236,8 +234,8 @@ read-moves-candidate-requires t c κs = search needs
 read-moves-enum-known-more : (t : ℕ) → read-moves-lts.Need-enum-known-more (read-moves-claims t) (read-moves-at t) read-moves.Post read-moves-Inv-loop read-moves-μ-loop
 read-moves-enum-known-more t c = search needs
 
-read-moves-used-requires : (t : ℕ) → read-moves-lts.Need-used-requires (read-moves-claims t) (read-moves-at t) read-moves.Post read-moves-Inv-loop read-moves-μ-loop
-read-moves-used-requires t c κs = search needs
+read-moves-is-newer-requires : (t : ℕ) → read-moves-lts.Need-is-newer-requires (read-moves-claims t) (read-moves-at t) read-moves.Post read-moves-Inv-loop read-moves-μ-loop
+read-moves-is-newer-requires t c κs = search needs
 
 read-moves-read-from-requires : (t : ℕ) → read-moves-lts.Need-read-from-requires (read-moves-claims t) (read-moves-at t) read-moves.Post read-moves-Inv-loop read-moves-μ-loop
 read-moves-read-from-requires t c κs =
@@ -247,11 +245,11 @@ read-moves-read-from-requires t c κs =
       (
         c .before .before .before .before .before .before .before .before .before .before .before .before .before .before .before .before .before .before .pre .1 .0,
         record {
-          room = record { room-lent = omega (arith, h .room .room-lent, c .before .before .before .before .before .before .before .before .before .loop .inv .3, c .before .before .before .before .before .before .before .before .before .loop .inv .6); number = omega (arith, c .before .before .before .before .before .before .before .before .before .loop .inv .2 .collected .number, c .before .before .before .before .before .before .before .before .before .loop .inv .6) };
+          stands = record { room-lent = omega (arith, h .stands .room-lent, c .before .before .before .before .before .before .before .before .before .loop .inv .3); number = c .before .before .before .before .before .before .before .before .before .loop .inv .2 .collected .number };
           inner = h .inner;
           memo-holds = c .before .before .before .before .before .before .before .before .before .loop .inv .4 (h .inner) (h .memo-holds);
         },
-        held-move _ (c .before .before .before .before .before .before .before .before .before .before .before .before .before .before .before .before .before .before .args .t) _ _ _ _ _ _ _ (there .0) (there .1) (c .before .before .used .ensures) (c .before .before .before .before .before .before .before .before .before .before .before .before .before .before .before .before .before .before .pre .1 .2),
+        held-move _ (c .before .before .before .before .before .before .before .before .before .before .before .before .before .before .before .before .before .before .args .to) _ _ _ _ _ _ _ _ (there .0) (there .1) (c .before .before .is-newer .ensures) (c .before .before .before .before .before .before .before .before .before .before .before .before .before .before .before .before .before .before .pre .1 .2),
       ),
     )
 
@@ -281,24 +279,21 @@ read-moves-loop-again t c =
     let joined = c .before .before .candidate .ensures in ⊎-elim
     (λ w.
     let done = w .6 in
-    let here = in-room (c .before .before .before .before .before .loop .inv .6) (done .ensures .collected) in
-    let long = done .kept .1 .1 .1 .1 .1 .1 .1 .1 .1 .1 .1 .1 .0 in (
+    let long = done .kept .1 .1 .1 .1 .1 .1 .1 .1 .1 .1 .1 .1 .1 .0 in (
       chain .0,
       chain .1,
-      down-yes (c .before .before .before .before .before .before .before .before .before .before .before .before .before .before .args .z) _ _ _ _ _ _ _ _ _ _ _ _ _ _ _ _ _ _ (c .before .before .before .before .before .loop .inv .2) (omega (arith, some)) within key row joined next _ _ _ _ _ (ap asJoined (w .1 .given .1)) (here .0) long (w .12) (ap (λ (x : Pending). x .count) (w .13)),
+      down-yes (c .before .before .before .before .before .before .before .before .before .before .before .before .before .before .args .z) _ _ _ _ _ _ _ _ _ _ _ _ _ _ _ _ _ _ (c .before .before .before .before .before .loop .inv .2) (omega (arith, some)) within key row joined next _ _ _ _ _ (ap asJoined (w .1 .given .1)) (done .ensures .collects) long (w .12) (w .13),
       ap length (w .12) ∙ long ∙ c .before .before .before .before .before .loop .inv .3,
       kept-on (c .before .before .before .before .before .before .before .before .before .before .before .before .before .before .args .z) _ _ (c .before .before .before .before .before .loop .inv .4) (done .ensures .memo-kept) (w .11) (w .12) (w .13),
-      ap length (w .11) ∙ done .kept .1 .1 .1 .1 .1 .1 .1 .1 .1 .1 .1 .0 ∙ c .before .before .before .before .before .loop .inv .5,
-      ap (λ (x : Pending). x .room) (w .13) ∙ here .1,
+      ap length (w .11) ∙ done .kept .1 .1 .1 .1 .1 .1 .1 .1 .1 .1 .1 .1 .0 ∙ c .before .before .before .before .before .loop .inv .5,
     ))
     (λ w. (
       chain .0,
       chain .1,
-      down-no (c .before .before .before .before .before .before .before .before .before .before .before .before .before .before .args .z) _ _ _ _ _ _ _ _ _ _ _ _ _ _ _ _ _ _ (c .before .before .before .before .before .loop .inv .2) (omega (arith, some)) within key row joined next _ _ (ap asJoined (w .1 .given .1)) (w .3) (ap (λ (x : Pending). x .count) (w .4)),
+      down-no (c .before .before .before .before .before .before .before .before .before .before .before .before .before .before .args .z) _ _ _ _ _ _ _ _ _ _ _ _ _ _ _ _ _ _ (c .before .before .before .before .before .loop .inv .2) (omega (arith, some)) within key row joined next _ _ (ap asJoined (w .1 .given .1)) (w .3) (w .4),
       ap length (w .3) ∙ c .before .before .before .before .before .loop .inv .3,
       kept-same (c .before .before .before .before .before .before .before .before .before .before .before .before .before .before .args .z) _ _ (c .before .before .before .before .before .loop .inv .4) (w .2) (w .3) (w .4),
       ap length (w .2) ∙ c .before .before .before .before .before .loop .inv .5,
-      ap (λ (x : Pending). x .room) (w .4) ∙ c .before .before .before .before .before .loop .inv .6,
     ))
     (c .before .match .came)
 
@@ -309,7 +304,7 @@ read-moves-same-length-2 : (t : ℕ) → read-moves-lts.Need-same-length-2 (read
 read-moves-same-length-2 t c = c .before .loop .inv .3
 
 read-moves-returns : (t : ℕ) → read-moves-lts.Need-returns (read-moves-claims t) (read-moves-at t) read-moves.Post read-moves-Inv-loop read-moves-μ-loop
-read-moves-returns t c = record { collected = collected-by (down-all (c .before .before .before .before .before .before .before .before .before .before .args .z) _ _ _ _ _ _ _ _ _ _ _ _ _ _ (c .before .loop .inv .2) (c .loop-test .left)) (c .before .loop .inv .6); memo-kept = c .before .loop .inv .4 }
+read-moves-returns t c = record { collects = down-all (c .before .before .before .before .before .before .before .before .before .before .args .z) _ _ _ _ _ _ _ _ _ _ _ _ _ _ (c .before .loop .inv .2) (c .loop-test .left); memo-kept = c .before .loop .inv .4 }
 
 pub +read-from+read-left+read-moves-spec : {M : Type 1} → statement M
 +read-from+read-left+read-moves-spec = close μ-read-from μ-read-left μ-read-moves
@@ -346,7 +341,7 @@ pub +read-from+read-left+read-moves-spec : {M : Type 1} → statement M
     (read-moves-move-at-requires t)
     (read-moves-candidate-requires t)
     (read-moves-enum-known-more t)
-    (read-moves-used-requires t)
+    (read-moves-is-newer-requires t)
     (read-moves-read-from-requires t)
     (read-moves-enum-told t)
     (read-moves-before-requires t)

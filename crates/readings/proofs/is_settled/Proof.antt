@@ -1,12 +1,12 @@
 -- `readings::is_settled` meets its contract.
 -- Assumes nothing.
-use Rattle.readings.specs.Before.Laws.{settled-new, settled-else}
+use Rattle.readings.specs.Before.Laws.{settled-else}
 use borrow.Author.Needs.{needs}
 use Rattle.readings.proofs.is_settled.Statement.{statement}
 use Rattle.readings.proofs.is_settled.Tie as tie
 
 returns : tie.Need-returns
-returns c = settled-new _ _ (c .if1 .taken)
+returns c = search needs
 
 part-of-requires : tie.Need-part-of-requires
 part-of-requires c κs = search needs

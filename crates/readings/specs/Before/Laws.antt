@@ -20,11 +20,11 @@ use Rattle.automata.specs.Saturation.{upTo}
 use Rattle.automata.specs.Saturation.Laws.{upTo-extends}
 use Rattle.offers.specs.Offers.{AllHeld}
 use Rattle.readings.specs.declared.Before.{Before}
-use Rattle.readings.specs.declared.Slot.{Slot}
+use Rattle.readings.specs.declared.Goal.{Goal}
 use Rattle.readings.specs.Readings.{readResults, readsTo}
 use Rattle.readings.specs.Readings.Order.{read-together}
 use Rattle.readings.specs.Readings.Earlier.{read-old, read-all-old}
-use Rattle.readings.specs.Before.{tableBefore, usedBy, Settles, Known, HeldBefore}
+use Rattle.readings.specs.Before.{tableBefore, Settles, Known, HeldBefore}
 
 -- ---- the sizes of the earlier table
 
@@ -51,9 +51,6 @@ newer-no false first i r e f = (refl, leb-false first i (sym e ∙ f))
 
 pub newer-else : (new b : Bool) → new ≡ false → b ≡ new || b
 newer-else new b e = rw e refl
-
-pub settled-new : (new b : Bool) → new ≡ true → false ≡ not new && b
-settled-new new b e = rw e refl
 
 pub settled-else : (new b r : Bool) → new ≡ false → r ≡ b → r ≡ not new && b
 settled-else new b r e f = rw e f
@@ -97,25 +94,20 @@ module _ (A : Automaton) (w : Before) (p a : ℕ) where
 
 -- ---- what is held, handed on
 
-pub settles-used : (A : Automaton) (t : Before) (a first i : ℕ) → Settles A t a → Settles A (usedBy t first i) a
-settles-used A t a first i s = record { moves-before = s .moves-before; entries-before = s .entries-before; settles = s .settles }
-
-module _ (A : Automaton) (t : Before) (to : Slot) where
+module _ (A : Automaton) (to : Goal) (S : ℕ) where
   -- all of it, where no state left has a newer move
-  pub held-settled : (left : ℕ) (j : Joins) (r : Bool) → HeldBefore A t (to .symbol) (readsTo to (members left) j)
-      → r ≡ not (t .new) && partOf left (t .settled) → r ≡ true → AllHeld A (readsTo to (members left) j A)
-  held-settled left j r h e f = settled-held A t (to .control) (to .symbol) (to .s) left j (t .new) r (h .settles) (h .known) e f
+  pub held-settled : (new : Bool) (left : ℕ) (j : Joins) (r : Bool) → HeldBefore A to new (readsTo to S (members left) j)
+      → r ≡ not new && partOf left (to .before .settled) → r ≡ true → AllHeld A (readsTo to S (members left) j A)
+  held-settled new left j r h e f = settled-held A (to .before) (to .control) (to .symbol) S left j new r (h .settles) (h .known) e f
 
   -- one member of the states left first
-  pub held-apart : (left q others : ℕ) (j : Joins) → member left q ≡ true → others ≡ without left q → HeldBefore A t (to .symbol) (readsTo to (members left) j)
-      → HeldBefore A t (to .symbol) (readsTo to (q ∷ members others) j)
-  held-apart left q others j m e h =
-      record { settles = h .settles; known = known-apart A t (to .control) (to .symbol) (to .s) left q others j (t .new) m e (h .known) }
+  pub held-apart : (new : Bool) (left q others : ℕ) (j : Joins) → member left q ≡ true → others ≡ without left q → HeldBefore A to new (readsTo to S (members left) j)
+      → HeldBefore A to new (readsTo to S (q ∷ members others) j)
+  held-apart new left q others j m e h =
+      record { settles = h .settles; known = known-apart A (to .before) (to .control) (to .symbol) S left q others j new m e (h .known) }
 
   -- by move i of the first state
-  pub held-move : (q : ℕ) (rs : List ℕ) (j l : Joins) (i : ℕ) (t′ : Before) → List·Memᴰ i (movesOf A q (to .symbol)) → joinMove j (moveAt A i) ≡ some l → t′ ≡ usedBy t (t .moves) i
-      → HeldBefore A t (to .symbol) (readsTo to (q ∷ rs) j) → HeldBefore A t′ (to .symbol) (readsTo to rs l)
-  held-move q rs j l i t′ m e f h = rw f (record {
-    settles = settles-used A t (to .symbol) (t .moves) i (h .settles);
-    known = known-move A t (to .control) (to .symbol) (to .s) q rs j l i (t .new) (t .new || leb (t .moves) i) m e refl (h .known);
-  })
+  pub held-move : (new newer : Bool) (q : ℕ) (rs : List ℕ) (j l : Joins) (i : ℕ) → List·Memᴰ i (movesOf A q (to .symbol)) → joinMove j (moveAt A i) ≡ some l → newer ≡ new || leb (to .before .moves) i
+      → HeldBefore A to new (readsTo to S (q ∷ rs) j) → HeldBefore A to newer (readsTo to S rs l)
+  held-move new newer q rs j l i m e f h =
+      record { settles = h .settles; known = known-move A (to .before) (to .control) (to .symbol) S q rs j l i new newer m e f (h .known) }

@@ -87,6 +87,9 @@ module _ {A : Automaton} {room n : ℕ} {t : List ℕ} where
         absorbed = λ i b. ap (offerAll (held A) room (pendingIn room n t)) (results-earlier A (rowAt stateRow memo i) (h .earlier i b));
       }
 
+  pub memo-same : {r : ℕ} {t′ memo memo′ : List ℕ} → MemoHolds A room n t memo → memo′ ≡ memo → t′ ≡ t → r ≡ n → MemoHolds A room r t′ memo′
+  memo-same h es et er = rw (es, et, er) h
+
   -- what is offered later changes nothing
 
   pub memo-later : {r : ℕ} {t′ memo : List ℕ} {xs : List Result} → MemoHolds A room n t memo → Collects A room n t xs r t′ → MemoHolds A room r t′ memo

@@ -15,8 +15,7 @@ use Rattle.tables.specs.Held.{automatonOf, tableOf}
 use Rattle.tables.specs.Pending.{pendingIn}
 use Rattle.offers.specs.Offers.{AllHeld, Collects, offerAll}
 use Rattle.readings.specs.Readings.{fromJoins, readResults, readsTo, ByMoves}
-use Rattle.readings.specs.declared.Before.{Before}
-use Rattle.readings.specs.declared.Slot.{Slot}
+use Rattle.readings.specs.declared.Goal.{Goal}
 use Rattle.readings.specs.Before.{tableBefore, HeldBefore}
 
 -- readings depend on the moves alone
@@ -26,8 +25,8 @@ read-moves-alone A B e p a S [] j = refl
 read-moves-alone A B e p a S (r ∷ rs) j = λ i. each (places (λ m. eqb (m .state) r && eqb (m .symbol) a) (e i))
     (λ n. fromJoins (joinMove j (getD (e i) n noMove)) (λ k. read-moves-alone A B e p a S rs k i))
 
-pub reads-alone : (to : Slot) (rs : List ℕ) (j : Joins) → ByMoves (readsTo to rs j)
-reads-alone to rs j A B e = read-moves-alone A B e (to .control) (to .symbol) (to .s) rs j
+pub reads-alone : (to : Goal) (S : ℕ) (rs : List ℕ) (j : Joins) → ByMoves (readsTo to S rs j)
+reads-alone to S rs j A B e = read-moves-alone A B e (to .control) (to .symbol) S rs j
 
 module _ (z : Table) (inner entries moves : List ℕ) where
   held-edges : held (tableOf z entries moves) ≡ held (automatonOf z inner entries moves)
@@ -46,10 +45,10 @@ module _ (z : Table) (inner entries moves : List ℕ) where
       record { collected = c .collected ∙ ap (λ (h : Result → Bool). offerAll h room (pendingIn room n t) xs) (sym held-edges); number = c .number }
 
   -- what is held before, of what depends on the moves alone
-  pub held-table : (t : Before) (a : ℕ) (gives : Automaton → List Result) → ByMoves gives → HeldBefore (automatonOf z inner entries moves) t a gives → HeldBefore (tableOf z entries moves) t a gives
+  pub held-table : (to : Goal) (new : Bool) (gives : Automaton → List Result) → ByMoves gives → HeldBefore (automatonOf z inner entries moves) to new gives → HeldBefore (tableOf z entries moves) to new gives
   unfolding upTo moveAt
-  held-table t a gives alone h =
-      let same = alone (tableBefore t (automatonOf z inner entries moves)) (tableBefore t (tableOf z entries moves)) refl in
+  held-table to new gives alone h =
+      let same = alone (tableBefore (to .before) (automatonOf z inner entries moves)) (tableBefore (to .before) (tableOf z entries moves)) refl in
       record {
         settles = record { moves-before = h .settles .moves-before; entries-before = h .settles .entries-before; settles = h .settles .settles };
         known = record { known = λ n. all-held-edges _ (subst (AllHeld (automatonOf z inner entries moves)) same (h .known .known n)) };

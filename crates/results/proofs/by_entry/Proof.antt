@@ -1,6 +1,5 @@
 -- `results::by_entry` meets its contract.
 -- Assumes nothing.
-use mathlib.Core.Path.{refl}
 use native.Mathlib.Omega.{arith}
 use Rattle.results.specs.Entries.Laws.{entry-other, entry-premise}
 use borrow.Author.Needs.{needs}
@@ -11,7 +10,7 @@ entry-at-requires : tie.Need-entry-at-requires
 entry-at-requires c κs = omega (arith, c .before .before .before .before .pre .2, c .before .before .before .before .pre .0 .entries-stand .entries-lent)
 
 returns : tie.Need-returns
-returns c = record { collects = entry-other (c .before .before .before .before .before .before .before .args .z) _ _ _ _ _ _ _ _ _ _ _ (c .before .before .entry-at .ensures) (c .before .before .before .before .before .before .before .pre .1 .number) (c .if1 .taken); same-room = refl }
+returns c = entry-other (c .before .before .before .before .before .before .before .args .z) _ _ _ _ _ _ _ _ _ _ _ (c .before .before .entry-at .ensures) (c .before .before .before .before .before .before .before .pre .1 .number) (c .if1 .taken)
 
 add-entry-result : tie.Need-add-entry-result
 add-entry-result c = omega (arith, c .before .before .before .before .before .before .before .before .pre .2, c .before .before .before .before .before .before .before .before .pre .0 .entries-stand .states-few)
@@ -26,11 +25,7 @@ same-length : tie.Need-same-length
 same-length c = search needs
 
 returns-2 : tie.Need-returns-2
-returns-2 c =
-    record {
-      collects = entry-premise (c .before .before .before .before .before .before .before .before .before .before .before .before .before .args .z) _ _ _ _ _ _ _ _ _ _ _ (c .before .before .before .before .before .before .before .before .entry-at .ensures) _ _ _ (c .before .before .before .before .before .before .if1 .left) (c .before .before .before .before .entry-result .ensures) (c .before .before .offer .ensures .collects);
-      same-room = c .before .before .offer .ensures .same-room;
-    }
+returns-2 c = entry-premise (c .before .before .before .before .before .before .before .before .before .before .before .before .before .args .z) _ _ _ _ _ _ _ _ _ _ _ (c .before .before .before .before .before .before .before .before .entry-at .ensures) _ _ _ (c .before .before .before .before .before .before .if1 .left) (c .before .before .before .before .entry-result .ensures) (c .before .before .offer .ensures)
 
 pub by-entry-spec : {M : Type 1} → statement M
 by-entry-spec = tie.close (tie.spec entry-at-requires returns add-entry-result entry-result-requires offer-requires same-length returns-2)

@@ -9,7 +9,7 @@ use Rattle.results.proofs.by_nothing.Statement.{statement}
 use Rattle.results.proofs.by_nothing.Tie as tie
 
 returns : tie.Need-returns
-returns c = record { collects = collects-held _ (c .before .before .before .before .before .before .pre .1 .number) (c .before .before .before .before .before .before .pre .2 .known (not-true (c .before .before .before .before .before .before .args .t .new) (c .if1 .taken)) .all-held _ (List·Memᴰ·head refl)); same-room = refl }
+returns c = collects-held _ (c .before .before .before .before .before .before .pre .1 .number) (c .before .before .before .before .before .before .pre .2 .known (not-true (c .before .before .before .before .before .before .args .to .before .new) (c .if1 .taken)) .all-held _ (List·Memᴰ·head refl))
 
 offer-requires : tie.Need-offer-requires
 offer-requires c κs = (c .before .before .before .before .before .before .before .pre .0, c .before .before .before .before .before .before .before .pre .1)

@@ -9,7 +9,6 @@ use Rattle.tables.specs.Layouts.{moveRow}
 use Rattle.tables.specs.Held.{automatonOf}
 use Rattle.readings.specs.Memo.{MemoBefore, MemoUpTo, MemoHolds}
 use Rattle.readings.specs.Memo.Laws.{memo-none}
-use Rattle.readings.specs.Gathering.Laws.{in-room}
 use Rattle.results.specs.Collecting.Laws.{RulesUpTo, rules-none, rules-more, rules-all, next-small, settled-rule}
 use borrow.Author.Needs.{needs}
 use Rattle.results.proofs.collect.Statement.{statement}
@@ -18,10 +17,9 @@ use Rattle.results.proofs.collect.Tie as tie
 abbrev Inv-loop : tie.InvT-loop
 Inv-loop z inner entries moves states words t body count memo₀ out₀ room symbols n₀ i₀ memo out n i =
     (i ≤ count)
-    × RulesUpTo (automatonOf z inner entries moves) room body out₀ i (n .count) out
-    × MemoHolds (automatonOf z inner entries moves) (n .room) (n .count) out memo
+    × RulesUpTo (automatonOf z inner entries moves) room body out₀ i n out
+    × MemoHolds (automatonOf z inner entries moves) room n out memo
     × (length memo ≡ length memo₀)
-    × (n .room ≡ room)
 
 abbrev μ-loop : tie.MeasureT-loop
 μ-loop z inner entries moves states words t body count memo₀ out₀ room symbols n₀ i₀ memo out n i = count - i
@@ -32,7 +30,7 @@ new-symbols-requires c κs = c .before .before .before .before .before .before .
 loop-holds : tie.Need-loop-holds Inv-loop μ-loop
 loop-holds c =
     let few = length-rowsIn moveRow (c .before .before .before .before .before .before .before .before .before .args .z .moves) (c .before .before .before .before .before .before .before .before .before .args .moves .now) in
-    (search needs, rules-none _ _ _ _, memo-none (subst (λ k. MemoBefore k (c .before .before .before .before .before .before .before .before .before .args .memo .now)) (sym few) (c .before .before .before .before .before .before .before .before .before .pre .0 .memo-before)), refl, refl)
+    (search needs, rules-none _ _ _ _, memo-none (subst (λ k. MemoBefore k (c .before .before .before .before .before .before .before .before .before .args .memo .now)) (sym few) (c .before .before .before .before .before .before .before .before .before .pre .0 .memo-before)), refl)
 
 rule-at-requires : tie.Need-rule-at-requires Inv-loop μ-loop
 rule-at-requires c κs = omega (arith, c .loop-test .taken, c .before .before .before .before .before .before .before .before .before .before .before .pre .0 .rules-stand .rules-lent)
@@ -42,7 +40,7 @@ by-rule-requires c κs =
     let rule = c .before .before .rule-at .ensures in (
       c .before .before .before .before .before .before .before .before .before .before .before .before .before .before .pre .0 .indexed,
       record {
-        room = record { room-lent = omega (arith, c .before .before .before .before .before .before .before .before .before .before .before .before .before .before .pre .1, c .before .before .before .before .loop .inv .1 .long, c .before .before .before .before .loop .inv .4); number = omega (arith, c .before .before .before .before .loop .inv .1 .offered .number, c .before .before .before .before .loop .inv .4) };
+        stands = record { room-lent = omega (arith, c .before .before .before .before .before .before .before .before .before .before .before .before .before .before .pre .1, c .before .before .before .before .loop .inv .1 .long); number = c .before .before .before .before .loop .inv .1 .offered .number };
         memo-holds = c .before .before .before .before .loop .inv .2;
       },
       settled-rule _ _ _ _ _ _ (c .before .before .before .loop-test .taken) rule (c .before .before .before .before .before .before .before .before .before .before .before .before .before .before .pre .0 .settled-by),
@@ -58,13 +56,11 @@ loop-less c = search needs
 
 loop-again : tie.Need-loop-again Inv-loop μ-loop
 loop-again c =
-    let done = c .before .before .before .before .by-rule in
-    let here = in-room (c .before .before .before .before .before .before .before .before .before .loop .inv .4) (done .ensures .collected) in (
+    let done = c .before .before .before .before .by-rule in (
       omega (arith, c .before .before .before .before .before .before .before .before .loop-test .taken),
-      rules-more _ _ _ _ _ _ _ _ _ _ (c .before .before .before .before .before .before .before .before .before .loop .inv .1) (c .before .before .before .before .before .before .before .rule-at .ensures) (here .0) (done .kept .1 .1 .1 .1 .1 .1 .1 .1 .1 .1 .0),
+      rules-more _ _ _ _ _ _ _ _ _ _ (c .before .before .before .before .before .before .before .before .before .loop .inv .1) (c .before .before .before .before .before .before .before .rule-at .ensures) (done .ensures .collects) (done .kept .1 .1 .1 .1 .1 .1 .1 .1 .1 .1 .1 .0),
       done .ensures .memo-holds,
-      done .kept .1 .1 .1 .1 .1 .1 .1 .1 .1 .0 ∙ c .before .before .before .before .before .before .before .before .before .loop .inv .3,
-      here .1,
+      done .kept .1 .1 .1 .1 .1 .1 .1 .1 .1 .1 .0 ∙ c .before .before .before .before .before .before .before .before .before .loop .inv .3,
     )
 
 same-length : tie.Need-same-length Inv-loop μ-loop

@@ -40,9 +40,6 @@ enum-told-2 c = search needs
 enum-told-3 : tie.Need-enum-told-3
 enum-told-3 c = search needs
 
-slot-of-requires : tie.Need-slot-of-requires
-slot-of-requires c κs = search needs
-
 result-requires : tie.Need-result-requires
 result-requires c κs = search needs
 
@@ -51,9 +48,6 @@ enum-told-4 c = search needs
 
 enum-told-5 : tie.Need-enum-told-5
 enum-told-5 c = search needs
-
-slot-of-requires-2 : tie.Need-slot-of-requires-2
-slot-of-requires-2 c κs = search needs
 
 result-requires-2 : tie.Need-result-requires-2
 result-requires-2 c κs = search needs
@@ -79,14 +73,14 @@ unfolding useOf
 returns-5 c = use-is _ _ _ _ _ (c .enum-told2 .given .1)
 
 returns-6 : tie.Need-returns-6
-returns-6 c = use-pop2 _ _ _ _ _ _ _ (c .before .before .enum-told3 .given .1) (c .before .before .before .before .one-bit .ensures .1) (c .before .slot-of .ensures) (c .result .ensures)
+returns-6 c = use-pop2 _ _ _ _ _ _ _ _ (c .before .enum-told3 .given .1) (c .before .before .before .one-bit .ensures .1) (c .before .before .before .before .pre .1) (c .before .before .before .before .pre .2) (c .result .ensures)
 
 returns-7 : tie.Need-returns-7
 unfolding useOf
 returns-7 c = use-is _ _ _ _ _ (c .enum-told4 .given .1)
 
 returns-8 : tie.Need-returns-8
-returns-8 c = use-collapse2 _ _ _ _ _ _ _ (c .before .before .enum-told5 .given .1) (c .before .before .before .before .one-bit .ensures .1) (c .before .slot-of2 .ensures) (c .result2 .ensures)
+returns-8 c = use-collapse2 _ _ _ _ _ _ _ _ (c .before .enum-told5 .given .1) (c .before .before .before .one-bit .ensures .1) (c .before .before .before .before .pre .1) (c .before .before .before .before .pre .2) (c .result2 .ensures)
 
 pub use-of-spec : {M : Type 1} → statement M
-use-of-spec = tie.close (tie.spec one-bit-requires enum-known-operation moves-from-requires enum-known-operation-2 moves-from-requires-2 enum-known-operation-3 moves-from-requires-3 enum-told moves-from-requires-4 enum-told-2 enum-told-3 slot-of-requires result-requires enum-told-4 enum-told-5 slot-of-requires-2 result-requires-2 returns returns-2 returns-3 returns-4 returns-5 returns-6 returns-7 returns-8)
+use-of-spec = tie.close (tie.spec one-bit-requires enum-known-operation moves-from-requires enum-known-operation-2 moves-from-requires-2 enum-known-operation-3 moves-from-requires-3 enum-told moves-from-requires-4 enum-told-2 enum-told-3 result-requires enum-told-4 enum-told-5 result-requires-2 returns returns-2 returns-3 returns-4 returns-5 returns-6 returns-7 returns-8)

@@ -20,28 +20,24 @@ use Rattle.tables.specs.Rows.Laws.{length-rowsIn, getD-rowsIn}
 use Rattle.tables.specs.Layouts.{entryRow}
 use Rattle.tables.specs.Held.{tableOf}
 use Rattle.tables.specs.Held.Laws.{entryAt-there}
-use Rattle.readings.specs.Readings.{theResult, slotOf}
+use Rattle.readings.specs.Readings.{theResult}
 use Rattle.offers.specs.Offers.{Collects}
 use Rattle.offers.specs.Offers.Alike.{passed-past}
 use Rattle.offers.specs.Offers.Laws.{OfferedBelow, passed-more, passed-all, collects-same, collects-none}
-use Rattle.readings.specs.declared.Goal.{Goal}
-use Rattle.readings.specs.declared.Slot.{Slot}
 use Rattle.results.specs.declared.EntryUse.{EntryUse}
 use Rattle.results.specs.declared.EntryUse.the-variants.{Popped, Collapsed}
 use Rattle.results.specs.Rules.{entryResult, entriesResults}
 use Rattle.results.specs.Steps.{entryStep}
 use Rattle.results.specs.Entries.{entryTest, EntriesKnown}
 
-module _ (to : Goal) (k : EntryUse) (S r bit : ℕ) (at : Slot) (x : ResultWords) where
-  pub is-popped : k ≡ Popped → bit ≡ single r → at ≡ slotOf to S → x ≡ theResult (at .control) (at .s) (at .symbol) 0 0 bit → asResult x ≡ entryResult (to .control) (to .symbol) k S r
+module _ (p a : ℕ) (k : EntryUse) (S r bit : ℕ) (x : ResultWords) where
+  pub is-popped : k ≡ Popped → bit ≡ single r → x ≡ theResult p S a 0 0 bit → asResult x ≡ entryResult p a k S r
   unfolding entryResult
-  is-popped e f g h =
-      rw e (ap asResult (h ∙ ap (λ (y : Slot). theResult (y .control) (y .s) (y .symbol) 0 0 bit) g ∙ ap (λ (b : ℕ). theResult (to .control) S (to .symbol) 0 0 b) f))
+  is-popped e f h = rw e (ap asResult (h ∙ ap (λ (b : ℕ). theResult p S a 0 0 b) f))
 
-  pub is-collapsed : k ≡ Collapsed → bit ≡ single r → at ≡ slotOf to S → x ≡ theResult (at .control) (at .s) (at .symbol) 1 bit 0 → asResult x ≡ entryResult (to .control) (to .symbol) k S r
+  pub is-collapsed : k ≡ Collapsed → bit ≡ single r → x ≡ theResult p S a 1 bit 0 → asResult x ≡ entryResult p a k S r
   unfolding entryResult
-  is-collapsed e f g h =
-      rw e (ap asResult (h ∙ ap (λ (y : Slot). theResult (y .control) (y .s) (y .symbol) 1 bit 0) g ∙ ap (λ (b : ℕ). theResult (to .control) S (to .symbol) 1 b 0) f))
+  is-collapsed e f h = rw e (ap asResult (h ∙ ap (λ (b : ℕ). theResult p S a 1 b 0) f))
 
 module _ (z : Table) (entries moves : List ℕ) (p a : ℕ) (k : EntryUse) (q : ℕ) where
   -- what entry number i gives, where its control is q

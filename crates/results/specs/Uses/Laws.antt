@@ -30,7 +30,6 @@ use Rattle.results.specs.declared.EntryUse.{EntryUse}
 use Rattle.results.specs.declared.Use.{Use}
 use Rattle.results.specs.declared.Use.the-variants.{Moves, Entries, Nothing}
 use Rattle.readings.specs.declared.Before.{Before}
-use Rattle.readings.specs.declared.Slot.{Slot}
 use Rattle.readings.specs.Before.{tableBefore, Known}
 use Rattle.premises.specs.declared.Source.{Source}
 use Rattle.premises.specs.Premises.{movesResults}
@@ -57,17 +56,13 @@ module _ (p a q : ℕ) (x : case.Operation) where
   pub use-is : (y : case.Operation) → x ≡ y → useOf p a q (theOperation y) ≡ useOf p a q (theOperation x)
   use-is y e = ap (λ (o : case.Operation). useOf p a q (theOperation o)) (sym e)
 
-  pub use-pop2 : (at : Slot) (o : ResultWords) (bit : ℕ) → x ≡ Pop2 → bit ≡ single q → at ≡ record { control = p; s = bit; symbol = a } → o ≡ theResult (at .control) (at .s) (at .symbol) 0 0 0
-      → Nothing o ≡ useOf p a q (theOperation x)
+  pub use-pop2 : (p′ a′ : ℕ) (o : ResultWords) (bit : ℕ) → x ≡ Pop2 → bit ≡ single q → p′ ≡ p → a′ ≡ a → o ≡ theResult p′ bit a′ 0 0 0 → Nothing o ≡ useOf p a q (theOperation x)
   unfolding useOf
-  use-pop2 at o bit e f h g =
-      ap Nothing (g ∙ ap (λ (y : Slot). theResult (y .control) (y .s) (y .symbol) 0 0 0) h ∙ ap (λ (n : ℕ). theResult p n a 0 0 0) f) ∙ use-is Pop2 e
+  use-pop2 p′ a′ o bit e f ep ea g = ap Nothing (g ∙ rw (ep, ea, f) refl) ∙ use-is Pop2 e
 
-  pub use-collapse2 : (at : Slot) (o : ResultWords) (bit : ℕ) → x ≡ Collapse2 → bit ≡ single q → at ≡ record { control = p; s = 0; symbol = a }
-      → o ≡ theResult (at .control) (at .s) (at .symbol) 2 bit 0 → Nothing o ≡ useOf p a q (theOperation x)
+  pub use-collapse2 : (p′ a′ : ℕ) (o : ResultWords) (bit : ℕ) → x ≡ Collapse2 → bit ≡ single q → p′ ≡ p → a′ ≡ a → o ≡ theResult p′ 0 a′ 2 bit 0 → Nothing o ≡ useOf p a q (theOperation x)
   unfolding useOf
-  use-collapse2 at o bit e f h g =
-      ap Nothing (g ∙ ap (λ (y : Slot). theResult (y .control) (y .s) (y .symbol) 2 bit 0) h ∙ ap (λ (n : ℕ). theResult p 0 a 2 n 0) f) ∙ use-is Collapse2 e
+  use-collapse2 p′ a′ o bit e f ep ea g = ap Nothing (g ∙ rw (ep, ea, f) refl) ∙ use-is Collapse2 e
 
 module _ (p a q : ℕ) (u : Use) where
   pub uses-moves : (A : Automaton) (from : Source) → u ≡ Moves from → movesResults A p a (from .kind) (from .symbol) (from .control) ≡ useResults A p a q u
