@@ -54,9 +54,6 @@ pub fn read_edges(
     ensures { λ k. ⌜ CollectsAll (automatonOf z (now (inner .entry)) (now (entries .entry)) (now (moves .entry))) (to .room) n (now (out .entry))
         (edgesTo to s (theJoins order b r) (members left) named) k (now (out .exit)) (now (memo .exit)) ⌝ }
 {
-    if to.room < n {
-        return n;
-    }
     if left == 0 {
         return readings::read_from(
             z,
@@ -123,6 +120,9 @@ fn choose_left(
     ensures { λ k. ⌜ CollectsAll (automatonOf z (now (inner .entry)) (now (entries .entry)) (now (moves .entry))) (to .room) n (now (out .entry))
         (edgesTo to s (theJoins order b r) (members left) named) k (now (out .exit)) (now (memo .exit)) ⌝ }
 {
+    if to.room < n {
+        return n;
+    }
     let count = z.moves as u64;
     let x = memo_table::edges_state(count, to.control, to.symbol, s, left, named, order, b, r);
     let row = memo_table::place(memo, x);

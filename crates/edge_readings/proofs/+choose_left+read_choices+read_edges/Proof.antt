@@ -87,11 +87,14 @@ choose-left-claims t = (
   put-reads.Learnt,
 )
 
+choose-left-returns : (t : ℕ) → choose-left-lts.Need-returns (choose-left-claims t) (choose-left-at t) choose-left.Post
+choose-left-returns t c = nothing-collected _ _ _ _ _ _ (c .before .before .before .before .before .before .before .before .before .pre .1 .1) (collects-over _ _ _ (c .before .before .before .before .before .before .before .before .before .pre .1 .1 .stands .number) (c .if1 .taken))
+
 choose-left-edges-state-requires : (t : ℕ) → choose-left-lts.Need-edges-state-requires (choose-left-claims t) (choose-left-at t) choose-left.Post
-choose-left-edges-state-requires t c κs = c .before .before .before .before .before .before .before .pre .1 .0 .moves-indexed .by-state .few
+choose-left-edges-state-requires t c κs = c .before .before .before .before .before .before .before .before .before .pre .1 .0 .moves-indexed .by-state .few
 
 choose-left-place-requires : (t : ℕ) → choose-left-lts.Need-place-requires (choose-left-claims t) (choose-left-at t) choose-left.Post
-choose-left-place-requires t c κs = c .before .before .before .before .before .before .before .before .before .pre .1 .1 .memo-holds .up-to .some-row
+choose-left-place-requires t c κs = c .before .before .before .before .before .before .before .before .before .before .before .pre .1 .1 .memo-holds .up-to .some-row
 
 choose-left-holds-requires : (t : ℕ) → choose-left-lts.Need-holds-requires (choose-left-claims t) (choose-left-at t) choose-left.Post
 choose-left-holds-requires t c κs = c .before .place .ensures
@@ -99,18 +102,18 @@ choose-left-holds-requires t c κs = c .before .place .ensures
 choose-left-same-length : (t : ℕ) → choose-left-lts.Need-same-length (choose-left-claims t) (choose-left-at t) choose-left.Post
 choose-left-same-length t c = search needs
 
-choose-left-returns : (t : ℕ) → choose-left-lts.Need-returns (choose-left-claims t) (choose-left-at t) choose-left.Post
-choose-left-returns t c =
-    let few = length-rowsIn moveRow (c .before .before .before .before .before .before .before .before .before .before .before .before .before .args .z .moves) (c .before .before .before .before .before .before .before .before .before .before .before .before .before .args .moves .now) in
-    let h = c .before .before .before .before .before .before .before .before .before .before .before .before .before .pre .1 .1 in
+choose-left-returns-2 : (t : ℕ) → choose-left-lts.Need-returns-2 (choose-left-claims t) (choose-left-at t) choose-left.Post
+choose-left-returns-2 t c =
+    let few = length-rowsIn moveRow (c .before .before .before .before .before .before .before .before .before .before .before .before .before .before .before .args .z .moves) (c .before .before .before .before .before .before .before .before .before .before .before .before .before .before .before .args .moves .now) in
+    let h = c .before .before .before .before .before .before .before .before .before .before .before .before .before .before .before .pre .1 .1 in
     nothing-collected _ _ _ _ _ _ h
-    (memo-found _ _ _ _ _ (edges-gives _ _ _ _ _ _ _ _ _ _ few _ (c .before .before .before .before .before .edges-state .ensures)) (h .memo-holds) (h .stands .number) (c .before .before .before .place .ensures) (c .before .holds .ensures) (c .if1 .taken))
+    (memo-found _ _ _ _ _ (edges-gives _ _ _ _ _ _ _ _ _ _ few _ (c .before .before .before .before .before .edges-state .ensures)) (h .memo-holds) (h .stands .number) (c .before .before .before .place .ensures) (c .before .holds .ensures) (c .if2 .taken))
 
 choose-left-least-member-requires : (t : ℕ) → choose-left-lts.Need-least-member-requires (choose-left-claims t) (choose-left-at t) choose-left.Post
-choose-left-least-member-requires t c κs = c .before .before .before .before .before .before .before .before .before .before .before .before .before .pre .1 .2
+choose-left-least-member-requires t c κs = c .before .before .before .before .before .before .before .before .before .before .before .before .before .before .before .pre .1 .2
 
 choose-left-read-choices-requires : (t : ℕ) → choose-left-lts.Need-read-choices-requires (choose-left-claims t) (choose-left-at t) choose-left.Post
-choose-left-read-choices-requires t c κs = (fewer-edges _ _ _ _ (c .before .before .least-member .ensures .0) (c .before .before .before .before .before .before .before .before .before .before .before .before .before .before .before .before .pre .0), (c .before .before .before .before .before .before .before .before .before .before .before .before .before .before .before .before .pre .1 .0, c .before .before .before .before .before .before .before .before .before .before .before .before .before .before .before .before .pre .1 .1, held-first _ (c .before .before .before .before .before .before .before .before .before .before .before .before .before .before .before .before .args .to) _ _ _ _ _ (c .before .before .before .before .before .before .before .before .before .before .before .before .before .before .before .before .pre .1 .3) _ _ (c .before .before .least-member .ensures .0)))
+choose-left-read-choices-requires t c κs = (fewer-edges _ _ _ _ (c .before .before .least-member .ensures .0) (c .before .before .before .before .before .before .before .before .before .before .before .before .before .before .before .before .before .before .pre .0), (c .before .before .before .before .before .before .before .before .before .before .before .before .before .before .before .before .before .before .pre .1 .0, c .before .before .before .before .before .before .before .before .before .before .before .before .before .before .before .before .before .before .pre .1 .1, held-first _ (c .before .before .before .before .before .before .before .before .before .before .before .before .before .before .before .before .before .before .args .to) _ _ _ _ _ (c .before .before .before .before .before .before .before .before .before .before .before .before .before .before .before .before .before .before .pre .1 .3) _ _ (c .before .before .least-member .ensures .0)))
 
 choose-left-put-requires : (t : ℕ) → choose-left-lts.Need-put-requires (choose-left-claims t) (choose-left-at t) choose-left.Post
 choose-left-put-requires t c κs = omega (arith, c .before .before .before .before .before .before .before .before .before .before .before .before .place .ensures, c .before .before .before .before .before .read-choices .kept .1 .1 .1 .1 .1 .1 .1 .1 .1 .1 .1 .1 .1 .1 .0)
@@ -121,10 +124,10 @@ choose-left-same-length-2 t c = c .before .before .put .kept .0 ∙ c .before .b
 choose-left-same-length-3 : (t : ℕ) → choose-left-lts.Need-same-length-3 (choose-left-claims t) (choose-left-at t) choose-left.Post
 choose-left-same-length-3 t c = c .before .before .before .before .before .before .before .before .read-choices .kept .1 .1 .1 .1 .1 .1 .1 .1 .1 .1 .1 .1 .1 .1 .1 .0
 
-choose-left-returns-2 : (t : ℕ) → choose-left-lts.Need-returns-2 (choose-left-claims t) (choose-left-at t) choose-left.Post
-choose-left-returns-2 t c =
-    all-noted _ _ _ _ _ _ _ (c .before .before .before .before .before .before .before .before .before .before .before .before .before .before .before .before .before .before .before .before .before .before .before .before .before .args .to) _ _ _ _ _ _ _ _ _ _ _ (length-rowsIn moveRow (c .before .before .before .before .before .before .before .before .before .before .before .before .before .before .before .before .before .before .before .before .before .before .before .before .before .args .z .moves) (c .before .before .before .before .before .before .before .before .before .before .before .before .before .before .before .before .before .before .before .before .before .before .before .before .before .args .moves .now)) refl (c .before .before .before .before .before .before .before .before .before .before .before .before .before .before .before .before .before .edges-state .ensures)
-    (all-first _ _ _ _ _ _ _ (c .before .before .before .before .before .before .before .before .before .before .before .before .before .before .before .before .before .before .before .before .before .before .before .before .before .args .to) _ _ _ _ _ _ (c .before .before .before .before .before .before .before .before .before .before .before .least-member .ensures .0) (c .before .before .before .before .before .before .before .before .read-choices .ensures)) (omega (arith, c .before .before .before .before .before .before .before .before .before .before .before .before .before .before .before .place .ensures, c .before .before .before .before .before .before .before .before .read-choices .kept .1 .1 .1 .1 .1 .1 .1 .1 .1 .1 .1 .1 .1 .1 .0)) (c .before .before .put .ensures)
+choose-left-returns-3 : (t : ℕ) → choose-left-lts.Need-returns-3 (choose-left-claims t) (choose-left-at t) choose-left.Post
+choose-left-returns-3 t c =
+    all-noted _ _ _ _ _ _ _ (c .before .before .before .before .before .before .before .before .before .before .before .before .before .before .before .before .before .before .before .before .before .before .before .before .before .before .before .args .to) _ _ _ _ _ _ _ _ _ _ _ (length-rowsIn moveRow (c .before .before .before .before .before .before .before .before .before .before .before .before .before .before .before .before .before .before .before .before .before .before .before .before .before .before .before .args .z .moves) (c .before .before .before .before .before .before .before .before .before .before .before .before .before .before .before .before .before .before .before .before .before .before .before .before .before .before .before .args .moves .now)) refl (c .before .before .before .before .before .before .before .before .before .before .before .before .before .before .before .before .before .edges-state .ensures)
+    (all-first _ _ _ _ _ _ _ (c .before .before .before .before .before .before .before .before .before .before .before .before .before .before .before .before .before .before .before .before .before .before .before .before .before .before .before .args .to) _ _ _ _ _ _ (c .before .before .before .before .before .before .before .before .before .before .before .least-member .ensures .0) (c .before .before .before .before .before .before .before .before .read-choices .ensures)) (omega (arith, c .before .before .before .before .before .before .before .before .before .before .before .before .before .before .before .place .ensures, c .before .before .before .before .before .before .before .before .read-choices .kept .1 .1 .1 .1 .1 .1 .1 .1 .1 .1 .1 .1 .1 .1 .0)) (c .before .before .put .ensures)
 
 -- what the callees of read_choices require and ensure
 abbrev read-choices-claims : ℕ → read-choices-lts.Claims
@@ -245,11 +248,8 @@ read-edges-claims t = (
   choose-left.Post,
 )
 
-read-edges-returns : (t : ℕ) → read-edges-lts.Need-returns (read-edges-claims t) (read-edges-at t) read-edges.Post
-read-edges-returns t c = nothing-collected _ _ _ _ _ _ (c .before .before .before .before .before .before .before .before .before .pre .1 .1) (collects-over _ _ _ (c .before .before .before .before .before .before .before .before .before .pre .1 .1 .stands .number) (c .if1 .taken))
-
 read-edges-read-from-requires : (t : ℕ) → read-edges-lts.Need-read-from-requires (read-edges-claims t) (read-edges-at t) read-edges.Post
-read-edges-read-from-requires t c κs = (c .before .before .before .before .before .before .before .before .before .before .before .before .pre .1 .0 .moves-indexed, can-read (c .before .before .before .before .before .before .before .before .before .before .before .before .args .z) _ _ _ _ _ _ _ (c .before .before .before .before .before .before .before .before .before .before .before .before .pre .1 .1), held-table (c .before .before .before .before .before .before .before .before .before .before .before .before .args .z) _ _ _ (c .before .before .before .before .before .before .before .before .before .before .before .before .args .to) _ _ (reads-alone (c .before .before .before .before .before .before .before .before .before .before .before .before .args .to) _ _ _) (held-end _ (c .before .before .before .before .before .before .before .before .before .before .before .before .args .to) _ _ _ _ _ (c .before .before .before .before .before .before .before .before .before .before .before .before .pre .1 .2) (c .before .before .if2 .taken)))
+read-edges-read-from-requires t c κs = (c .before .before .before .before .before .before .before .before .before .before .pre .1 .0 .moves-indexed, can-read (c .before .before .before .before .before .before .before .before .before .before .args .z) _ _ _ _ _ _ _ (c .before .before .before .before .before .before .before .before .before .before .pre .1 .1), held-table (c .before .before .before .before .before .before .before .before .before .before .args .z) _ _ _ (c .before .before .before .before .before .before .before .before .before .before .args .to) _ _ (reads-alone (c .before .before .before .before .before .before .before .before .before .before .args .to) _ _ _) (held-end _ (c .before .before .before .before .before .before .before .before .before .before .args .to) _ _ _ _ _ (c .before .before .before .before .before .before .before .before .before .before .pre .1 .2) (c .before .before .if1 .taken)))
 
 read-edges-same-length : (t : ℕ) → read-edges-lts.Need-same-length (read-edges-claims t) (read-edges-at t) read-edges.Post
 read-edges-same-length t c = c .before .before .before .before .read-from .kept .1 .1 .1 .1 .1 .1 .1 .1 .1 .1 .1 .1 .0
@@ -257,11 +257,11 @@ read-edges-same-length t c = c .before .before .before .before .read-from .kept 
 read-edges-same-length-2 : (t : ℕ) → read-edges-lts.Need-same-length-2 (read-edges-claims t) (read-edges-at t) read-edges.Post
 read-edges-same-length-2 t c = c .before .before .before .before .read-from .kept .1 .1 .1 .1 .1 .1 .1 .1 .1 .1 .1 .1 .1 .0
 
-read-edges-returns-2 : (t : ℕ) → read-edges-lts.Need-returns-2 (read-edges-claims t) (read-edges-at t) read-edges.Post
-read-edges-returns-2 t c = all-end _ _ _ _ _ _ _ (c .before .before .before .before .before .before .before .before .before .before .before .before .before .before .before .before .before .args .to) _ _ _ _ (c .before .before .before .before .before .before .before .if2 .taken) (read-collected (c .before .before .before .before .before .before .before .before .before .before .before .before .before .before .before .before .before .args .z) _ _ _ _ _ _ _ (c .before .before .before .before .before .before .before .before .before .before .before .before .before .before .before .before .before .pre .1 .1) _ _ _ _ (reads-alone (c .before .before .before .before .before .before .before .before .before .before .before .before .before .before .before .before .before .args .to) _ _ _) (c .before .before .before .before .read-from .ensures))
+read-edges-returns : (t : ℕ) → read-edges-lts.Need-returns (read-edges-claims t) (read-edges-at t) read-edges.Post
+read-edges-returns t c = all-end _ _ _ _ _ _ _ (c .before .before .before .before .before .before .before .before .before .before .before .before .before .before .before .args .to) _ _ _ _ (c .before .before .before .before .before .before .before .if1 .taken) (read-collected (c .before .before .before .before .before .before .before .before .before .before .before .before .before .before .before .args .z) _ _ _ _ _ _ _ (c .before .before .before .before .before .before .before .before .before .before .before .before .before .before .before .pre .1 .1) _ _ _ _ (reads-alone (c .before .before .before .before .before .before .before .before .before .before .before .before .before .before .before .args .to) _ _ _) (c .before .before .before .before .read-from .ensures))
 
 read-edges-choose-left-requires : (t : ℕ) → read-edges-lts.Need-choose-left-requires (read-edges-claims t) (read-edges-at t) read-edges.Post
-read-edges-choose-left-requires t c κs = (omega (arith, c .before .before .before .before .before .before .before .before .before .before .before .before .pre .0), (c .before .before .before .before .before .before .before .before .before .before .before .before .pre .1 .0, c .before .before .before .before .before .before .before .before .before .before .before .before .pre .1 .1, omega (arith, c .before .before .if2 .left), c .before .before .before .before .before .before .before .before .before .before .before .before .pre .1 .2))
+read-edges-choose-left-requires t c κs = (omega (arith, c .before .before .before .before .before .before .before .before .before .before .pre .0), (c .before .before .before .before .before .before .before .before .before .before .pre .1 .0, c .before .before .before .before .before .before .before .before .before .before .pre .1 .1, omega (arith, c .before .before .if1 .left), c .before .before .before .before .before .before .before .before .before .before .pre .1 .2))
 
 read-edges-same-length-3 : (t : ℕ) → read-edges-lts.Need-same-length-3 (read-edges-claims t) (read-edges-at t) read-edges.Post
 read-edges-same-length-3 t c = c .before .before .before .before .choose-left .kept .1 .1 .1 .1 .1 .1 .1 .1 .1 .1 .1 .1 .1 .1 .0
@@ -269,23 +269,24 @@ read-edges-same-length-3 t c = c .before .before .before .before .choose-left .k
 read-edges-same-length-4 : (t : ℕ) → read-edges-lts.Need-same-length-4 (read-edges-claims t) (read-edges-at t) read-edges.Post
 read-edges-same-length-4 t c = c .before .before .before .before .choose-left .kept .1 .1 .1 .1 .1 .1 .1 .1 .1 .1 .1 .1 .1 .1 .1 .0
 
-read-edges-returns-3 : (t : ℕ) → read-edges-lts.Need-returns-3 (read-edges-claims t) (read-edges-at t) read-edges.Post
-read-edges-returns-3 t c = c .before .before .before .before .choose-left .ensures
+read-edges-returns-2 : (t : ℕ) → read-edges-lts.Need-returns-2 (read-edges-claims t) (read-edges-at t) read-edges.Post
+read-edges-returns-2 t c = c .before .before .before .before .choose-left .ensures
 
 pub +choose-left+read-choices+read-edges-spec : {M : Type 1} → statement M
 +choose-left+read-choices+read-edges-spec = close μ-choose-left μ-read-choices μ-read-edges
     (λ t. choose-left-lts.spec (choose-left-claims t) (choose-left-at t) choose-left.Post
+    (choose-left-returns t)
     (choose-left-edges-state-requires t)
     (choose-left-place-requires t)
     (choose-left-holds-requires t)
     (choose-left-same-length t)
-    (choose-left-returns t)
+    (choose-left-returns-2 t)
     (choose-left-least-member-requires t)
     (choose-left-read-choices-requires t)
     (choose-left-put-requires t)
     (choose-left-same-length-2 t)
     (choose-left-same-length-3 t)
-    (choose-left-returns-2 t))
+    (choose-left-returns-3 t))
     (λ t. read-choices-lts.spec (read-choices-claims t) (read-choices-at t) read-choices.Post read-choices-Inv-loop read-choices-μ-loop
     (read-choices-add-count t)
     (read-choices-loop-holds t)
@@ -305,12 +306,11 @@ pub +choose-left+read-choices+read-edges-spec : {M : Type 1} → statement M
     (read-choices-same-length-2 t)
     (read-choices-returns t))
     (λ t. read-edges-lts.spec (read-edges-claims t) (read-edges-at t) read-edges.Post
-    (read-edges-returns t)
     (read-edges-read-from-requires t)
     (read-edges-same-length t)
     (read-edges-same-length-2 t)
-    (read-edges-returns-2 t)
+    (read-edges-returns t)
     (read-edges-choose-left-requires t)
     (read-edges-same-length-3 t)
     (read-edges-same-length-4 t)
-    (read-edges-returns-3 t))
+    (read-edges-returns-2 t))
