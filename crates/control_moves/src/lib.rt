@@ -3,11 +3,11 @@ ghost use mathlib.Core.Path.{_≡_};
 ghost use Prim.Native.Nat.{_<_, _%_};
 ghost use lib.Dec.{ltb};
 ghost use Rattle.words.specs.Sets.{member};
-ghost use Rattle.tables.specs.Held.{automatonOf, MovesStand};
+ghost use Rattle.tables.specs.Held.{automatonOf};
 ghost use Rattle.readings.specs.Indexed.{Indexed};
 ghost use Rattle.readings.specs.Before.{tableBefore};
 ghost use Rattle.readings.specs.Gathering.{CanCollect, CollectsAll};
-ghost use Rattle.round_news.specs.News.{HasSymbols, NoneHas};
+ghost use Rattle.round_news.specs.News.{HasSymbols};
 ghost use Rattle.premises.specs.Premises.{sourceGives};
 ghost use Rattle.premises.specs.Settled.{SettledBy, SourceHeld};
 ghost use Rattle.control_moves.specs.First.{readsNew, firstMove, settledOn, HeldBelow};
@@ -183,17 +183,6 @@ fn first_move(z: tables::Table, t: Before, symbols: u64, b: u64) -> usize
     z.moves
 }
 
-// States without a newer move on symbol a; where this is not asked for, no state.
-fn settled(z: tables::Table, moves: &[u64], t: Before, reads: bool, a: u64) -> u64
-    requires { ⌜ MovesStand z (now moves) ⌝ }
-    ensures { λ s. ⌜ NoneHas (now (moves .entry)) (t .moves) (z .moves) a s ⌝ }
-{
-    if !reads {
-        return 0;
-    }
-    round_news::settled_states(moves, t.moves, z.moves, a)
-}
-
 // The same goal, where the states of s have no newer move on its symbol.
 fn settled_goal(to: Goal, s: u64) -> Goal
     ensures { λ x. ⌜ x ≡ settledOn to s ⌝ }
@@ -231,15 +220,15 @@ pub fn by_moves(
     requires { ⌜ Indexed z (now inner) (now entries) (now moves) (now states) (now words)
         × CanCollect (automatonOf z (now inner) (now entries) (now moves)) (to .room) n (now out) (now memo)
         × SettledBy (automatonOf z (now inner) (now entries) (now moves)) (to .before) (sourceGives to from (tableBefore (to .before) (automatonOf z (now inner) (now entries) (now moves))))
-        × HasSymbols (now moves) (to .before .moves) (z .moves) symbols ⌝ }
+        × HasSymbols (now moves) (to .before .moves) (z .moves) symbols × (to .before .settled ≡ 0) ⌝ }
     ensures { λ k. ⌜ CollectsAll (automatonOf z (now (inner .entry)) (now (entries .entry)) (now (moves .entry))) (to .room) n (now (out .entry))
         (sourceGives to from) k (now (out .exit)) (now (memo .exit)) ⌝ }
 {
     let kind = from.kind;
     let t = to.before;
-    let reads = reads_new(kind, z, t, symbols, to.symbol);
-    let by = settled_goal(to, settled(z, moves, t, reads, to.symbol));
-    if reads {
+    if reads_new(kind, z, t, symbols, to.symbol) {
+        let s = round_news::settled_states(moves, t.moves, z.moves, to.symbol);
+        let by = settled_goal(to, s);
         return by_control(
             z,
             inner,
@@ -262,7 +251,7 @@ pub fn by_moves(
         moves,
         states,
         words,
-        by,
+        to,
         from,
         first,
         memo,

@@ -3,6 +3,7 @@
 pub mod Laws
 use Prim.Native.Nat.{ℕ, _*_, _≤_, _<_}
 use mathlib.Core.Bool.{not}
+use mathlib.Core.Path.{_≡_}
 use mathlib.Core.List.{List}
 use lib.ListN.{length}
 use Rattle.words.specs.Lists.{only}
@@ -39,10 +40,11 @@ pub record RulesStand (count : ℕ) (body : List ℕ) : Type 0 where
 unfoldable pub newResults : List Rule → Automaton → List Result
 newResults rules A = sorted resultKey (only (λ x. not (held A x)) (results rules A))
 
--- A round can be worked out: its tables stand with the index of the moves, all that the table of the round before gives is held, and the memo
--- table has no row of this round.
+-- A round can be worked out: its tables stand with the index of the moves, all that the table of the round before gives is held, the memo
+-- table has no row of this round, and no state is known to be settled.
 pub record RoundReady (z : Table) (inner entries moves states words : List ℕ) (t : Before) (count : ℕ) (body memo : List ℕ) : Type 0 where
   pub indexed : Indexed z inner entries moves states words
   pub rules-stand : RulesStand count body
   pub settled-by : SettledBy (automatonOf z inner entries moves) t (results (rulesIn count body) (tableBefore t (automatonOf z inner entries moves)))
   pub memo-before : MemoBefore (z .moves) memo
+  pub none-settled : t .settled ≡ 0

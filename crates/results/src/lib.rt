@@ -21,7 +21,7 @@ ghost use Rattle.results.specs.Rules.{entryResult, entriesResults, ruleG
 ghost use Rattle.results.specs.Entries.{EntriesKnown};
 ghost use Rattle.results.specs.Collecting.{rulesIn, newResults, RoundReady};
 ghost use Rattle.results.specs.Steps.{entryStep};
-ghost use Rattle.results.specs.Uses.{movesFrom, useOf, useGives};
+ghost use Rattle.results.specs.Uses.{useOf, useGives};
 use premises::MoveUse;
 use premises::Source;
 use readings::Before;
@@ -119,22 +119,11 @@ fn by_nothing(
     offers::offer(z, entries, moves, words, x, out, n, to.room)
 }
 
-// What a rule's operation uses: the moves from a source, the entries of the control that it goes to, or nothing, for one result.
+// What a rule's operation uses: moves on a symbol of the entries of the control that it goes to, these entries, or nothing, for one result.
 enum Use {
-    Moves(Source),
+    Moves(MoveUse, u64),
     Entries(EntryUse),
     Nothing(tables::Result),
-}
-
-// The moves on this symbol of the entries of this control, used in this way.
-fn moves_from(kind: MoveUse, symbol: u64, control: u64) -> Use
-    ensures { λ r. ⌜ r ≡ movesFrom kind symbol control ⌝ }
-{
-    Use::Moves(Source {
-        kind: kind,
-        symbol: symbol,
-        control: control,
-    })
 }
 
 // What a rule's operation uses.
@@ -142,14 +131,13 @@ fn use_of(to: Goal, rule: case_records::Rule) -> Use
     requires { ⌜ (rule .next < 64) × (to .control ≡ rule .control) × (to .symbol ≡ rule .symbol) ⌝ }
     ensures { λ r. ⌜ r ≡ useOf (rule .control) (rule .symbol) (rule .next) (theOperation (rule .operation)) ⌝ }
 {
-    let q = rule.next;
-    let bit = sets::one_bit(q);
+    let bit = sets::one_bit(rule.next);
     let operation = rule.operation;
     match operation {
-        case_records::Operation::Rewrite(b) => moves_from(MoveUse::Rewritten, b, q),
-        case_records::Operation::Push1(b) => moves_from(MoveUse::Pushed1, b, q),
-        case_records::Operation::Push2(b) => moves_from(MoveUse::Pushed2, b, q),
-        case_records::Operation::Copy => moves_from(MoveUse::Copied, rule.symbol, q),
+        case_records::Operation::Rewrite(b) => Use::Moves(MoveUse::Rewritten, b),
+        case_records::Operation::Push1(b) => Use::Moves(MoveUse::Pushed1, b),
+        case_records::Operation::Push2(b) => Use::Moves(MoveUse::Pushed2, b),
+        case_records::Operation::Copy => Use::Moves(MoveUse::Copied, rule.symbol),
         case_records::Operation::Pop1 => Use::Entries(EntryUse::Popped),
         case_records::Operation::Pop2 => Use::Nothing(readings::result(to, bit, 0, 0, 0)),
         case_records::Operation::Collapse1 => Use::Entries(EntryUse::Collapsed),
@@ -177,26 +165,33 @@ fn by_use(
     requires { ⌜ Indexed z (now inner) (now entries) (now moves) (now states) (now words)
         × CanCollect (automatonOf z (now inner) (now entries) (now moves)) (to .room) n (now out) (now memo)
         × SettledBy (automatonOf z (now inner) (now entries) (now moves)) (to .before) (useGives to q used (tableBefore (to .before) (automatonOf z (now inner) (now entries) (now moves))))
-        × HasSymbols (now moves) (to .before .moves) (z .moves) symbols ⌝ }
+        × HasSymbols (now moves) (to .before .moves) (z .moves) symbols × (to .before .settled ≡ 0) ⌝ }
     ensures { λ k. ⌜ CollectsAll (automatonOf z (now (inner .entry)) (now (entries .entry)) (now (moves .entry))) (to .room) n (now (out .entry))
         (useGives to q used) k (now (out .exit)) (now (memo .exit)) ⌝ }
 {
     let old = to.before.entries;
     match used {
-        Use::Moves(from) => control_moves::by_moves(
-            z,
-            inner,
-            entries,
-            moves,
-            states,
-            words,
-            to,
-            symbols,
-            from,
-            memo,
-            out,
-            n,
-        ),
+        Use::Moves(kind, b) => {
+            let from = Source {
+                kind: kind,
+                symbol: b,
+                control: q,
+            };
+            control_moves::by_moves(
+                z,
+                inner,
+                entries,
+                moves,
+                states,
+                words,
+                to,
+                symbols,
+                from,
+                memo,
+                out,
+                n,
+            )
+        }
         Use::Entries(k) => by_entries(z, entries, moves, words, to, k, q, old, out, n),
         Use::Nothing(x) => by_nothing(z, entries, moves, words, to, x, out, n),
     }
@@ -221,7 +216,7 @@ fn by_rule(
     requires { ⌜ Indexed z (now inner) (now entries) (now moves) (now states) (now words)
         × CanCollect (automatonOf z (now inner) (now entries) (now moves)) room n (now out) (now memo)
         × SettledBy (automatonOf z (now inner) (now entries) (now moves)) t (ruleGives (theRule rule) (tableBefore t (automatonOf z (now inner) (now entries) (now moves))))
-        × HasSymbols (now moves) (t .moves) (z .moves) symbols × (rule .next < 64) ⌝ }
+        × HasSymbols (now moves) (t .moves) (z .moves) symbols × (rule .next < 64) × (t .settled ≡ 0) ⌝ }
     ensures { λ k. ⌜ CollectsAll (automatonOf z (now (inner .entry)) (now (entries .entry)) (now (moves .entry))) room n (now (out .entry))
         (ruleGives (theRule rule)) k (now (out .exit)) (now (memo .exit)) ⌝ }
 {

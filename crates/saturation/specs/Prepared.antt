@@ -3,6 +3,7 @@
 pub mod Laws
 use Prim.Native.Nat.{ℕ}
 use mathlib.Core.Bool.{true, false}
+use mathlib.Core.Path.{_≡_}
 use mathlib.Core.List.{List}
 use Rattle.stacks.specs.System.{Rule}
 use Rattle.automata.specs.Saturation.{results}
@@ -31,3 +32,4 @@ pub record Prepared (rules : List Rule) (inner : List ℕ) (z : Table) (entries 
   pub by-state : ByState (t .moves) moves states
   pub by-words : ByWords (t .moves) moves words
   pub memo-before : MemoBefore (z .moves) memo
+  pub none-settled : t .settled ≡ 0

@@ -145,9 +145,7 @@ module _ (z : Table) (inner entries moves : List ℕ) (to : Goal) (from : Source
             quiet-held (sym e ∙ v) i (old-symbol (from .symbol) u i (w .0) (eqb-true _ _ (and-left (eqb (moveAt (automatonOf z inner entries moves) i .symbol) (from .symbol)) _ (w .1)))) m;
       })
 
--- whatever states are settled
-pub held-below-settled : (A : Automaton) (to to′ : Goal) (from : Source) (first s : ℕ) → to′ ≡ settledOn to s → HeldBelow A to from first → HeldBelow A to′ from first
-held-below-settled A to to′ from first s e h = rw e (record { within = h .within; below = h .below })
+-- the goal with its settled states
 
 pub settled-can : (A : Automaton) (to to′ : Goal) (s : ℕ) {n : ℕ} {t memo : List ℕ} → to′ ≡ settledOn to s → CanCollect A (to .room) n t memo → CanCollect A (to′ .room) n t memo
 settled-can A to to′ s {n} {t} {memo} e c = rw e c
@@ -169,6 +167,12 @@ below-past z inner entries moves to from first room n t h m =
 -- no state is settled
 pub none-settled : (moves : List ℕ) (from to a : ℕ) → NoneHas moves from to a 0
 none-settled moves from to a = record { none-has = λ i b c y l h. has-empty h }
+
+-- where none is known to be
+pub unsettled-held : (z : Table) (inner entries moves : List ℕ) (to : Goal) (from : Source) → to .before .settled ≡ 0
+    → SettledBy (automatonOf z inner entries moves) (to .before) (sourceGives to from (tableBefore (to .before) (automatonOf z inner entries moves))) → SourceHeld (automatonOf z inner entries moves) to from
+unsettled-held z inner entries moves to from e h =
+    source-held z inner entries moves to to from 0 h (none-settled moves (to .before .moves) (z .moves) (to .symbol)) (omega arith) (ap (settledOn to) e)
 
 -- ---- in the code
 

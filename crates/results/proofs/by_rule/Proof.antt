@@ -14,7 +14,7 @@ use-of-requires : tie.Need-use-of-requires
 use-of-requires c κs = (c .before .before .before .before .before .before .before .pre .4, refl, refl)
 
 by-use-requires : tie.Need-by-use-requires
-by-use-requires c κs = (c .before .before .before .before .before .before .before .before .before .before .pre .0, c .before .before .before .before .before .before .before .before .before .before .pre .1, settled-use _ _ (theRule (c .before .before .before .before .before .before .before .before .before .before .args .rule)) _ (c .before .before .use-of .ensures) (c .before .before .before .before .before .before .before .before .before .before .pre .2), c .before .before .before .before .before .before .before .before .before .before .pre .3)
+by-use-requires c κs = (c .before .before .before .before .before .before .before .before .before .before .pre .0, c .before .before .before .before .before .before .before .before .before .before .pre .1, settled-use _ _ (theRule (c .before .before .before .before .before .before .before .before .before .before .args .rule)) _ (c .before .before .use-of .ensures) (c .before .before .before .before .before .before .before .before .before .before .pre .2), c .before .before .before .before .before .before .before .before .before .before .pre .3, c .before .before .before .before .before .before .before .before .before .before .pre .5)
 
 same-length : tie.Need-same-length
 same-length c = search needs

@@ -12,7 +12,7 @@ enum-known-used : tie.Need-enum-known-used
 enum-known-used c = search needs
 
 by-moves-requires : tie.Need-by-moves-requires
-by-moves-requires c κs = (c .before .before .before .before .before .before .before .before .before .before .before .before .pre .0, c .before .before .before .before .before .before .before .before .before .before .before .before .pre .1, settled-moves (c .before .before .before .before .before .before .before .before .before .before .before .before .args .z) _ _ _ _ _ _ _ _ (c .before .before .before .before .before .before .before .before .before .before .before .before .pre .2) _ (c .before .before .before .used .given .1), c .before .before .before .before .before .before .before .before .before .before .before .before .pre .3)
+by-moves-requires c κs = (c .before .before .before .before .before .before .before .before .before .before .before .before .pre .0, c .before .before .before .before .before .before .before .before .before .before .before .before .pre .1, settled-moves (c .before .before .before .before .before .before .before .before .before .before .before .before .args .z) _ _ _ _ _ _ _ _ (c .before .before .before .before .before .before .before .before .before .before .before .before .pre .2) _ _ (c .before .before .before .used .given .1), c .before .before .before .before .before .before .before .before .before .before .before .before .pre .3, c .before .before .before .before .before .before .before .before .before .before .before .before .pre .4)
 
 enum-known-used-2 : tie.Need-enum-known-used-2
 enum-known-used-2 c = search needs
@@ -33,7 +33,7 @@ same-length-2 : tie.Need-same-length-2
 same-length-2 c = search needs
 
 returns : tie.Need-returns
-returns c = collects-all-same (sourceGives (c .before .before .before .before .before .before .before .before .before .before .before .before .before .before .before .before .before .args .to) _) (useGives (c .before .before .before .before .before .before .before .before .before .before .before .before .before .before .before .before .before .args .to) _ _) (uses-moves _ _ _ _ _ _ (c .before .before .before .before .before .before .before .before .used .given .1)) (c .before .before .before .before .by-moves .ensures)
+returns c = collects-all-same (sourceGives (c .before .before .before .before .before .before .before .before .before .before .before .before .before .before .before .before .before .args .to) _) (useGives (c .before .before .before .before .before .before .before .before .before .before .before .before .before .before .before .before .before .args .to) _ _) (uses-moves _ _ _ _ _ _ _ (c .before .before .before .before .before .before .before .before .used .given .1)) (c .before .before .before .before .by-moves .ensures)
 
 same-length-3 : tie.Need-same-length-3
 same-length-3 c = search needs

@@ -46,6 +46,7 @@ by-rule-requires c κs =
       settled-rule _ _ _ _ _ _ (c .before .before .before .loop-test .taken) rule (c .before .before .before .before .before .before .before .before .before .before .before .before .before .before .pre .0 .settled-by),
       c .before .before .before .before .before .new-symbols .ensures,
       next-small _ _ _ _ (c .before .before .before .before .before .before .before .before .before .before .before .before .before .before .pre .0 .rules-stand) (c .before .before .before .loop-test .taken) rule,
+      c .before .before .before .before .before .before .before .before .before .before .before .before .before .before .pre .0 .none-settled,
     )
 
 add-i : tie.Need-add-i Inv-loop μ-loop

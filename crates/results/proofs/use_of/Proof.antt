@@ -1,6 +1,5 @@
 -- `results::use_of` meets its contract.
 -- Assumes nothing.
-use mathlib.Core.Path.{_∙_}
 use Rattle.results.specs.Uses.{useOf}
 use Rattle.results.specs.Uses.Laws.{use-is, use-pop2, use-collapse2}
 use borrow.Author.Needs.{needs}
@@ -13,26 +12,14 @@ one-bit-requires c κs = search needs
 enum-known-operation : tie.Need-enum-known-operation
 enum-known-operation c = search needs
 
-moves-from-requires : tie.Need-moves-from-requires
-moves-from-requires c κs = search needs
-
 enum-known-operation-2 : tie.Need-enum-known-operation-2
 enum-known-operation-2 c = search needs
-
-moves-from-requires-2 : tie.Need-moves-from-requires-2
-moves-from-requires-2 c κs = search needs
 
 enum-known-operation-3 : tie.Need-enum-known-operation-3
 enum-known-operation-3 c = search needs
 
-moves-from-requires-3 : tie.Need-moves-from-requires-3
-moves-from-requires-3 c κs = search needs
-
 enum-told : tie.Need-enum-told
 enum-told c = search needs
-
-moves-from-requires-4 : tie.Need-moves-from-requires-4
-moves-from-requires-4 c κs = search needs
 
 enum-told-2 : tie.Need-enum-told-2
 enum-told-2 c = search needs
@@ -54,19 +41,19 @@ result-requires-2 c κs = search needs
 
 returns : tie.Need-returns
 unfolding useOf
-returns c = c .moves-from .ensures ∙ use-is _ _ _ _ _ (c .before .before .operation .given .1)
+returns c = use-is _ _ _ _ _ (c .before .operation .given .1)
 
 returns-2 : tie.Need-returns-2
 unfolding useOf
-returns-2 c = c .moves-from2 .ensures ∙ use-is _ _ _ _ _ (c .before .before .operation2 .given .1)
+returns-2 c = use-is _ _ _ _ _ (c .before .operation2 .given .1)
 
 returns-3 : tie.Need-returns-3
 unfolding useOf
-returns-3 c = c .moves-from3 .ensures ∙ use-is _ _ _ _ _ (c .before .before .operation3 .given .1)
+returns-3 c = use-is _ _ _ _ _ (c .before .operation3 .given .1)
 
 returns-4 : tie.Need-returns-4
 unfolding useOf
-returns-4 c = c .moves-from4 .ensures ∙ use-is _ _ _ _ _ (c .before .enum-told .given .1)
+returns-4 c = use-is _ _ _ _ _ (c .enum-told .given .1)
 
 returns-5 : tie.Need-returns-5
 unfolding useOf
@@ -83,4 +70,4 @@ returns-8 : tie.Need-returns-8
 returns-8 c = use-collapse2 _ _ _ _ _ _ _ _ (c .before .enum-told5 .given .1) (c .before .before .before .one-bit .ensures .1) (c .before .before .before .before .pre .1) (c .before .before .before .before .pre .2) (c .result2 .ensures)
 
 pub use-of-spec : {M : Type 1} → statement M
-use-of-spec = tie.close (tie.spec one-bit-requires enum-known-operation moves-from-requires enum-known-operation-2 moves-from-requires-2 enum-known-operation-3 moves-from-requires-3 enum-told moves-from-requires-4 enum-told-2 enum-told-3 result-requires enum-told-4 enum-told-5 result-requires-2 returns returns-2 returns-3 returns-4 returns-5 returns-6 returns-7 returns-8)
+use-of-spec = tie.close (tie.spec one-bit-requires enum-known-operation enum-known-operation-2 enum-known-operation-3 enum-told enum-told-2 enum-told-3 result-requires enum-told-4 enum-told-5 result-requires-2 returns returns-2 returns-3 returns-4 returns-5 returns-6 returns-7 returns-8)

@@ -31,7 +31,7 @@ use Rattle.results.specs.declared.Use.{Use}
 use Rattle.results.specs.declared.Use.the-variants.{Moves, Entries, Nothing}
 use Rattle.readings.specs.declared.Before.{Before}
 use Rattle.readings.specs.Before.{tableBefore, Known}
-use Rattle.premises.specs.declared.Source.{Source}
+use Rattle.premises.specs.declared.MoveUse.{MoveUse}
 use Rattle.premises.specs.Premises.{movesResults}
 use Rattle.premises.specs.Settled.{SettledBy}
 use Rattle.premises.specs.Settled.Laws.{length-entries, old-entry-known}
@@ -65,9 +65,9 @@ module _ (p a q : ℕ) (x : case.Operation) where
   use-collapse2 p′ a′ o bit e f ep ea g = ap Nothing (g ∙ rw (ep, ea, f) refl) ∙ use-is Collapse2 e
 
 module _ (p a q : ℕ) (u : Use) where
-  pub uses-moves : (A : Automaton) (from : Source) → u ≡ Moves from → movesResults A p a (from .kind) (from .symbol) (from .control) ≡ useResults A p a q u
+  pub uses-moves : (A : Automaton) (k : MoveUse) (b : ℕ) → u ≡ Moves k b → movesResults A p a k b q ≡ useResults A p a q u
   unfolding useResults
-  uses-moves A from e = sym (ap (useResults A p a q) e)
+  uses-moves A k b e = sym (ap (useResults A p a q) e)
 
   -- entries do not depend on the inner edges
   pub uses-entries : (z : Table) (inner entries moves : List ℕ) (k : EntryUse) → u ≡ Entries k → entriesResults (tableOf z entries moves) p a k q ≡ useResults (automatonOf z inner entries moves) p a q u
@@ -94,10 +94,10 @@ settled-use A t ρ u e s =
 
 module _ (z : Table) (inner entries moves : List ℕ) (t : Before) (p a q : ℕ) (u : Use)
     (s : SettledBy (automatonOf z inner entries moves) t (useResults (tableBefore t (automatonOf z inner entries moves)) p a q u)) where
-  pub settled-moves : (from : Source) → u ≡ Moves from
-      → SettledBy (automatonOf z inner entries moves) t (movesResults (tableBefore t (automatonOf z inner entries moves)) p a (from .kind) (from .symbol) (from .control))
+  pub settled-moves : (k : MoveUse) (b : ℕ) → u ≡ Moves k b
+      → SettledBy (automatonOf z inner entries moves) t (movesResults (tableBefore t (automatonOf z inner entries moves)) p a k b q)
   unfolding useResults
-  settled-moves from e = subst (λ (v : Use). SettledBy (automatonOf z inner entries moves) t (useResults (tableBefore t (automatonOf z inner entries moves)) p a q v)) e s
+  settled-moves k b e = subst (λ (v : Use). SettledBy (automatonOf z inner entries moves) t (useResults (tableBefore t (automatonOf z inner entries moves)) p a q v)) e s
 
   pub settled-nothing : (x : ResultWords) → u ≡ Nothing x → Known (tableOf z entries moves) (t .new) (asResult x ∷ [])
   unfolding useResults

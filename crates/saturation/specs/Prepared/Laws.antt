@@ -49,6 +49,7 @@ prepared-first rules inner z entries moves states words memo h bs bw m =
       by-state = bs;
       by-words = bw;
       memo-before = m;
+      none-settled = refl;
     }
 
 -- ---- the next round
@@ -108,6 +109,7 @@ module _ (rules : List Rule) (inner : List ℕ) (z : Table) (entries moves : Lis
         by-state = by-state-same (z .moves) moves moves′ states same-rows bs;
         by-words = by-words-same (z .moves) moves moves′ words same-rows bw;
         memo-before = memo-next m l;
+        none-settled = refl;
       }
 
 pub prepared-same : (rules : List Rule) (inner : List ℕ) (z : Table) (entries moves : List ℕ) (t t′ : Before) (states words memo : List ℕ) → t′ ≡ t
@@ -135,4 +137,5 @@ ready z inner entries moves t states words states′ words′ count body memo {m
       rules-stand = rules;
       settled-by = h .settled;
       memo-before = h .memo-before;
+      none-settled = h .none-settled;
     }
