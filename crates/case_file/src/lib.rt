@@ -1,14 +1,13 @@
 // The check of a case file, body by body.
-ghost use Rattle.std.specs.Prelude.{◌≡◌, true, [], ◌∷◌, ◌++◌, map, ◌<◌, ◌≤◌, ◌+◌, ◌*◌, ◌^◌, length};
+ghost use Rattle.std.specs.Prelude.{◌≡◌, true, [], ◌∷◌, map, ◌<◌, ◌≤◌, ◌+◌, ◌*◌, length};
 ghost use Rattle.words.specs.Lists.{every};
 ghost use Rattle.words.specs.Order.{rising};
 ghost use Rattle.std.proofs.lemmas.List.Edits.{sets};
 ghost use Rattle.files.specs.Bytes.{records};
 ghost use Rattle.files.specs.Codes.{codes_right};
 ghost use Rattle.files.specs.Case;
-ghost use Rattle.files.specs.Case.{case_bodies, code_body, form_of, case_placed, codes_of, head_right, rule_bytes, rule_right, rule_records};
+ghost use Rattle.files.specs.Case.{form_of, case_placed, codes_of, head_right, rule_bytes, rule_right, rule_records};
 ghost use Rattle.files.specs.Case.{edge_bytes, edge_right, edge_records, entries_of, move_of, move_right, move_key, move_records, records_right, increasing, case_refusal};
-ghost use Rattle.bytes_in.specs.Contents.{bodies_in};
 ghost use Rattle.bytes_in.specs.Records.{body_of};
 ghost use Rattle.case_records.specs.Values.{the_head, the_edge};
 ghost use Rattle.case_records.specs.Keys.{edge_order};
@@ -16,6 +15,30 @@ ghost use Rattle.case_file.specs.Forms.{lines_of, codes_in, has_codes, our_rules
 
 use case_records::{Edge, Head};
 use limits::Limits;
+
+// Kind, least and most number of records and bytes of a record of each body.
+const BODIES: [u16; 20] = [
+    1,
+    1,
+    1,
+    Limits::HEAD_BYTES as u16,
+    2,
+    0,
+    Limits::RULES as u16,
+    Limits::RULE_BYTES as u16,
+    3,
+    0,
+    Limits::EDGES as u16,
+    Limits::EDGE_BYTES as u16,
+    4,
+    0,
+    Limits::MOVES as u16,
+    Limits::MOVE_BYTES as u16,
+    5,
+    1,
+    1,
+    Limits::OPERATIONS as u16,
+];
 
 // How a case is written: the lines of its contents, which no case has 0 of, and the codes in its record of operation codes, 0 without one.
 #[derive(Drop)]
@@ -44,36 +67,6 @@ fn form_of(first: u64) -> Form
     Form { lines: 0, codes: 0 }
 }
 
-// The bodies of a case of this form, four numbers each: kind, least and most number of records, bytes of a record. The last is one of its bodies
-// only where it has a line for it.
-fn bodies_of(f: Form) -> [u16; 20]
-    requires { f.codes < 2 ^ 16 }
-    ensures { bodies_in result ≡ case_bodies ++ code_body f.codes ∷ [] }
-{
-    [
-        1,
-        1,
-        1,
-        Limits::HEAD_BYTES as u16,
-        2,
-        0,
-        Limits::RULES as u16,
-        Limits::RULE_BYTES as u16,
-        3,
-        0,
-        Limits::EDGES as u16,
-        Limits::EDGE_BYTES as u16,
-        4,
-        0,
-        Limits::MOVES as u16,
-        Limits::MOVE_BYTES as u16,
-        5,
-        1,
-        1,
-        f.codes as u16,
-    ]
-}
-
 // The first byte, the contents, the counts and the length are right.
 fn case_placed(file: &[u8]) -> bool
     ensures { result ≡ case_placed file.now }
@@ -81,13 +74,11 @@ fn case_placed(file: &[u8]) -> bool
     if file.len() == 0 {
         return false;
     }
-    let form = form_of(bytes_in::byte_at(file, 0));
-    let lines = form.lines;
+    let lines = form_of(bytes_in::byte_at(file, 0)).lines;
     if lines == 0 {
         return false;
     }
-    let bodies = bodies_of(form);
-    bytes_in::placed(file, &bodies[0..4 * lines])
+    bytes_in::placed(file, &BODIES[0..4 * lines])
 }
 
 // Every rule of the body keeps its bounds.

@@ -2,13 +2,12 @@
 -- Assumes nothing.
 pub mod Laws
 pub mod Choices
-use Rattle.std.specs.Prelude.{ℕ, ◌+◌, ◌≤◌, ◌<◌, ◌≡◌, length, get_or, take}
+use Rattle.std.specs.Prelude.{ℕ, ◌+◌, ◌≤◌, ◌≡◌, length, get_or, take}
 use mathlib.Core.List.{List, [], ◌∷◌, map, zip_with}
 use Rattle.stacks.specs.Stack.{Operation, rewrite, push1, push2, copy, pop1, pop2, collapse1, collapse2}
 use Rattle.walks.specs.Cell as walks
 use Rattle.walks.specs.Guide.{Guided, chooses}
 use Rattle.cell_memory.specs.Memory.{value_of, with_cell, with_choice, with_choices}
-use Rattle.cell_steps.specs.declared.Choice.{Choice}
 
 -- the words after these are written for the cells from number n on, each one by `put`
 unfoldable pub put_from : {X : Type 0} → (List ℕ → ℕ → X → List ℕ) → List ℕ → ℕ → List X → List ℕ
@@ -64,40 +63,21 @@ with_chosen ws n (all ns) = with_choices ws n ns
 abbrev pub with_all_chosen : List ℕ → ℕ → List CellChoices → List ℕ
 with_all_chosen = put_from with_chosen
 
--- the new top symbol and the new root after it
-abbrev pub top_and_root : Choice → List CellChoices
-top_and_root k = one k.state k.number ∷ one k.control k.edge ∷ []
-
--- the new root alone
-abbrev pub root_only : Choice → List CellChoices
-root_only k = one k.control k.edge ∷ []
-
--- The choices of the new cells, in the order of `cells_after`: `first` is that of the first follower, `second` that of a second one, which no operation has. The
--- symbol that stays below chooses the numbers ms, and the order-2 stack below a copy the numbers es.
-module _ (first second : Choice) (es ms : List ℕ) where
+-- The new top symbol chooses `number` for order-1 state r and the new root chooses `edge` for p'. The symbol that stays below chooses the
+-- numbers ms, and the order-2 stack below a copy the numbers es. In the order of `cells_after`.
+module _ (r number p' edge : ℕ) (es ms : List ℕ) where
   unfoldable pub step_chosen : Operation → List CellChoices
-  step_chosen (rewrite b) = top_and_root first
-  step_chosen (push1 b) = all ms ∷ top_and_root first
-  step_chosen (push2 b) = all ms ∷ top_and_root first
-  step_chosen copy = all ms ∷ all es ∷ top_and_root first
-  step_chosen pop1 = root_only first
+  step_chosen (rewrite b) = one r number ∷ one p' edge ∷ []
+  step_chosen (push1 b) = all ms ∷ one r number ∷ one p' edge ∷ []
+  step_chosen (push2 b) = all ms ∷ one r number ∷ one p' edge ∷ []
+  step_chosen copy = all ms ∷ all es ∷ one r number ∷ one p' edge ∷ []
+  step_chosen pop1 = one p' edge ∷ []
   step_chosen pop2 = []
-  step_chosen collapse1 = root_only first
+  step_chosen collapse1 = one p' edge ∷ []
   step_chosen collapse2 = []
 
   unfoldable pub step_choices : Operation → List (ℕ → ℕ)
   step_choices op = map choice_of (step_chosen op)
-
--- the choice names an order-1 state and a control below 64
-abbrev pub NamesStates : Choice → Type 0
-NamesStates k = (k.state < 64) × (k.control < 64)
-
--- What is asked of the choices of a step: those of both followers name states, and the words have a number for each state.
-pub record ChoicesStand (first second : Choice) (es ms : List ℕ) : Type 0 where
-  pub first_names : NamesStates first
-  pub second_names : NamesStates second
-  pub edges_each : length es ≡ 64
-  pub moves_each : length ms ≡ 64
 
 -- ---- cells with choices
 

@@ -4,7 +4,7 @@ ghost use Rattle.stacks.specs.Stack.{new_cells, copy};
 ghost use Rattle.walks.specs.Cell.{symbol, above, cells_after, root_after};
 ghost use Rattle.case_records.specs.Values.{the_operation};
 ghost use Rattle.cell_memory.specs.Memory.{cell_of, guided_in};
-ghost use Rattle.cell_steps.specs.Steps.{with_cells, cell_number, symbol_of, all, with_all_chosen, top_and_root, step_chosen, step_choices, NamesStates, ChoicesStand, guided_by};
+ghost use Rattle.cell_steps.specs.Steps.{with_cells, cell_number, symbol_of, one, all, with_all_chosen, step_chosen, step_choices, guided_by};
 
 use case_records::Operation;
 use cell_memory::Cell;
@@ -18,7 +18,7 @@ pub struct Top {
     pub below: u16,
 }
 
-// The choices of a follower: its new top symbol chooses `number` for order-1 state `state`, and its new root chooses `edge` for `control`.
+// The new top symbol chooses `number` for order-1 state `state`, and the new root chooses `edge` for `control`.
 #[derive(Drop)]
 pub struct Choice {
     pub state: u64,
@@ -142,8 +142,8 @@ fn put_cells(cells: &mut [u16], n: usize, op: Operation, x: Top)
 
 // The choices of a new top symbol, cell n, and of the root after it.
 fn choose_top(cells: &mut [u16], n: usize, choice: Choice)
-    requires { ((n + 2) * 68 ≤ length cells.old) × NamesStates choice }
-    ensures { cells.new ≡ with_all_chosen cells.old n (top_and_root choice) }
+    requires { ((n + 2) * 68 ≤ length cells.old) × (choice.state < 64) × (choice.control < 64) }
+    ensures { cells.new ≡ with_all_chosen cells.old n (one choice.state choice.number ∷ one choice.control choice.edge ∷ []) }
 {
     cell_memory::put_choice(cells, n, choice.state, choice.number);
     cell_memory::put_choice(cells, n + 1, choice.control, choice.edge);
@@ -151,8 +151,9 @@ fn choose_top(cells: &mut [u16], n: usize, choice: Choice)
 
 // The choices after a push: those of the symbol below, then those of the new top.
 fn choose_pushed(cells: &mut [u16], n: usize, choice: Choice, chosen: &[u16])
-    requires { ((n + 3) * 68 ≤ length cells.old) × NamesStates choice × (length chosen.now ≡ 64) }
-    ensures { cells.new ≡ with_all_chosen cells.old n (all chosen.now ∷ top_and_root choice) }
+    requires { ((n + 3) * 68 ≤ length cells.old) × (choice.state < 64) × (choice.control < 64) × (length chosen.now ≡ 64) }
+    ensures { cells.new ≡ with_all_chosen cells.old n
+        (all chosen.now ∷ one choice.state choice.number ∷ one choice.control choice.edge ∷ []) }
 {
     cell_memory::put_choices(cells, n, chosen);
     choose_top(cells, n + 1, choice);
@@ -160,59 +161,58 @@ fn choose_pushed(cells: &mut [u16], n: usize, choice: Choice, chosen: &[u16])
 
 // The choices after a copy: those of the symbol and the stack below, then those of the new top.
 fn choose_copied(cells: &mut [u16], n: usize, choice: Choice, edges: &[u16], chosen: &[u16])
-    requires { ((n + 4) * 68 ≤ length cells.old) × NamesStates choice × (length edges.now ≡ 64) × (length chosen.now ≡ 64) }
-    ensures { cells.new ≡ with_all_chosen cells.old n (all chosen.now ∷ all edges.now ∷ top_and_root choice) }
+    requires { ((n + 4) * 68 ≤ length cells.old) × (choice.state < 64) × (choice.control < 64) × (length edges.now ≡ 64) × (length chosen.now ≡ 64) }
+    ensures { cells.new ≡ with_all_chosen cells.old n
+        (step_chosen choice.state choice.number choice.control choice.edge edges.now chosen.now copy) }
 {
     cell_memory::put_choices(cells, n, chosen);
     cell_memory::put_choices(cells, n + 1, edges);
     choose_top(cells, n + 2, choice);
 }
 
-// The choices of the operation's new cells, which have none, from cell n on: all are those of the first follower.
+// The choices of the operation's new cells, which have none, from cell n on.
 fn put_chosen(
     cells: &mut [u16],
     n: usize,
     op: Operation,
-    first: Choice,
-    second: Choice,
+    choice: Choice,
     edges: &[u16],
     chosen: &[u16],
 )
-    requires { ((n + new_cells (the_operation op)) * 68 ≤ length cells.old) × ChoicesStand first second edges.now chosen.now }
+    requires { ((n + new_cells (the_operation op)) * 68 ≤ length cells.old) × (choice.state < 64) × (choice.control < 64) × (length edges.now ≡ 64) × (length chosen.now ≡ 64) }
     ensures { cells.new ≡ with_all_chosen cells.old n
-        (step_chosen first second edges.now chosen.now (the_operation op)) }
+        (step_chosen choice.state choice.number choice.control choice.edge edges.now chosen.now (the_operation op)) }
 {
     match op {
-        Operation::Rewrite(_) => choose_top(cells, n, first),
-        Operation::Push1(_) => choose_pushed(cells, n, first, chosen),
-        Operation::Push2(_) => choose_pushed(cells, n, first, chosen),
-        Operation::Copy => choose_copied(cells, n, first, edges, chosen),
-        Operation::Pop1 => cell_memory::put_choice(cells, n, first.control, first.edge),
+        Operation::Rewrite(_) => choose_top(cells, n, choice),
+        Operation::Push1(_) => choose_pushed(cells, n, choice, chosen),
+        Operation::Push2(_) => choose_pushed(cells, n, choice, chosen),
+        Operation::Copy => choose_copied(cells, n, choice, edges, chosen),
+        Operation::Pop1 => cell_memory::put_choice(cells, n, choice.control, choice.edge),
         Operation::Pop2 => {}
-        Operation::Collapse1 => cell_memory::put_choice(cells, n, first.control, first.edge),
+        Operation::Collapse1 => cell_memory::put_choice(cells, n, choice.control, choice.edge),
         Operation::Collapse2 => {}
     }
 }
 
 // ---- a step
 
-// The new cells of the operation, from cell n on, with the choices of the step's followers.
+// The new cells of the operation, from cell n on, with their choices.
 pub fn put_step(
     cells: &mut [u16],
     n: usize,
     op: Operation,
     x: Top,
-    first: Choice,
-    second: Choice,
+    choice: Choice,
     edges: &[u16],
     chosen: &[u16],
 )
     requires op_in_bounds { ((n + new_cells (the_operation op)) * 68 ≤ length cells.old) × (n ≤ 4096) × (symbol_of (the_operation op) < 2 ^ 16) }
-    requires choices_stand { ChoicesStand first second edges.now chosen.now }
+    requires state_bound { (choice.state < 64) × (choice.control < 64) × (length edges.now ≡ 64) × (length chosen.now ≡ 64) }
     ensures { guided_in (n + new_cells (the_operation op)) cells.new
         ≡ guided_in n cells.old ++ guided_by (cells_after (the_operation op) n x.symbol x.annotation x.rest x.below)
-        (step_choices first second edges.now chosen.now (the_operation op)) }
+        (step_choices choice.state choice.number choice.control choice.edge edges.now chosen.now (the_operation op)) }
 {
     put_cells(cells, n, op, x);
-    put_chosen(cells, n, op, first, second, edges, chosen);
+    put_chosen(cells, n, op, choice, edges, chosen);
 }

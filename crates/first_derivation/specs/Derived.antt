@@ -1,4 +1,4 @@
--- The first derivation as the code answers it: the numbers of its rule and of its two premises, with the edges and moves chosen in two slices.
+-- The first derivation as the code answers it: the numbers of its rule and its premise, with the edges and moves chosen in two slices.
 -- Assumes nothing.
 pub mod Laws
 pub mod Small
@@ -10,14 +10,14 @@ use Rattle.stacks.specs.Stack.{Operation, pop2}
 use Rattle.stacks.specs.System.{Rule}
 use Rattle.automata.specs.Automaton.{Automaton, move_at, edge_at, entry_set}
 use Rattle.automata.specs.Derivation.{Result, Derivation, first_derivation}
-use Rattle.walks.specs.Guide.{first_or_zero, second_or_zero}
+use Rattle.walks.specs.Guide.{first_or_zero}
 use Rattle.results.specs.Collecting.{rule_in}
 use Rattle.first_reading.specs.First.{is_some}
 use Rattle.first_reading.specs.Answer.{written_all, Answers}
 use Rattle.first_derivation.specs.declared.First.{First}
 use Rattle.first_derivation.specs.declared.First.TheVariants.{Missing, Found}
-use Rattle.first_premise.specs.Search.{derived, by_rule}
-use Rattle.first_move.specs.Premises.{edge_states, read_states}
+use Rattle.first_derivation.specs.Search.{derived, by_rule}
+use Rattle.first_derivation.specs.Premises.{edge_states, read_states}
 
 -- the operation of rule n
 unfoldable pub operation_by : List Rule → ℕ → Operation
@@ -30,18 +30,17 @@ derivation_edges A rules d ws = written_all (edge_states A (operation_by rules d
 unfoldable pub derivation_moves : Automaton → List Rule → Derivation → List ℕ → List ℕ
 derivation_moves A rules d ws = written_all (read_states A (operation_by rules d.rule) (first_or_zero d.premise) d.edges) d.moves ws
 
--- the numbers of a rule and of its two premises (0 where there is none)
+-- the numbers of a rule and of a premise (0 where there is none)
 pub record StepNumbers : Type 0 where
   pub rule : ℕ
-  pub first : ℕ
-  pub second : ℕ
+  pub premise : ℕ
 
 abbrev pub found_in : First → Option StepNumbers
 found_in Missing = none
-found_in (Found n i j) = some (record { rule = n; first = i; second = j })
+found_in (Found n i) = some (record { rule = n; premise = i })
 
 abbrev pub step_of : Derivation → StepNumbers
-step_of d = record { rule = d.rule; first = first_or_zero d.premise; second = second_or_zero d.premise }
+step_of d = record { rule = d.rule; premise = first_or_zero d.premise }
 
 -- The search for the first derivation of x answers r, and writes what it chose.
 pub record FindsFirst (A : Automaton) (rules : List Rule) (x : Result) (r : First) (es₀ es ms₀ ms : List ℕ) : Type 0 where

@@ -3,7 +3,7 @@
 pub mod Laws
 pub mod Turns
 use Rattle.std.specs.Prelude.{ℕ, Bool, true, false, ◌&&◌, List, [], ◌∷◌}
-use Rattle.words.specs.Sets.{join, part_of}
+use Rattle.words.specs.Sets.{member, single, join, part_of}
 use Rattle.automata.specs.Automaton.{Automaton, Move}
 use Rattle.automata.specs.Derivation.{Result, Joins}
 use Rattle.joins.specs.Joining.{candidate_of}
@@ -11,22 +11,18 @@ use Rattle.first_reading.specs.declared.Reach.{Reach}
 use Rattle.first_reading.specs.First.{is_some}
 use Rattle.first_reading.specs.Search.{within}
 
--- what is reached without a move, beside these sets
-abbrev pub reach_from : ℕ → ℕ → Reach
-reach_from B R = record { any = false; b = B; r = R }
-
 -- what j reaches without a move
-abbrev pub joins_reach : Joins → Reach
-joins_reach j = reach_from j.B j.R
+abbrev pub reach_of : Joins → Reach
+reach_of j = record { states = 0; b = j.B; r = j.R }
 
 -- a move more
 abbrev pub reach_by : Reach → Move → Reach
-reach_by z m = record { any = true; b = join z.b m.B; r = join z.r m.R }
+reach_by z m = record { states = join z.states (single m.state); b = join z.b m.B; r = join z.r m.R }
 
-module _ (q a : ℕ) (x : Result) (j : Joins) where
-  -- m is a move of state q on a, and joins to j within the sets of x
+module _ (a : ℕ) (x : Result) (left : ℕ) (j : Joins) where
+  -- m is a move on a of a state left, and joins to j within the sets of x
   unfoldable pub usable : Move → Bool
-  usable m = is_some (within x (candidate_of q a j m))
+  usable m = member left m.state && is_some (within x (candidate_of m.state a j m))
 
   -- a move more, where it is usable
   unfoldable pub reach_with : Reach → Move → Reach
@@ -37,19 +33,10 @@ module _ (q a : ℕ) (x : Result) (j : Joins) where
   reach_all z [] = z
   reach_all z (m ∷ ms) = reach_all (reach_with z m) ms
 
--- what the usable moves of state q reach, beside the sets of z
-unfoldable pub reach_of : Automaton → ℕ → ℕ → Result → Joins → Reach → Reach
-reach_of A q a x j z = reach_all q a x j (reach_from z.b z.r) A.moves
-
--- the sets of x are filled
-unfoldable pub fills : Result → Reach → Bool
-fills x z = part_of x.B z.b && part_of x.R z.r
-
--- Each of the states has a usable move, and the sets of all these moves, beside those of z, fill those of x.
-unfoldable pub fills_from : Automaton → ℕ → Result → Joins → List ℕ → Reach → Bool
-fills_from A a x j [] z = fills x z
-fills_from A a x j (q ∷ qs) z = (reach_of A q a x j z).any && fills_from A a x j qs (reach_of A q a x j z)
+-- every state left is reached, and the sets of x are filled
+unfoldable pub fills : Result → ℕ → Reach → Bool
+fills x left z = part_of left z.states && part_of x.B z.b && part_of x.R z.r
 
 -- Each state left has a usable move, and the sets of these moves, joined to j, fill those of x.
-unfoldable pub can_fill : Automaton → ℕ → Result → List ℕ → Joins → Bool
-can_fill A a x qs j = fills_from A a x j qs (joins_reach j)
+unfoldable pub can_fill : Automaton → ℕ → Result → ℕ → Joins → Bool
+can_fill A a x left j = fills x left (reach_all a x left j (reach_of j) A.moves)

@@ -12,7 +12,6 @@ use Rattle.tables.specs.declared.Table.{Table}
 use Rattle.tables.specs.Rows.{rows_in}
 use Rattle.tables.specs.Held.{EdgesStand, EntriesStand, MovesStand}
 use Rattle.tables.specs.Layouts.{move_row}
-use Rattle.rising_moves.specs.Rising.{StatesRise}
 use Rattle.first_reading.specs.First.{only_if}
 use Rattle.first_reading.specs.Answer.{written_all, Answer, Answers}
 use Rattle.first_reading.specs.Search.{wanted, Numbers, with_edge, first_reading, first_edges}
@@ -49,22 +48,15 @@ writes_moves A names n ws = written_all (members (join names (named A n.edges)))
 
 -- ---- what the searches are given, and what they answer
 
--- The moves are in their slice, and in an index by state and symbol.
-pub record ReadyToReach (n : ℕ) (moves states : List ℕ) : Type 0 where
+-- The moves are in their slice, and there is a word for the number of each state's move.
+pub record ReadyToRead (n : ℕ) (moves chosen : List ℕ) : Type 0 where
   pub moves_lent : n * 5 ≤ length moves
   pub moves_few : n ≤ 1024
-  pub moves_indexed : StatesRise n moves states
-
--- They are, and there is a word for the number of each state's move.
-pub record ReadyToRead (n : ℕ) (moves states chosen : List ℕ) : Type 0 where
-  pub moves_ready : ReadyToReach n moves states
   pub word_for_each_move : length chosen ≡ 64
 
--- The tables are in their slices, the moves in an index by state and symbol, and there are a word for the number of each state's edge and one
--- for that of each state's move.
-pub record ReadyToSearch (z : Table) (inner entries moves states edges chosen : List ℕ) : Type 0 where
+-- The tables are in their slices, and there are a word for the number of each state's edge and one for that of each state's move.
+pub record ReadyToSearch (z : Table) (inner entries moves edges chosen : List ℕ) : Type 0 where
   pub tables_within : TablesWithin z inner entries moves
-  pub moves_indexed : StatesRise z.moves moves states
   pub word_for_each_edge : length edges ≡ 64
   pub word_for_each_move : length chosen ≡ 64
 

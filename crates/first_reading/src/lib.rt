@@ -7,8 +7,8 @@ ghost use Rattle.tables.specs.Held.{automaton_of};
 ghost use Rattle.tables.specs.Records.{as_move, as_result};
 ghost use Rattle.joins.specs.Joining.{the_joins, as_joined};
 ghost use Rattle.first_reading.specs.Search.{joins_key, wanted, within};
-ghost use Rattle.first_reading.specs.Words.{moves_in, ReadyToReach, ReadyToRead, ReadyToSearch, TriesMove, FindsReading, FollowsEdge, FindsEdges};
-ghost use Rattle.first_reading.specs.Reach.{reach_with, reach_of, can_fill};
+ghost use Rattle.first_reading.specs.Words.{moves_in, ReadyToRead, ReadyToSearch, TriesMove, FindsReading, FollowsEdge, FindsEdges};
+ghost use Rattle.first_reading.specs.Reach.{reach_with, can_fill};
 
 use joins::{Joined, Joins};
 use limits::Limits;
@@ -44,57 +44,34 @@ pub fn is_wanted(order: u64, b: u64, r: u64, x: Result) -> bool
     r == x.r
 }
 
-// What moves reach: whether there is one, and their sets, joined to those before.
+// What moves reach together: the states that they are of, and their sets, joined.
 #[derive(Drop)]
 struct Reach {
-    any: bool,
+    states: u64,
     b: u64,
     r: u64,
 }
 
-// What z and move m reach, where m is a move of state q on a that joins to (order, b, r) within the sets of x, and z otherwise.
-fn reach_with(z: Reach, m: Move, q: u64, a: u64, order: u64, b: u64, r: u64, x: Result) -> Reach
-    ensures { result ≡ reach_with q a (as_result x) (the_joins order b r) z (as_move m) }
+// What z and move m reach, where m is a move on a of a state left that joins to (order, b, r) within the sets of x, and z otherwise.
+fn reach_with(z: Reach, m: Move, a: u64, left: u64, order: u64, b: u64, r: u64, x: Result) -> Reach
+    ensures { result ≡ reach_with a (as_result x) left (the_joins order b r) z (as_move m) }
 {
+    let q = m.state;
+    if (Limits::WORD_BITS as u64) <= q {
+        return z;
+    }
+    if !sets::has(left, q) {
+        return z;
+    }
     let j = Joins { order, b, r };
     let Joined::To(_) = parts_within(joins::candidate(m, q, a, j), x) else {
         return z;
     };
     Reach {
-        any: true,
+        states: sets::join(z.states, sets::one_bit(q)),
         b: sets::join(z.b, m.b),
         r: sets::join(z.r, m.r),
     }
-}
-
-// What the moves of state q on a reach that join to (order, b, r) within the sets of x, beside what is reached before. They are found
-// along a chain of the index `states`, here and in the functions that follow.
-fn reach_of(
-    moves: &[u64],
-    n: usize,
-    states: &[u16],
-    q: u64,
-    a: u64,
-    order: u64,
-    b: u64,
-    r: u64,
-    x: Result,
-    from: Reach,
-) -> Reach
-    requires { ReadyToReach n moves.now states.now }
-    ensures { result ≡ reach_of (moves_in n moves.now) q a (as_result x) (the_joins order b r) from }
-{
-    let mut z = Reach {
-        any: false,
-        b: from.b,
-        r: from.r,
-    };
-    let mut i = rising_moves::first(states, q, a);
-    while i < n {
-        z = reach_with(z, tables::move_at(moves, i), q, a, order, b, r, x);
-        i = rising_moves::after(states, i);
-    }
-    z
 }
 
 // Whether the states left can still reach x: each has a move on a that joins to (order, b, r) within the sets of x, and the sets of all
@@ -102,7 +79,6 @@ fn reach_of(
 fn can_fill(
     moves: &[u64],
     n: usize,
-    states: &[u16],
     a: u64,
     left: u64,
     order: u64,
@@ -110,18 +86,17 @@ fn can_fill(
     r: u64,
     x: Result,
 ) -> bool
-    requires { ReadyToReach n moves.now states.now }
-    ensures { result ≡ can_fill (moves_in n moves.now) a (as_result x) (members left) (the_joins order b r) }
+    requires { n * 5 ≤ length moves.now }
+    ensures { result ≡ can_fill (moves_in n moves.now) a (as_result x) left (the_joins order b r) }
 {
-    let mut z = Reach { any: false, b, r };
-    let mut rest = left;
-    while rest != 0 {
-        let part = sets::least_member(rest);
-        z = reach_of(moves, n, states, part.member, a, order, b, r, x, z);
-        if !z.any {
-            return false;
-        }
-        rest = part.others;
+    let mut z = Reach { states: 0, b, r };
+    let mut i: usize = 0;
+    while i < n {
+        z = reach_with(z, tables::move_at(moves, i), a, left, order, b, r, x);
+        i += 1;
+    }
+    if !sets::part_of(left, z.states) {
+        return false;
     }
     if !sets::part_of(x.b, z.b) {
         return false;
@@ -134,7 +109,6 @@ fn can_fill(
 fn read_with(
     moves: &[u64],
     n: usize,
-    states: &[u16],
     a: u64,
     part: Split,
     i: usize,
@@ -144,7 +118,7 @@ fn read_with(
     x: Result,
     chosen: &mut [u16],
 ) -> bool
-    requires { ReadyToRead n moves.now states.now chosen.old × (i < n) × (part.member < 64) }
+    requires { ReadyToRead n moves.now chosen.old × (i < n) × (part.member < 64) }
     ensures { TriesMove (moves_in n moves.now) a (as_result x) part.member (members part.others) (the_joins order b r) i result
         chosen.old chosen.new }
 {
@@ -154,18 +128,7 @@ fn read_with(
     let Joined::To(k) = parts_within(joins::candidate(m, q, a, j), x) else {
         return false;
     };
-    if first_reading(
-        moves,
-        n,
-        states,
-        a,
-        part.others,
-        k.order,
-        k.b,
-        k.r,
-        x,
-        chosen,
-    ) {
+    if first_reading(moves, n, a, part.others, k.order, k.b, k.r, x, chosen) {
         let at = q as usize;
         chosen[at] = i as u16;
         return true;
@@ -179,7 +142,6 @@ fn read_with(
 pub fn first_reading(
     moves: &[u64],
     n: usize,
-    states: &[u16],
     a: u64,
     left: u64,
     order: u64,
@@ -188,23 +150,23 @@ pub fn first_reading(
     x: Result,
     chosen: &mut [u16],
 ) -> bool
-    requires { ReadyToRead n moves.now states.now chosen.old }
+    requires { ReadyToRead n moves.now chosen.old }
     ensures { FindsReading (moves_in n moves.now) a (as_result x) (members left) (the_joins order b r) result
         chosen.old chosen.new }
 {
     if left == 0 {
         return is_wanted(order, b, r, x);
     }
-    if !can_fill(moves, n, states, a, left, order, b, r, x) {
+    if !can_fill(moves, n, a, left, order, b, r, x) {
         return false;
     }
     let part = sets::least_member(left);
-    let mut i = rising_moves::first(states, part.member, a);
+    let mut i: usize = 0;
     while i < n {
-        if read_with(moves, n, states, a, part, i, order, b, r, x, chosen) {
+        if read_with(moves, n, a, part, i, order, b, r, x, chosen) {
             return true;
         }
-        i = rising_moves::after(states, i);
+        i += 1;
     }
     false
 }
@@ -217,7 +179,6 @@ fn follow(
     inner: &[u64],
     entries: &[u64],
     moves: &[u64],
-    states: &[u16],
     a: u64,
     part: Split,
     e: usize,
@@ -230,7 +191,7 @@ fn follow(
     edges: &mut [u16],
     chosen: &mut [u16],
 ) -> bool
-    requires { ReadyToSearch z inner.now entries.now moves.now states.now edges.old chosen.old
+    requires { ReadyToSearch z inner.now entries.now moves.now edges.old chosen.old
         × (e < z.edges + z.entries) × (part.member < 64) }
     ensures { FollowsEdge (automaton_of z inner.now entries.now moves.now) a (as_result x) (the_joins order b r)
         part.member (members part.others) names s e result edges.old edges.new chosen.old chosen.new }
@@ -250,7 +211,6 @@ fn follow(
         inner,
         entries,
         moves,
-        states,
         a,
         part.others,
         named,
@@ -278,7 +238,6 @@ pub fn first_edges(
     inner: &[u64],
     entries: &[u64],
     moves: &[u64],
-    states: &[u16],
     a: u64,
     left: u64,
     names: u64,
@@ -290,7 +249,7 @@ pub fn first_edges(
     edges: &mut [u16],
     chosen: &mut [u16],
 ) -> bool
-    requires { ReadyToSearch z inner.now entries.now moves.now states.now edges.old chosen.old }
+    requires { ReadyToSearch z inner.now entries.now moves.now edges.old chosen.old }
     ensures { FindsEdges (automaton_of z inner.now entries.now moves.now) a (as_result x) (the_joins order b r)
         (members left) names s result edges.old edges.new chosen.old chosen.new }
 {
@@ -298,14 +257,14 @@ pub fn first_edges(
         if s != x.s {
             return false;
         }
-        return first_reading(moves, z.moves, states, a, names, order, b, r, x, chosen);
+        return first_reading(moves, z.moves, a, names, order, b, r, x, chosen);
     }
     let part = sets::least_member(left);
     let n = z.edges + z.entries;
     let mut e: usize = 0;
     while e < n {
         if follow(
-            z, inner, entries, moves, states, a, part, e, names, s, order, b, r, x, edges, chosen,
+            z, inner, entries, moves, a, part, e, names, s, order, b, r, x, edges, chosen,
         ) {
             return true;
         }

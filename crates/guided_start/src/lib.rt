@@ -9,7 +9,7 @@ ghost use Rattle.rounds.specs.Won.{round2};
 ghost use Rattle.services.specs.Judge.{more_to_add};
 ghost use Rattle.tables.specs.Held.{automaton_of};
 ghost use Rattle.saturation.specs.Held.{saturated_in};
-ghost use Rattle.guided_walk.specs.Whole.{Leaves};
+ghost use Rattle.guided_walk.specs.Turns.{Leaves};
 ghost use Rattle.sound_files.specs.Sound.{StartSound};
 ghost use Rattle.guided_start.specs.Tables.{TablesStand};
 ghost use Rattle.guided_start.specs.Run.{guided_from, lent_cells, short_at_start, unaccepted};

@@ -9,13 +9,14 @@ ghost use Rattle.tables.specs.Records.{as_move, as_result};
 ghost use Rattle.tables.specs.Held.{automaton_of, table_of, edges_in, EdgesStand, EntriesStand};
 ghost use Rattle.cell_memory.specs.Memory.{cell_of, guided_in};
 ghost use Rattle.results.specs.Collecting.{rules_in};
+ghost use Rattle.first_reading.specs.Words.{TablesWithin};
 ghost use Rattle.first_derivation.specs.Derived.{StatesSmall};
 ghost use Rattle.saturation.specs.Sizes.{the_size, as_size};
 ghost use Rattle.saturation.specs.Layout.{size_row};
 ghost use Rattle.saturation.specs.Held.{saturated_in};
 ghost use Rattle.guided_step.specs.Walks.{walk_in, tip_of};
 ghost use Rattle.guided_step.specs.Earlier.{table_up_to_lem};
-ghost use Rattle.guided_step.specs.Step.{CanStep, FindsBefore, AtTop, NextIs};
+ghost use Rattle.guided_step.specs.Step.{FindsBefore, AtTop, NextIs};
 
 use cell_memory::Cell;
 use cell_steps::Top;
@@ -209,24 +210,20 @@ fn result_of(z: Table, entries: &[u64], m: Move) -> Result
 
 // ---- the step
 
-// What a walk does next: it has arrived, it is stuck, or it goes on from a top by the derivation with these numbers of a rule, its first and its
-// second premise.
+// What a walk does next: it has arrived, it is stuck, or it goes on from a top by the derivation of these numbers of a rule and a premise.
 #[derive(Drop)]
 pub enum Next {
     Arrived,
     Stuck,
-    To(Top, u64, u64, u64),
+    To(Top, u64, u64),
 }
 
-// The first derivation of the result that move i stands for, from the table before its round. `states` and `controls` are the index of all moves,
-// here and in the functions that follow.
+// The first derivation of the result that move i stands for, from the table before its round.
 fn first_before(
     z: Table,
     inner: &[u64],
     entries: &[u64],
     moves: &[u64],
-    states: &[u16],
-    controls: &[u16],
     body: &[u8],
     count: usize,
     sizes: &[u64],
@@ -235,7 +232,7 @@ fn first_before(
     edges: &mut [u16],
     chosen: &mut [u16],
 ) -> First
-    requires can_step { CanStep z inner.now entries.now moves.now states.now controls.now body.now count sizes.now k }
+    requires tables_within { TablesWithin z inner.now entries.now moves.now × (count * 5 ≤ length body.now) × (k * 2 ≤ length sizes.now) }
     requires edges_len { (length edges.old ≡ 64) × (length chosen.old ≡ 64) }
     ensures finds_before { FindsBefore (rules_in count body.now)
         (saturated_in z inner.now entries.now moves.now k sizes.now) i result
@@ -246,7 +243,7 @@ fn first_before(
     let m = tables::move_of(z, moves, i as usize);
     let x = result_of(z, entries, m);
     first_derivation::first_derivation(
-        earlier, inner, entries, moves, states, controls, body, count, x, edges, chosen,
+        earlier, inner, entries, moves, body, count, x, edges, chosen,
     )
 }
 
@@ -257,8 +254,6 @@ fn step_of(
     inner: &[u64],
     entries: &[u64],
     moves: &[u64],
-    states: &[u16],
-    controls: &[u16],
     body: &[u8],
     count: usize,
     sizes: &[u64],
@@ -268,7 +263,7 @@ fn step_of(
     edges: &mut [u16],
     chosen: &mut [u16],
 ) -> Next
-    requires can_step { CanStep z inner.now entries.now moves.now states.now controls.now body.now count sizes.now k }
+    requires tables_within { TablesWithin z inner.now entries.now moves.now × (count * 5 ≤ length body.now) × (k * 2 ≤ length sizes.now) }
     requires edges_value { (edges.old ≡ replicate 64 0) × (chosen.old ≡ replicate 64 0) }
     ensures { AtTop (rules_in count body.now)
         (saturated_in z inner.now entries.now moves.now k sizes.now) x i result edges.new
@@ -278,11 +273,11 @@ fn step_of(
         return Next::Arrived;
     }
     let first = first_before(
-        z, inner, entries, moves, states, controls, body, count, sizes, k, i, edges, chosen,
+        z, inner, entries, moves, body, count, sizes, k, i, edges, chosen,
     );
     match first {
         First::Missing => Next::Stuck,
-        First::Found(n, p, q) => Next::To(x, n, p, q),
+        First::Found(n, p) => Next::To(x, n, p),
     }
 }
 
@@ -293,8 +288,6 @@ pub fn next_step(
     inner: &[u64],
     entries: &[u64],
     moves: &[u64],
-    states: &[u16],
-    controls: &[u16],
     body: &[u8],
     count: usize,
     sizes: &[u64],
@@ -304,7 +297,7 @@ pub fn next_step(
     edges: &mut [u16],
     chosen: &mut [u16],
 ) -> Next
-    requires can_step { CanStep z inner.now entries.now moves.now states.now controls.now body.now count sizes.now k × (w.cells * 68 ≤ length cells.now) }
+    requires tables_within { TablesWithin z inner.now entries.now moves.now × (count * 5 ≤ length body.now) × (k * 2 ≤ length sizes.now) × (w.cells * 68 ≤ length cells.now) }
     requires edges_value { (edges.old ≡ replicate 64 0) × (chosen.old ≡ replicate 64 0) }
     ensures { NextIs (rules_in count body.now)
         (saturated_in z inner.now entries.now moves.now k sizes.now) (walk_in w cells.now) result
@@ -314,7 +307,7 @@ pub fn next_step(
     match tip {
         Tip::Nothing => Next::Arrived,
         Tip::At(x, i) => step_of(
-            z, inner, entries, moves, states, controls, body, count, sizes, k, x, i, edges, chosen,
+            z, inner, entries, moves, body, count, sizes, k, x, i, edges, chosen,
         ),
     }
 }

@@ -1,1 +1,3 @@
-pub mod Whole
+pub mod Stepped
+pub mod Turns
+pub mod Laws

@@ -1,10 +1,10 @@
 -- What the cells of a stack choose: the least choices of a start, and those of the new cells of a step.
 -- Assumes nothing.
 use Rattle.std.specs.Prelude.{ℕ, ◌+◌, ◌-◌, ◌≡◌, eqb}
-use Rattle.std.proofs.Math.Path.{refl}
-use Rattle.std.proofs.Common.{ap, sym, subst, ⊎_elim, eqb-true, eq-eqb}
+use Rattle.std.proofs.Math.Path.{refl, ap}
+use Rattle.std.proofs.Common.{sym, subst, ⊎_elim, eqb-true, eq-eqb}
 use mathlib.Core.List.Memᴰ
-use mathlib.Core.List.{List, ◌∷◌, Memᴰ}
+use mathlib.Core.List.{List, [], ◌∷◌, Memᴰ}
 use native.Mathlib.Omega.{arith}
 use Rattle.std.proofs.lemmas.Bool.{eqb-false}
 use Rattle.words.specs.Laws.Tests.{by_test}
@@ -17,7 +17,7 @@ use Rattle.automata.specs.Acceptance.{move_fits, edge_fits}
 use Rattle.automata.specs.Acceptance.Laws.{Accepts1, Accepts2, AcceptsAnnotation, move_fits_in, move_fits_out, edge_fits_in, edge_fits_out}
 use Rattle.automata.specs.Derivation.{Derivation}
 use Rattle.automata.specs.Derivation.Numbers.{Paired, empty, also}
-use Rattle.walks.specs.Guide.{first_or_zero, least_choice, chooses, chooses_all, top_choice, root_choice}
+use Rattle.walks.specs.Guide.{first_or_zero, least_choice, chooses, chooses_all, premise, top_choice, root_choice}
 
 -- ---- the least choices of a start
 
@@ -66,18 +66,17 @@ chooses_all_it {X = X} {q = q} (also {q = y} {n = n} {qs = qs} {ns = ns} x ps) i
     let r = chooses_all_it ps (⊎_elim (λ e. absurd (eqb-false y q t (sym e))) (λ j. j) (Memᴰ.cases_cons i)) in
     rw (chooses_all, t) (r.0, Memᴰ.tail r.1))
 
--- the first number of a premise
-pub premise_is : (d : Derivation) {n : ℕ} {ns : List ℕ} → d.premise ≡ n ∷ ns → first_or_zero d.premise ≡ n
-unfolding first_or_zero
-premise_is d e = ap first_or_zero e
+module _ (A : Automaton) (d : Derivation) (p' : ℕ) where
+  pub premise_is : {n : ℕ} → d.premise ≡ n ∷ [] → premise A d p' ≡ n
+  unfolding premise first_or_zero
+  premise_is e = ap first_or_zero e
 
-module _ (A : Automaton) where
-  pub top_choice_is : (n : ℕ) → top_choice A n (move_at A n).state ≡ n
+  pub top_choice_is : (n : ℕ) → d.premise ≡ n ∷ [] → top_choice A d p' (move_at A n).state ≡ n
   unfolding top_choice
-  top_choice_is n = chooses_it (move_at A n).state n
+  top_choice_is n e = rw (top_choice, premise_is e) (chooses_it (move_at A n).state n)
 
-  pub root_choice_is : (p n e : ℕ) → (move_at A n).state ≡ A.J + e → root_choice A p n p ≡ entry_edge A e
+  pub root_choice_is : (n e : ℕ) → d.premise ≡ n ∷ [] → (move_at A n).state ≡ A.J + e → root_choice A d p' p' ≡ entry_edge A e
   unfolding root_choice
-  root_choice_is p n e k =
+  root_choice_is n e h k =
       let z : A.J + e - A.J ≡ e = omega arith in
-      rw (root_choice, k, z) (chooses_it p (entry_edge A e))
+      rw (root_choice, premise_is h, k, z) (chooses_it p' (entry_edge A e))

@@ -4,7 +4,7 @@
 use Prim.Native.Nat.{ℕ, ◌+◌, ◌<◌}
 use Rattle.std.specs.Prelude.{◌≡◌}
 use Rattle.std.proofs.Math.Path.{refl, ap}
-use Rattle.std.proofs.Common.{subst}
+use Rattle.std.proofs.Common.{◌∙◌, subst}
 use Rattle.std.proofs.Math.Logic.{⊎_elim}
 use Rattle.std.proofs.Math.Option.{some}
 use mathlib.Core.List.Memᴰ
@@ -13,14 +13,14 @@ use Rattle.words.specs.Sets.{members}
 use Rattle.words.specs.Sets.Laws.{All, has_in, all_part, all_left, all_right, all_one}
 use Rattle.stacks.specs.Stack.{Operation, rewrite, push1, push2, copy, pop1, pop2, collapse1, collapse2}
 use Rattle.stacks.specs.System.{Rule}
-use Rattle.automata.specs.Automaton.{Automaton, Move, move_at, edge_at, entry_edge}
+use Rattle.automata.specs.Automaton.{Automaton, Move, move_at, edge_at, entry_edge, entry_set}
 use Rattle.automata.specs.Automaton.Laws.{MoveOf, EntryIs, EntryMove, entry_move_set}
 use Rattle.automata.specs.Derivation.{Derivation, Joins, joins_of, named, edge_sets}
 use Rattle.automata.specs.Derivation.Numbers.{Paired}
 use Rattle.automata.specs.Derivation.Joining.{Into, join_all_into, named_in, edge_sets_part}
 use Rattle.automata.specs.Derivation.Laws.{Says, ByRewrite, ByPush, ByCopy, Concludes}
 use Rattle.automata.specs.Saturation.{Saturated}
-use Rattle.walks.specs.Guide.{first_or_zero, chooses_all, chooses, top_choice, root_choice, choices_after}
+use Rattle.walks.specs.Guide.{chooses_all, chooses, premise, top_choice, root_choice, choices_after}
 use Rattle.soundness.specs.Decorated.{Decorated1, cons1', Decorated2, cons2', DecoratedAnnotation, of1', of2', after_decorated, Arrives}
 use Rattle.soundness.specs.Facts.{SaturatedFacts}
 use Rattle.soundness.specs.Choices.{chooses_it, chooses_all_it, premise_is, top_choice_is, root_choice_is}
@@ -42,24 +42,25 @@ module _ {P : ℕ} {own : Automaton} {rules : List Rule} {T : Saturated} (F : Sa
   module _ (d : Derivation) (ρ : Rule) (next_exists : ρ.next < P) (u : DecoratedAnnotation) (s : Decorated1) (t : Decorated2)
       (annotation : OkAnnotation F d.result.order d.result.B u) (rest : All d.result.R (λ q. Ok1 F q s))
       (under : All d.result.S (λ q. Ok2 F q t)) where
-    -- the walk arrives from control p with this stack
-    abbrev pub Goes : ℕ → Decorated2 → Type 0
-    Goes p v = Arrives rules T own (record { control = p; stack = v })
+    -- the walk arrives from control p' with this stack
+    abbrev pub Goes : Decorated2 → Type 0
+    Goes v = Arrives rules T own (record { control = ρ.next; stack = v })
 
     abbrev pub Left : Operation → Type 0
-    Left o = (v : Decorated2) × (after_decorated o (choices_after T.table d ρ.next o) ρ.symbol u s t ≡ some v) × Goes ρ.next v
+    Left o = (v : Decorated2) × (after_decorated o (choices_after T.table d ρ.next o) ρ.symbol u s t ≡ some v) × Goes v
 
-    -- a new top that chooses move j, under a root that chooses its entry for control p
-    enter : {p S b j : ℕ} (v : DecoratedAnnotation) (w : Decorated1) (y : Decorated2) → Good j → EntryMove T.table p S b j
+    -- a new top that chooses the premise, under a root that chooses its entry
+    enter : {S b j : ℕ} (v : DecoratedAnnotation) (w : Decorated1) (y : Decorated2) → Good j → d.premise ≡ j ∷ [] → EntryMove T.table ρ.next S b j
         → OkAnnotation F (move_at T.table j).order (move_at T.table j).B v → All (move_at T.table j).R (λ q. Ok1 F q w)
         → All S (λ q. Ok2 F q y)
-        → Goes p (cons2' (cons1' b v w (top_choice T.table j)) y (root_choice T.table p j))
-    enter {p} {S} {b} {j} v w y good h x z k =
-        let top : ℕ → ℕ = top_choice T.table j in
+        → Goes (cons2' (cons1' b v w (top_choice T.table d ρ.next)) y (root_choice T.table d ρ.next))
+    enter {S} {b} {j} v w y good e h x z k =
+        let top : ℕ → ℕ = top_choice T.table d ρ.next in
+        let root : ℕ → ℕ = root_choice T.table d ρ.next in
         let m : MoveOf T.table b (move_at T.table j).state j = record { below = h.below; state_is = refl; symbol_is = h.symbol_is } in
         let ok : Ok1 F (move_at T.table j).state (cons1' b v w top) =
-        good (move_at T.table j).state b v w top m x z (top_choice_is T.table j) in
-        ok.entry p S h.entry h.state_is h.entry_is y k (root_choice T.table p j) (root_choice_is T.table p j h.entry h.state_is)
+        good (move_at T.table j).state b v w top m x z (top_choice_is T.table d ρ.next j e) in
+        ok.entry ρ.next S h.entry h.state_is h.entry_is y k root (root_choice_is T.table d ρ.next j h.entry e h.state_is)
 
     -- a new cell of symbol a that chooses the moves of a reading
     reads : (k : Joins) (rs : List ℕ) → Paired (MoveOf T.table ρ.symbol) rs d.moves → ((n : ℕ) → Memᴰ n d.moves → Good n)
@@ -84,7 +85,7 @@ module _ {P : ℕ} {own : Automaton} {rules : List Rule} {T : Saturated} (F : Sa
     joined_under : {es ms ps : List ℕ} {S : ℕ} {j : Joins} → Concludes ρ ps es ms S j d → All S (λ q. Ok2 F q t)
     joined_under c = all_same c.set_is under
 
-    premise_in_lem : {j : ℕ} {ns : List ℕ} → d.premise ≡ j ∷ ns → Memᴰ j d.premise
+    premise_in_lem : {j : ℕ} → d.premise ≡ j ∷ [] → Memᴰ j d.premise
     premise_in_lem e = rw e (Memᴰ.head refl)
 
     -- the new top chooses the premise
@@ -92,24 +93,24 @@ module _ {P : ℕ} {own : Automaton} {rules : List Rule} {T : Saturated} (F : Sa
     unfolding used_moves after_decorated choices_after
     left_rewrite b h good =
         let c = h.concluded in
-        let goes = enter u s t (good h.move (premise_in_lem c.premise_is)) h.premise (joined_annotation c) (joined_rest c) (joined_under c) in
-        (_, refl, rw (premise_is d c.premise_is) goes)
+        let goes = enter u s t (good h.move (premise_in_lem c.premise_is)) c.premise_is h.premise (joined_annotation c) (joined_rest c) (joined_under c) in
+        (_, refl, goes)
 
     -- a push whose new annotation v is as the premise asks: the new a-cell is right for all of the premise's R
     pushed : {k b : ℕ} {start : Move → Joins} {set : ℕ → Move → ℕ} (h : ByPush T.table ρ k b start set d)
         → ((j : ℕ) → Memᴰ j (d.premise ++ d.moves) → Good j) → (v : DecoratedAnnotation)
         → OkAnnotation F (move_at T.table h.move).order (move_at T.table h.move).B v → All h.S (λ q. Ok2 F q t)
-        → Goes ρ.next (cons2' (cons1' b v (cons1' ρ.symbol u s (chooses_all (members (move_at T.table (first_or_zero d.premise)).R) d.moves))
-        (top_choice T.table (first_or_zero d.premise))) t (root_choice T.table ρ.next (first_or_zero d.premise)))
+        → Goes (cons2' (cons1' b v (cons1' ρ.symbol u s (chooses_all (members (move_at T.table (premise T.table d ρ.next)).R) d.moves))
+        (top_choice T.table d ρ.next)) t (root_choice T.table d ρ.next))
     pushed {start = start} h good v x z =
         let c = h.concluded in
         let into = join_all_into T.table (start (move_at T.table h.move)) d.moves h.joined in
         let rs : List ℕ = members (move_at T.table h.move).R in
         let cell : (r : ℕ) → Memᴰ r rs → Ok1 F r (cons1' ρ.symbol u s (chooses_all rs d.moves)) =
         reads h.joins rs h.reading (λ i l. good i (Memᴰ.append_right d.premise l)) into.1 (joined_annotation c) (joined_rest c) in
-        rw (premise_is d c.premise_is)
+        rw (premise_is T.table d ρ.next c.premise_is)
         (enter v (cons1' ρ.symbol u s (chooses_all rs d.moves)) t (good h.move (Memᴰ.append_left d.moves (premise_in_lem c.premise_is)))
-        h.premise x (λ r n. cell r (has_in n)) z)
+        c.premise_is h.premise x (λ r n. cell r (has_in n)) z)
 
     -- the new annotation is s, and the premise's B is a part of R
     left_push1 : (b : ℕ) → Says T.table ρ (push1 b) d → ((j : ℕ) → Memᴰ j (used_moves (push1 b) d) → Good j) → Left (push1 b)
@@ -150,17 +151,19 @@ module _ {P : ℕ} {own : Automaton} {rules : List Rule} {T : Saturated} (F : Sa
         let e = chooses_all_it h.chosen (has_in n) in
         edge_ok F w t g e.0 refl (cell (edge_at A (g q)).first (has_in (named_in A e.1)))
         (all_part (edge_at A (g q)).S (edge_sets A d.edges) (edge_sets_part A e.1) (joined_under c)) in
-        let goes = enter u s (cons2' w t g) (good h.move (Memᴰ.append_left d.moves (premise_in_lem c.premise_is))) h.premise
+        let goes = enter u s (cons2' w t g) (good h.move (Memᴰ.append_left d.moves (premise_in_lem c.premise_is))) c.premise_is h.premise
         (ok_annotation_part F m.order m.B into.0.order_fits_lem into.0.B-part (joined_annotation c))
         (all_part m.R h.joins.R into.0.R-part (joined_rest c)) lower in
-        (_, refl, rw (premise_is d c.premise_is, entry_move_set A h.premise) goes)
+        let sets : entry_set A (move_at A (premise A d ρ.next)).state ≡ h.S =
+        ap (λ (n : ℕ). entry_set A (move_at A n).state) (premise_is A d ρ.next c.premise_is) ∙ entry_move_set A h.premise in
+        (_, refl, rw sets goes)
 
     -- pop 1 and collapse 1: the stack w that becomes the top is right for the premise
     entered : (w : Decorated1) {S e : ℕ} → d.premise ≡ e ∷ [] → EntryIs T.table ρ.next S e → All S (λ q. Ok2 F q t)
-        → Ok1 F (T.table.J + e) w → Goes ρ.next (cons2' w t (chooses ρ.next (entry_edge T.table (first_or_zero d.premise))))
+        → Ok1 F (T.table.J + e) w → Goes (cons2' w t (chooses ρ.next (entry_edge T.table (premise T.table d ρ.next))))
     entered w {S} {e} k h z ok =
         let n : ℕ = entry_edge T.table e in
-        rw (premise_is d k) (ok.entry ρ.next S e refl h t z (chooses ρ.next n) (chooses_it ρ.next n))
+        rw (premise_is T.table d ρ.next k) (ok.entry ρ.next S e refl h t z (chooses ρ.next n) (chooses_it ρ.next n))
 
     left_pop1 : Says T.table ρ pop1 d → Left pop1
     unfolding after_decorated choices_after
@@ -178,7 +181,7 @@ module _ {P : ℕ} {own : Automaton} {rules : List Rule} {T : Saturated} (F : Sa
     left_collapse1 h =
         let c = h.concluded in
         let r = ok_annotation_order1 F refl (joined_annotation c) in
-        let n : ℕ → ℕ = chooses ρ.next (entry_edge T.table (first_or_zero d.premise)) in (
+        let n : ℕ → ℕ = chooses ρ.next (entry_edge T.table (premise T.table d ρ.next)) in (
           cons2' r.0 t n,
           ap (λ (x : DecoratedAnnotation). after_decorated collapse1 (n ∷ []) ρ.symbol x s t) r.1,
           entered r.0 c.premise_is h.premise (joined_under c) (all_one (T.table.J + h.entry) r.2),

@@ -12,7 +12,7 @@ unfolding Cell.order1 Cell.order2 Cell.stack_at Cell.stack_of Cell.stacks_from C
 open_cell = 0
 
 unfoldable pub open_guide : ℕ
-unfolding Guide.walk_configuration Guide.first_or_zero Guide.second_or_zero Guide.least_choice Guide.start_walk Guide.chooses Guide.chooses_all Guide.top_choice Guide.root_choice Guide.choices_after Guide.guided_at Guide.top_on Guide.top_of Guide.moved Guide.by_derivation Guide.at_top Guide.next Guide.walk_after Guide.trace_after Guide.counts Guide.walked_by Guide.no_run Guide.guided
+unfolding Guide.walk_configuration Guide.first_or_zero Guide.least_choice Guide.start_walk Guide.chooses Guide.chooses_all Guide.premise Guide.top_choice Guide.root_choice Guide.choices_after Guide.guided_at Guide.top_on Guide.top_of Guide.moved Guide.by_derivation Guide.at_top Guide.next Guide.walk_after Guide.trace_after Guide.counts Guide.walked_by Guide.no_run Guide.guided
 open_guide = 0
 
 unfoldable pub computed : ℕ

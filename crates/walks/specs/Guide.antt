@@ -44,11 +44,6 @@ unfoldable pub first_or_zero : List ℕ → ℕ
 first_or_zero [] = 0
 first_or_zero (n ∷ ns) = n
 
--- the second number of a list
-unfoldable pub second_or_zero : List ℕ → ℕ
-second_or_zero [] = 0
-second_or_zero (n ∷ ns) = first_or_zero ns
-
 -- "Each cell and each state accepting it gets the choice of least number: the edge with least order-1 state, then least S; the least
 -- move." (0 where no state asks.)
 unfoldable pub least_choice : Automaton → Annotation → ℕ → ℕ
@@ -76,39 +71,33 @@ chooses_all [] ns x = 0
 chooses_all (q ∷ qs) [] x = 0
 chooses_all (q ∷ qs) (n ∷ ns) x = elim (eqb q x) [ true ↦ n | false ↦ chooses_all qs ns x ]
 
-module _ (A : Automaton) where
-  -- a new top symbol chooses move i for its entry
-  unfoldable pub top_choice : ℕ → ℕ → ℕ
-  top_choice i = chooses (move_at A i).state i
-
-  -- a new root chooses the entry of move i for control p
-  unfoldable pub root_choice : ℕ → ℕ → ℕ → ℕ
-  root_choice p i = chooses p (entry_edge A ((move_at A i).state - A.J))
-
--- "New cells carry the choices of that derivation": for each new cell of the operation, in the order of `cells_after`. The premise is a move's number or
--- an entry's.
+-- "New cells carry the choices of that derivation": for each new cell of the operation, in the order of `cells_after`.
 module _ (A : Automaton) (d : Derivation) (p' : ℕ) where
+  -- the first number of the premise: a move's or an entry's
+  unfoldable pub premise : ℕ
+  premise = first_or_zero d.premise
+
+  -- the new top symbol chooses the premise for its entry
+  unfoldable pub top_choice : ℕ → ℕ
+  top_choice = chooses (move_at A premise).state premise
+
+  -- the new root chooses the entry of the premise for p'
+  unfoldable pub root_choice : ℕ → ℕ
+  root_choice = chooses p' (entry_edge A ((move_at A premise).state - A.J))
+
   unfoldable pub choices_after : Operation → List (ℕ → ℕ)
-  choices_after (rewrite b) = top_choice A (first_or_zero d.premise) ∷ root_choice A p' (first_or_zero d.premise) ∷ []
-  choices_after (push1 b) =
-      chooses_all (members (move_at A (first_or_zero d.premise)).R) d.moves
-      ∷ top_choice A (first_or_zero d.premise)
-      ∷ root_choice A p' (first_or_zero d.premise)
-      ∷ []
-  choices_after (push2 b) =
-      chooses_all (members (move_at A (first_or_zero d.premise)).R) d.moves
-      ∷ top_choice A (first_or_zero d.premise)
-      ∷ root_choice A p' (first_or_zero d.premise)
-      ∷ []
+  choices_after (rewrite b) = top_choice ∷ root_choice ∷ []
+  choices_after (push1 b) = chooses_all (members (move_at A premise).R) d.moves ∷ top_choice ∷ root_choice ∷ []
+  choices_after (push2 b) = chooses_all (members (move_at A premise).R) d.moves ∷ top_choice ∷ root_choice ∷ []
   choices_after copy =
       chooses_all (members (named A d.edges)) d.moves
-      ∷ chooses_all (members (entry_set A (move_at A (first_or_zero d.premise)).state)) d.edges
-      ∷ top_choice A (first_or_zero d.premise)
-      ∷ root_choice A p' (first_or_zero d.premise)
+      ∷ chooses_all (members (entry_set A (move_at A premise).state)) d.edges
+      ∷ top_choice
+      ∷ root_choice
       ∷ []
-  choices_after pop1 = chooses p' (entry_edge A (first_or_zero d.premise)) ∷ []
+  choices_after pop1 = chooses p' (entry_edge A premise) ∷ []
   choices_after pop2 = []
-  choices_after collapse1 = chooses p' (entry_edge A (first_or_zero d.premise)) ∷ []
+  choices_after collapse1 = chooses p' (entry_edge A premise) ∷ []
   choices_after collapse2 = []
 
 -- the top of a walk: its symbol a, the cells u, s and t, and the number of the chosen move

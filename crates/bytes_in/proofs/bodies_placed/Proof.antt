@@ -3,7 +3,7 @@
 use Prim.Native.Nat.{◌≤◌, ◌-◌}
 use mathlib.Core.Path.{sym, ◌∙◌}
 use Rattle.bytes_in.specs.Contents.{PlacedFrom}
-use Rattle.bytes_in.specs.Contents.Laws.{from_first, from_next, from_wrong, from_last_lem}
+use Rattle.bytes_in.specs.Contents.Laws.{from_first, from_next, from_wrong, from_last}
 use borrow.Author.Rules.{rules}
 use Rattle.bytes_in.proofs.bodies_placed.Statement.{statement}
 use Rattle.bytes_in.proofs.bodies_placed.Tie as tie
@@ -49,7 +49,7 @@ loop-again c = (
 )
 
 returns-2 : tie.Need-returns-2 invariant-loop decreases-loop
-returns-2 c = from_last_lem _ _ _ _ _ _ c.loop-test.false c.before.loop.invariant.1
+returns-2 c = from_last _ _ _ _ _ _ c.loop-test.false c.before.loop.invariant.1
 
 pub bodies-placed-spec : {M : Type 1} → statement M
 bodies-placed-spec =

@@ -1,7 +1,7 @@
--- A table of contents is right exactly if each of its lines is, one after another; a part of a table has the first of its bodies.
+-- A table of contents is right exactly if each of its lines is, one after another.
 -- Assumes nothing.
-use Rattle.std.specs.Prelude.{ℕ, zero, suc, ◌+◌, ◌*◌, ◌/◌, ◌-◌, ◌<◌, ◌≤◌, true, false, ◌&&◌, ◌≡◌, refl, List, ◌∷◌, length, get_or, take, eqb}
-use Rattle.std.proofs.Common.{ap, ap₂, sym, ◌∙◌, length-take, get_or-take, mul-le-mul, add-one, arith}
+use Rattle.std.specs.Prelude.{ℕ, zero, suc, ◌+◌, ◌*◌, ◌/◌, ◌-◌, ◌<◌, ◌≤◌, true, false, ◌&&◌, ◌≡◌, refl, List, ◌∷◌, length, eqb}
+use Rattle.std.proofs.Common.{ap, ap₂, sym, ◌∙◌, mul-le-mul, add-one, arith}
 use Rattle.words.specs.Laws.Tests.{by_test}
 use Rattle.files.specs.Bytes.{Body, count_of, offset_of, line_right, bodies_placed, placed}
 use Rattle.files.specs.Bytes.Laws.{line_facts, placed_bodies, placed_within}
@@ -91,10 +91,10 @@ pub from_wrong : (file table : List ℕ) (n first i offset : ℕ) (b : Body) →
     → b ≡ body_in table i → Wrong ≡ next_body file i offset b → bodies_placed file 0 first (bodies_from n 0 table) ≡ false
 from_wrong file table n first i offset b h t e f = t ∙ rw (bodies_cons n i table h, ← e) (placed_wrong file i offset b _ f)
 
-pub from_last_lem : (file table : List ℕ) (n first i offset : ℕ) → n ≤ i → PlacedFrom file table n first i offset
+pub from_last : (file table : List ℕ) (n first i offset : ℕ) → n ≤ i → PlacedFrom file table n first i offset
     → eqb offset (length file) ≡ bodies_placed file 0 first (bodies_from n 0 table)
 unfolding bodies_from bodies_placed
-from_last_lem file table n first i offset h t = let e : n - i ≡ 0 = omega arith in sym (t ∙ rw e)
+from_last file table n first i offset h t = let e : n - i ≡ 0 = omega arith in sym (t ∙ rw e)
 
 -- ---- the whole table
 
@@ -111,29 +111,3 @@ pub table_bodies : (table file : List ℕ)
     → placed (bodies_in table) file ≡ bodies_placed file 0 (1 + 8 * (length table / 4)) (bodies_from (length table / 4) 0 table)
 unfolding bodies_in placed
 table_bodies table file = rw length_bodies
-
--- ---- a part of a table
-
--- bodies that stand in the first m numbers
-bodies_within : (n i m : ℕ) (table : List ℕ) → 4 * (i + n) ≤ m → bodies_from n i (take m table) ≡ bodies_from n i table
-unfolding bodies_from
-bodies_within zero i m table h = refl
-bodies_within (suc n) i m table h =
-    let at : (j : ℕ) → j < m → get_or (take m table) j 0 ≡ get_or table j 0 = λ j l. get_or-take m table j 0 l in
-    rw (at (4 * i) (omega arith), at (4 * i + 1) (omega arith), at (4 * i + 2) (omega arith), at (4 * i + 3) (omega arith))
-    (ap (◌∷◌ (body_in table i)) (bodies_within n (suc i) m table (omega arith)))
-
-fewer_bodies : (k n i : ℕ) (table : List ℕ) → k ≤ n → bodies_from k i table ≡ take k (bodies_from n i table)
-unfolding bodies_from
-fewer_bodies zero n i table h = refl
-fewer_bodies (suc k) zero i table h = absurd (omega arith)
-fewer_bodies (suc k) (suc n) i table h = ap (◌∷◌ (body_in table i)) (fewer_bodies k n (suc i) table (omega arith))
-
--- the first k bodies of a table stand in its first 4 * k numbers
-pub bodies_taken : (k : ℕ) (table : List ℕ) → k ≤ length (bodies_in table) → bodies_in (take (4 * k) table) ≡ take k (bodies_in table)
-unfolding bodies_in
-bodies_taken k table h =
-    let few : k ≤ length table / 4 = rw length_bodies at h in
-    let l : length (take (4 * k) table) ≡ 4 * k = length-take (4 * k) table ∙ omega arith in
-    let n : length (take (4 * k) table) / 4 ≡ k = omega arith in
-    ap (λ (j : ℕ). bodies_from j 0 (take (4 * k) table)) n ∙ bodies_within k 0 (4 * k) table (omega arith) ∙ fewer_bodies k (length table / 4) 0 table few

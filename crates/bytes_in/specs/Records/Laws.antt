@@ -38,9 +38,9 @@ pub records_more : (size i : ℕ) (b : List ℕ) → records (i + 1) size b ≡ 
 unfolding records record_at
 records_more size i b = records_add i 1 size b
 
-pub from_last_lem : (n size : ℕ) (b : List ℕ) → records_from n size n b ≡ []
+pub from_last : (n size : ℕ) (b : List ℕ) → records_from n size n b ≡ []
 unfolding records_from records
-from_last_lem n size b = let e : n - n ≡ 0 = omega arith in rw e
+from_last n size b = let e : n - n ≡ 0 = omega arith in rw e
 
 pub from_first : (n size : ℕ) (b : List ℕ) → records_from n size 0 b ≡ records n size b
 unfolding records_from

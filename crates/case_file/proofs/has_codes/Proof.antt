@@ -14,7 +14,7 @@ form-of-requires : tie.Need-form-of-requires
 form-of-requires c κs = search rules
 
 returns : tie.Need-returns
-returns c = codes_tell c.before.before.before.before.args.file.now c.before.before.byte_at.ensures.0 c.before.form_of.ensures
+returns c = codes_tell c.before.before.before.before.args.file.now c.before.before.byte_at.ensures.0 c.before.form_of.ensures.0 c.before.form_of.ensures.1
 
 pub has-codes-spec : {M : Type 1} → statement M
 has-codes-spec = tie.close (tie.spec byte-at-requires form-of-requires returns)

@@ -1,27 +1,25 @@
 -- The form of a case by its first byte, its record of codes, and its rules in our codes.
 -- Assumes nothing.
 use Prim.Native.Nat.{ℕ, ◌+◌, ◌*◌, ◌-◌, ◌≤◌}
-use Rattle.std.proofs.Math.Bool.{Bool, not}
-use Rattle.std.specs.Prelude.{true, false, ◌≡◌, refl, replicate, eqb}
+use Rattle.std.specs.Prelude.{Bool, true, false, ◌≡◌, refl, length, replicate, eqb}
+use Rattle.std.proofs.Math.Bool.{not}
 use Rattle.std.proofs.lemmas.Bool.{false≢true}
 use Rattle.std.proofs.Math.Path.{ap, ap₂, sym}
-use Rattle.std.proofs.Common.{◌∙◌}
+use Rattle.std.proofs.Common.{◌∙◌, arith}
 use mathlib.Core.List.{List, [], ◌∷◌, ◌++◌, map, map-map}
-use native.Mathlib.Omega.{arith}
-use Rattle.std.proofs.Math.ListN.{length, get_or, take, drop}
+use Rattle.std.proofs.Math.ListN.{get_or, take, drop}
 use Rattle.std.proofs.lemmas.List.{length-replicate}
 use Rattle.std.proofs.Math.Seq.{sets, length-sets}
 use borrow.Author.Tests.{eq-eqb, ne_eqb, eqb-true, eqb-false}
 use Rattle.words.specs.Laws.Tests.{by_test}
 use Rattle.words.specs.Lists.Laws.{length_zero}
-use Rattle.files.specs.Bytes.{Body, placed, count_of, offset_of, records, records_of}
+use Rattle.files.specs.Bytes.{placed, count_of, offset_of, records, records_of}
 use Rattle.files.specs.Codes.{our_codes, codes_right, in_our_codes}
 use Rattle.files.specs.Codes.Laws.{ours_right}
 use Rattle.files.specs.Writing.{flat}
 use Rattle.files.specs.Case.{case_bodies, code_body, form_of, form, case_placed, codes_of, rule_bytes, rule_records}
 use Rattle.files.specs.Case.Laws.{without_codes, with_codes, case_form, CodesPlaces, case_places, codes_places}
-use Rattle.bytes_in.specs.Contents.{bodies_in}
-use Rattle.bytes_in.specs.Contents.Laws.{bodies_taken}
+use Rattle.bytes_in.specs.Contents.{bodies_in, bodies_from}
 use Rattle.bytes_in.specs.Records.{body_of}
 use Rattle.bytes_in.specs.Records.Laws.{records_here}
 use Rattle.operations.specs.Laws.Rules.{read_ours}
@@ -42,14 +40,19 @@ module _ (first : ℕ) where
   unfolding form_of lines_of codes_in
   form_none d e = rw (form_of, ne_eqb first 4 d, ne_eqb first 5 e) (refl, refl)
 
-form_few : (first : ℕ) → (lines_of (form_of first) ≤ 5) × (codes_in (form_of first) ≤ 8)
-form_few first = by_test (eqb first 4)
-    (λ p. let (l, c) = form_four first (eqb-true first 4 p) in (omega arith, omega arith))
+lines_few : (first : ℕ) → lines_of (form_of first) ≤ 5
+lines_few first = by_test (eqb first 4)
+    (λ p. let (l, c) = form_four first (eqb-true first 4 p) in omega arith)
     (λ p. by_test (eqb first 5)
-    (λ q. let (l, c) = form_five first (eqb-false first 4 p) (eqb-true first 5 q) in (omega arith, omega arith))
-    (λ q. let (l, c) = form_none first (eqb-false first 4 p) (eqb-false first 5 q) in (omega arith, omega arith)))
+    (λ q. let (l, c) = form_five first (eqb-false first 4 p) (eqb-true first 5 q) in omega arith)
+    (λ q. let (l, c) = form_none first (eqb-false first 4 p) (eqb-false first 5 q) in omega arith))
 
 -- ---- the places of the bodies
+
+-- the code's table of bodies, four numbers each
+unfoldable pub body_table : List ℕ
+body_table =
+    1 ∷ 1 ∷ 1 ∷ 14 ∷ 2 ∷ 0 ∷ 256 ∷ 5 ∷ 3 ∷ 0 ∷ 64 ∷ 4 ∷ 4 ∷ 0 ∷ 1024 ∷ 19 ∷ 5 ∷ 1 ∷ 1 ∷ 8 ∷ []
 
 module _ (file : List ℕ) where
   pub no_bytes : length file ≡ 0 → false ≡ case_placed file
@@ -68,12 +71,9 @@ module _ (file : List ℕ) where
   unfolding case_placed form form_of
   none_here d e = rw (case_placed, ne_eqb (get_or file 0 0) 4 d, ne_eqb (get_or file 0 0) 5 e)
 
-  module _ {first lines codes : ℕ} (e : first ≡ get_or file 0 0) (f : (lines ≡ lines_of (form_of first)) × (codes ≡ codes_in (form_of first))) where
+  module _ {first lines : ℕ} (e : first ≡ get_or file 0 0) (l : lines ≡ lines_of (form_of first)) where
     pub lines_most : lines ≤ 5
-    lines_most = let (l, c) = form_few first in omega arith
-
-    pub codes_most : codes ≤ 8
-    codes_most = let (l, c) = form_few first in omega arith
+    lines_most = let k : lines_of (form_of first) ≤ 5 = lines_few first in omega arith
 
     pub no_form : lines ≡ 0 → false ≡ case_placed file
     no_form z = by_test (eqb first 4)
@@ -82,32 +82,21 @@ module _ (file : List ℕ) where
         (λ q. let (k, c) = form_five first (eqb-false first 4 p) (eqb-true first 5 q) in absurd (omega arith))
         (λ q. sym (none_here (λ x. eqb-false first 4 p (e ∙ x)) (λ x. eqb-false first 5 q (e ∙ x)))))
 
-    -- a case has as many of the five bodies as its form has lines
-    lines_placed : (lines ≡ 0 → ⊥) → placed (take lines (case_bodies ++ code_body codes ∷ [])) file ≡ case_placed file
-    unfolding case_bodies
-    lines_placed z =
-        let has : ℕ → ℕ → Bool = λ k n. placed (take k (case_bodies ++ code_body n ∷ [])) file in
+    pub form_placed : {r : Bool} → (lines ≡ 0 → ⊥) → r ≡ placed (bodies_in (take (4 * lines - 0) (drop 0 body_table))) file → r ≡ case_placed file
+    unfolding body_table bodies_in bodies_from case_bodies code_body
+    form_placed {r} z p =
+        let by : (k : ℕ) → lines ≡ k → r ≡ placed (bodies_in (take (4 * k - 0) (drop 0 body_table))) file = λ k f. p ∙ ap (λ (n : ℕ). placed (bodies_in (take (4 * n - 0) (drop 0 body_table))) file) f in
         by_test (eqb first 4)
-        (λ p. let (l, c) = form_four first (eqb-true first 4 p) in ap₂ has (f.0 ∙ sym l) (f.1 ∙ sym c) ∙ sym (four_here (sym e ∙ eqb-true first 4 p)))
-        (λ p. by_test (eqb first 5)
-        (λ q. let (l, c) = form_five first (eqb-false first 4 p) (eqb-true first 5 q) in ap₂ has (f.0 ∙ sym l) (f.1 ∙ sym c) ∙ sym (five_here (sym e ∙ eqb-true first 5 q)))
-        (λ q. let (l, c) = form_none first (eqb-false first 4 p) (eqb-false first 5 q) in absurd (z (f.0 ∙ sym l))))
-
-    -- the same by a table of the five bodies
-    pub form_placed : (table : List ℕ) → bodies_in table ≡ case_bodies ++ code_body codes ∷ [] → (lines ≡ 0 → ⊥)
-        → placed (bodies_in (take (4 * lines - 0) (drop 0 table))) file ≡ case_placed file
-    unfolding case_bodies
-    form_placed table b z =
-        let few : lines ≤ length (bodies_in table) = rw b lines_most in
-        let same : 4 * lines - 0 ≡ 4 * lines = omega arith in
-        let part = ap (λ (n : ℕ). bodies_in (take n table)) same ∙ bodies_taken lines table few ∙ ap (take lines) b in
-        ap (λ (bs : List Body). placed bs file) part ∙ lines_placed z
+        (λ q. let (k, c) = form_four first (eqb-true first 4 q) in by 4 (l ∙ sym k) ∙ sym (four_here (sym e ∙ eqb-true first 4 q)))
+        (λ q. by_test (eqb first 5)
+        (λ t. let (k, c) = form_five first (eqb-false first 4 q) (eqb-true first 5 t) in by 5 (l ∙ sym k) ∙ sym (five_here (sym e ∙ eqb-true first 5 t)))
+        (λ t. let (k, c) = form_none first (eqb-false first 4 q) (eqb-false first 5 t) in absurd (z (l ∙ sym k))))
 
     -- ---- the record of codes
 
-    pub codes_tell : not (eqb codes 0) ≡ has_codes file
+    pub codes_tell : {codes : ℕ} → codes ≡ codes_in (form_of first) → not (eqb codes 0) ≡ has_codes file
     unfolding has_codes form
-    codes_tell = ap (λ (k : ℕ). not (eqb k 0)) (f.1 ∙ ap (λ (k : ℕ). codes_in (form_of k)) e)
+    codes_tell c = ap (λ (k : ℕ). not (eqb k 0)) (c ∙ ap (λ (k : ℕ). codes_in (form_of k)) e)
 
   module _ (in_place : case_placed file ≡ true) where
     -- a file has a record, and then first byte 5, or it has none

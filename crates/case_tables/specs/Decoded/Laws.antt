@@ -15,7 +15,7 @@ use Rattle.files.specs.Bytes.{records}
 use Rattle.files.specs.Case.{Head, EdgeBytes, edge_bytes, entries_of, final_entries, inner_edges, move_of}
 use Rattle.files.specs.Bytes.Laws.{length_records}
 use Rattle.bytes_in.specs.Records.{record_at}
-use Rattle.bytes_in.specs.Records.Laws.{records_split, from_last_lem, from_first, from_cons, map_more}
+use Rattle.bytes_in.specs.Records.Laws.{records_split, from_last, from_first, from_cons, map_more}
 use Rattle.tables.specs.Rows.{first_of, rows_in, put_row}
 use Rattle.tables.specs.Rows.Laws.{length_rows_in}
 use Rattle.tables.specs.Layouts.{edge_row, entry_row, move_row}
@@ -154,7 +154,7 @@ drop_later m n x y h e =
 pub inner_last : (h : Head) (b t : List ℕ) (n : ℕ) → InnerFrom h b t t n n 0
 unfolding rows_in first_of
 inner_last h b t n =
-    record { rows = sym (ap (λ (l : List (List ℕ)). inner_edges h (map edge_bytes l)) (from_last_lem n 4 b) ∙ inner_none h); behind = refl; few = omega arith; long = refl }
+    record { rows = sym (ap (λ (l : List (List ℕ)). inner_edges h (map edge_bytes l)) (from_last n 4 b) ∙ inner_none h); behind = refl; few = omega arith; long = refl }
 
 pub inner_step : (h : Head) (b t₀ t t' : List ℕ) (n i k r : ℕ) (x : EdgeBytes) → InnerFrom h b t₀ t n i k → 0 < i
     → x ≡ edge_bytes (record_at 4 (i - 1) b) → MoreInner h x t t' k r → length t' ≡ length t → InnerFrom h b t₀ t' n (i - 1) r

@@ -1,7 +1,7 @@
 -- `cell_steps::choose_copied` meets its contract.
 -- Assumes nothing.
 use mathlib.Core.List.{[], ◌∷◌}
-use Rattle.cell_steps.specs.Steps.{with_chosen}
+use Rattle.cell_steps.specs.Steps.{with_chosen, step_chosen}
 use Rattle.cell_steps.specs.Steps.Laws.{put_one, put_then, put_more}
 use borrow.Author.Rules.{rules}
 use Rattle.cell_steps.proofs.choose_copied.Statement.{statement}
@@ -26,7 +26,7 @@ same_length : tie.Need-same-length
 same_length c = search rules
 
 returns : tie.Need-returns
-unfolding with_chosen
+unfolding with_chosen step_chosen
 returns c =
     put_more with_chosen _ _ (_ ∷ _ ∷ []) _
     (put_then with_chosen _ _ _ _ c.before.before.before.before.before.before.before.before.before.before.put-choices.ensures (put_one with_chosen _ _ _ c.before.before.before.before.before.before.put-choices2.ensures))

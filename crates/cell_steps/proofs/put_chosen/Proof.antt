@@ -75,50 +75,50 @@ same_length c = search rules
 
 returns : tie.Need-returns
 unfolding step_chosen
-returns c = chosen_by _ _ _ c.before.before.before.before.before.before.before.before.before.args.second _ _ c.before.before.before.before.enum_told.given.1 c.before.before.choose-top.ensures
+returns c = chosen_by _ _ _ _ _ _ _ _ c.before.before.before.before.enum_told.given.1 c.before.before.choose-top.ensures
 
 same-length-2 : tie.Need-same-length-2
 same-length-2 c = search rules
 
 returns-2 : tie.Need-returns-2
 unfolding step_chosen
-returns-2 c = chosen_by _ _ _ c.before.before.before.before.before.before.before.before.before.args.second _ _ c.before.before.before.before.enum-told2.given.1 c.before.before.choose-pushed.ensures
+returns-2 c = chosen_by _ _ _ _ _ _ _ _ c.before.before.before.before.enum-told2.given.1 c.before.before.choose-pushed.ensures
 
 same-length-3 : tie.Need-same-length-3
 same-length-3 c = search rules
 
 returns-3 : tie.Need-returns-3
 unfolding step_chosen
-returns-3 c = chosen_by _ _ _ c.before.before.before.before.before.before.before.before.before.args.second _ _ c.before.before.before.before.enum-told3.given.1 c.before.before.choose-pushed2.ensures
+returns-3 c = chosen_by _ _ _ _ _ _ _ _ c.before.before.before.before.enum-told3.given.1 c.before.before.choose-pushed2.ensures
 
 same-length-4 : tie.Need-same-length-4
 same-length-4 c = search rules
 
 returns-4 : tie.Need-returns-4
 unfolding step_chosen
-returns-4 c = chosen_by _ _ _ c.before.before.before.before.before.before.before.before.before.args.second _ _ c.before.before.before.before.enum-told4.given.1 c.before.before.choose-copied.ensures
+returns-4 c = chosen_by _ _ _ _ _ _ _ _ c.before.before.before.before.enum-told4.given.1 c.before.before.choose-copied.ensures
 
 same-length-5 : tie.Need-same-length-5
 same-length-5 c = search rules
 
 returns-5 : tie.Need-returns-5
 unfolding step_chosen with_chosen
-returns-5 c = chosen_by _ _ _ c.before.before.before.before.before.before.before.before.before.args.second _ _ c.before.before.before.before.enum-told5.given.1 (put_one with_chosen _ _ _ c.before.before.put-choice.ensures)
+returns-5 c = chosen_by _ _ _ _ _ _ _ _ c.before.before.before.before.enum-told5.given.1 (put_one with_chosen _ _ _ c.before.before.put-choice.ensures)
 
 returns-6 : tie.Need-returns-6
 unfolding step_chosen put_from
-returns-6 c = chosen_by _ _ _ c.before.before.before.before.before.args.second _ _ c.enum-told6.given.1 refl
+returns-6 c = chosen_by _ _ _ _ _ _ _ _ c.enum-told6.given.1 refl
 
 same-length-6 : tie.Need-same-length-6
 same-length-6 c = search rules
 
 returns-7 : tie.Need-returns-7
 unfolding step_chosen with_chosen
-returns-7 c = chosen_by _ _ _ c.before.before.before.before.before.before.before.before.before.args.second _ _ c.before.before.before.before.enum-told7.given.1 (put_one with_chosen _ _ _ c.before.before.put-choice2.ensures)
+returns-7 c = chosen_by _ _ _ _ _ _ _ _ c.before.before.before.before.enum-told7.given.1 (put_one with_chosen _ _ _ c.before.before.put-choice2.ensures)
 
 returns-8 : tie.Need-returns-8
 unfolding step_chosen put_from
-returns-8 c = chosen_by _ _ _ c.before.before.before.before.before.args.second _ _ c.enum-told8.given.1 refl
+returns-8 c = chosen_by _ _ _ _ _ _ _ _ c.enum-told8.given.1 refl
 
 pub put-chosen-spec : {M : Type 1} → statement M
 put-chosen-spec =

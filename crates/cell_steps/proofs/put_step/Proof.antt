@@ -16,7 +16,7 @@ same_length c = search rules
 
 returns : tie.Need-returns
 returns c =
-    step_guided _ _ _ _ _ _ _ _ _ _ _ (search rules) (search rules) c.before.before.before.before.before.before.put-cells.ensures c.before.before.put-chosen.ensures
+    step_guided _ _ _ _ _ _ _ _ _ _ _ _ _ (search rules) (search rules) (search rules) (search rules) (search rules) c.before.before.before.before.before.before.put-cells.ensures c.before.before.put-chosen.ensures
 
 pub put-step-spec : {M : Type 1} → statement M
 put-step-spec = tie.close (tie.spec put-cells-requires put-chosen-requires same_length returns)

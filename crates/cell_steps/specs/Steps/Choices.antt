@@ -1,14 +1,14 @@
 -- The choices of a step are those of a derivation, where the words hold the derivation's numbers.
 -- Assumes nothing.
 use Rattle.std.specs.Prelude.{ℕ, ◌-◌, ◌≡◌, get_or}
-use Rattle.std.proofs.Math.Path.{refl, ap₂, fun_ext}
-use mathlib.Core.List.{List, ◌∷◌}
+use Rattle.std.proofs.Math.Path.{refl, ap, fun_ext}
+use Rattle.std.proofs.Common.{◌∙◌}
+use mathlib.Core.List.{List, [], ◌∷◌}
 use Rattle.words.specs.Sets.{members}
 use Rattle.stacks.specs.Stack.{Operation, rewrite, push1, push2, copy, pop1, pop2, collapse1, collapse2}
 use Rattle.automata.specs.Automaton.{Automaton, move_at, entry_set, entry_edge}
 use Rattle.automata.specs.Derivation.{Derivation, named}
-use Rattle.walks.specs.Guide.{first_or_zero, chooses_all, top_choice, root_choice, choices_after}
-use Rattle.cell_steps.specs.declared.Choice.{Choice}
+use Rattle.walks.specs.Guide.{first_or_zero, chooses, chooses_all, premise, top_choice, root_choice, choices_after}
 use Rattle.cell_steps.specs.Steps.{choice_of, step_chosen, step_choices}
 
 module _ (A : Automaton) where
@@ -34,10 +34,6 @@ module _ (A : Automaton) where
   root_edge collapse1 number = entry_edge A number
   root_edge collapse2 number = 0
 
-  -- The choices of the first follower, to control p' from the premise with this number.
-  abbrev pub choice_by : ℕ → ℕ → Operation → Choice
-  choice_by p' number op = record { state = top_state op number; number = number; control = p'; edge = root_edge op number }
-
   module _ (d : Derivation) where
     -- the words hold the moves that d reads from the rest set of its premise
     abbrev pub HoldsRest : List ℕ → Type 0
@@ -57,15 +53,27 @@ module _ (A : Automaton) where
     HoldsNumbers collapse2 es ms = Unit {0}
 
     module _ (p' : ℕ) where
+      top_is : {r number : ℕ} → number ≡ first_or_zero d.premise → r ≡ (move_at A number).state → chooses r number ≡ top_choice A d p'
+      unfolding top_choice premise
+      top_is n s = λ i. chooses ((s ∙ ap (λ (k : ℕ). (move_at A k).state) n) i) (n i)
+
+      root_is : {edge number : ℕ} → number ≡ first_or_zero d.premise → edge ≡ entry_edge A ((move_at A number).state - A.J) → chooses p' edge ≡ root_choice A d p'
+      unfolding root_choice premise
+      root_is n e = ap (chooses p') (e ∙ ap (λ (k : ℕ). entry_edge A ((move_at A k).state - A.J)) n)
+
+      entry_is : {edge number : ℕ} → number ≡ first_or_zero d.premise → edge ≡ entry_edge A number → chooses p' edge ≡ chooses p' (entry_edge A (premise A d p'))
+      unfolding premise
+      entry_is n e = ap (chooses p') (e ∙ ap (entry_edge A) n)
+
       -- "New cells carry the choices of that derivation."
-      pub step_choices_lem : (op : Operation) (second : Choice) (es ms : List ℕ) → HoldsNumbers op es ms
-          → step_choices (choice_by p' (first_or_zero d.premise) op) second es ms op ≡ choices_after A d p' op
-      unfolding step_choices step_chosen choice_of choices_after top_choice root_choice top_state root_edge
-      step_choices_lem (rewrite b) second es ms h = refl
-      step_choices_lem (push1 b) second es ms h = ap₂ ◌∷◌ (fun_ext h) refl
-      step_choices_lem (push2 b) second es ms h = ap₂ ◌∷◌ (fun_ext h) refl
-      step_choices_lem copy second es ms h = ap₂ ◌∷◌ (fun_ext h.0) (ap₂ ◌∷◌ (fun_ext h.1) refl)
-      step_choices_lem pop1 second es ms h = refl
-      step_choices_lem pop2 second es ms h = refl
-      step_choices_lem collapse1 second es ms h = refl
-      step_choices_lem collapse2 second es ms h = refl
+      pub step_choices_lem : (op : Operation) (es ms : List ℕ) (r edge number : ℕ) → number ≡ first_or_zero d.premise → r ≡ top_state op number → edge ≡ root_edge op number
+          → HoldsNumbers op es ms → step_choices r number p' edge es ms op ≡ choices_after A d p' op
+      unfolding step_choices step_chosen choice_of choices_after premise top_state root_edge
+      step_choices_lem (rewrite b) es ms r edge number n s e h = λ i. top_is n s i ∷ root_is n e i ∷ []
+      step_choices_lem (push1 b) es ms r edge number n s e h = λ i. fun_ext h i ∷ top_is n s i ∷ root_is n e i ∷ []
+      step_choices_lem (push2 b) es ms r edge number n s e h = λ i. fun_ext h i ∷ top_is n s i ∷ root_is n e i ∷ []
+      step_choices_lem copy es ms r edge number n s e h = λ i. fun_ext h.0 i ∷ fun_ext h.1 i ∷ top_is n s i ∷ root_is n e i ∷ []
+      step_choices_lem pop1 es ms r edge number n s e h = λ i. entry_is n e i ∷ []
+      step_choices_lem pop2 es ms r edge number n s e h = refl
+      step_choices_lem collapse1 es ms r edge number n s e h = λ i. entry_is n e i ∷ []
+      step_choices_lem collapse2 es ms r edge number n s e h = refl

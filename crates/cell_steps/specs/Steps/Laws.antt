@@ -21,8 +21,7 @@ use Rattle.case_records.specs.declared.Operation.{Operation}
 use Rattle.case_records.specs.Values.{the_operation}
 use Rattle.cell_memory.specs.Memory.{cell_of, value_of, guided_cell, guided_in, with_cell}
 use Rattle.cell_memory.specs.Memory.Laws.{cell_of_value_of, guided_in_same, choosing, length_with_cell, with_cell_other, with_cell_guided, length_with_choice, with_choice_other, with_choice_guided, length_with_choices, with_choices_other, with_choices_guided}
-use Rattle.cell_steps.specs.Steps.{put_from, put_cell, with_cells, cell_number, CellsPut, symbol_of, CellChoices, one, all, choice_of, with_chosen, with_all_chosen, step_chosen, step_choices, plain, guided_by, ChoicesStand}
-use Rattle.cell_steps.specs.declared.Choice.{Choice}
+use Rattle.cell_steps.specs.Steps.{put_from, put_cell, with_cells, cell_number, CellsPut, symbol_of, CellChoices, one, all, choice_of, with_chosen, with_all_chosen, step_chosen, step_choices, plain, guided_by}
 
 -- ---- cells from a number on
 
@@ -198,8 +197,8 @@ written_guided cs fs ws n h e l =
 
 -- ---- a step
 
-module _ (first second : Choice) (es ms : List ℕ) where
-  length_step_chosen : (op : Stack.Operation) → length (step_chosen first second es ms op) ≡ new_cells op
+module _ (r number p' edge : ℕ) (es ms : List ℕ) where
+  length_step_chosen : (op : Stack.Operation) → length (step_chosen r number p' edge es ms op) ≡ new_cells op
   unfolding step_chosen new_cells
   length_step_chosen (rewrite b) = refl
   length_step_chosen (push1 b) = refl
@@ -210,30 +209,30 @@ module _ (first second : Choice) (es ms : List ℕ) where
   length_step_chosen collapse1 = refl
   length_step_chosen collapse2 = refl
 
-  step_chosen_fit : ChoicesStand first second es ms → (op : Stack.Operation) → AllFit ChoicesFit (step_chosen first second es ms op)
+  step_chosen_fit : r < 64 → p' < 64 → length es ≡ 64 → length ms ≡ 64 → (op : Stack.Operation) → AllFit ChoicesFit (step_chosen r number p' edge es ms op)
   unfolding step_chosen
-  step_chosen_fit h (rewrite b) = (h.first_names.0, (h.first_names.1, tt))
-  step_chosen_fit h (push1 b) = (h.moves_each, (h.first_names.0, (h.first_names.1, tt)))
-  step_chosen_fit h (push2 b) = (h.moves_each, (h.first_names.0, (h.first_names.1, tt)))
-  step_chosen_fit h copy = (h.moves_each, (h.edges_each, (h.first_names.0, (h.first_names.1, tt))))
-  step_chosen_fit h pop1 = (h.first_names.1, tt)
-  step_chosen_fit h pop2 = tt
-  step_chosen_fit h collapse1 = (h.first_names.1, tt)
-  step_chosen_fit h collapse2 = tt
+  step_chosen_fit h k e m (rewrite b) = (h, (k, tt))
+  step_chosen_fit h k e m (push1 b) = (m, (h, (k, tt)))
+  step_chosen_fit h k e m (push2 b) = (m, (h, (k, tt)))
+  step_chosen_fit h k e m copy = (m, (e, (h, (k, tt))))
+  step_chosen_fit h k e m pop1 = (k, tt)
+  step_chosen_fit h k e m pop2 = tt
+  step_chosen_fit h k e m collapse1 = (k, tt)
+  step_chosen_fit h k e m collapse2 = tt
 
   -- the cells of a step are written, and then their choices
-  pub step_guided : {vs us : List ℕ} (op : Stack.Operation) (n a u s t : ℕ) (ws : List ℕ) → (n + new_cells op) * 68 ≤ length ws → ChoicesStand first second es ms
-      → vs ≡ with_cells ws n (cells_after op n a u s t) → us ≡ with_all_chosen vs n (step_chosen first second es ms op)
-      → guided_in (n + new_cells op) us ≡ guided_in n ws ++ guided_by (cells_after op n a u s t) (step_choices first second es ms op)
+  pub step_guided : {vs us : List ℕ} (op : Stack.Operation) (n a u s t : ℕ) (ws : List ℕ) → (n + new_cells op) * 68 ≤ length ws → r < 64 → p' < 64
+      → length es ≡ 64 → length ms ≡ 64 → vs ≡ with_cells ws n (cells_after op n a u s t) → us ≡ with_all_chosen vs n (step_chosen r number p' edge es ms op)
+      → guided_in (n + new_cells op) us ≡ guided_in n ws ++ guided_by (cells_after op n a u s t) (step_choices r number p' edge es ms op)
   unfolding step_choices
-  step_guided op n a u s t ws l h cells choices =
+  step_guided op n a u s t ws l h k e m cells choices =
       let cs : List walks.Cell = cells_after op n a u s t in
-      let fs : List CellChoices = step_chosen first second es ms op in
+      let fs : List CellChoices = step_chosen r number p' edge es ms op in
       let size : length (cells_after op n a u s t) ≡ new_cells op = length_cells_after op n a u s t in
       ap₂ guided_in
       (ap (λ (i : ℕ). n + i) (sym size))
       (choices ∙ ap (λ (l : List ℕ). with_all_chosen l n fs) cells)
-      ∙ written_guided cs fs ws n (step_chosen_fit h op) (length_step_chosen op ∙ sym size) (omega arith)
+      ∙ written_guided cs fs ws n (step_chosen_fit h k e m op) (length_step_chosen op ∙ sym size) (omega arith)
 
 -- ---- an operation by value
 
@@ -279,9 +278,9 @@ pub cell_none : {op o : Operation} (n a u s t i : ℕ) → op ≡ o → cells_af
 unfolding cell_number
 cell_none n a u s t i e f = cell_by n a u s t i e (ap (λ (cs : List walks.Cell). get_or cs i walks.empty1) (sym f))
 
-pub chosen_by : {out : List ℕ} {op o : Operation} (ws : List ℕ) (n : ℕ) (first second : Choice) (es ms : List ℕ) → op ≡ o
-    → out ≡ with_all_chosen ws n (step_chosen first second es ms (the_operation o)) → out ≡ with_all_chosen ws n (step_chosen first second es ms (the_operation op))
-chosen_by ws n first second es ms e h = h ∙ ap (λ (x : Operation). with_all_chosen ws n (step_chosen first second es ms (the_operation x))) (sym e)
+pub chosen_by : {out : List ℕ} {op o : Operation} (ws : List ℕ) (n r number p' edge : ℕ) (es ms : List ℕ) → op ≡ o
+    → out ≡ with_all_chosen ws n (step_chosen r number p' edge es ms (the_operation o)) → out ≡ with_all_chosen ws n (step_chosen r number p' edge es ms (the_operation op))
+chosen_by ws n r number p' edge es ms e h = h ∙ ap (λ (x : Operation). with_all_chosen ws n (step_chosen r number p' edge es ms (the_operation x))) (sym e)
 
 -- the root cell fits 16 bits
 pub root_small : (op : Stack.Operation) (n u t : ℕ) → n ≤ 4096 → u < 2 ^ 16 → t < 2 ^ 16 → root_after op n u t < 2 ^ 16

@@ -24,7 +24,7 @@ same-length-2 : tie.Need-same-length-2
 same-length-2 c = search rules
 
 returns : tie.Need-returns
-returns c = settled_collects _ c.before.before.before.before.before.before.before.before.before.before.before.before.before.before.before.before.before.before.before.args.to _ _ _ c.before.before.before.before.before.before.before.settled-goal.ensures c.before.before.before.before.by_control.ensures
+returns c = settled_collects _ c.before.before.before.before.before.before.before.before.before.before.before.before.before.before.before.before.before.before.before.args.to _ _ _ c.before.before.before.before.before.before.before.settled-goal.ensures c.before.before.before.before.by-control.ensures
 
 first-move-requires : tie.Need-first-move-requires
 first-move-requires c κs = search rules

@@ -19,7 +19,7 @@ use Rattle.automata.specs.Saturation.Laws.{up_to_extends}
 use Rattle.choices.specs.Unchanged.{Unchanged}
 use Rattle.readings.specs.declared.Before.{Before}
 use Rattle.readings.specs.Readings.{read_results, edge_results}
-use Rattle.readings.specs.Readings.Order.{read_out, read_in_lem, read_apart, read_together}
+use Rattle.readings.specs.Readings.Order.{read_out, read_in, read_apart, read_together}
 use Rattle.readings.specs.Readings.Earlier.{edges_out, edges_in_lem, old_move, edges_old}
 use Rattle.readings.specs.Before.{table_before, Known}
 use Rattle.readings.specs.Before.Laws.{move_earlier, edge_earlier, newer_no}
@@ -71,7 +71,7 @@ module _ (A : Automaton) (p a q : ℕ) (j : Joins) (c : ℕ) (u : Unchanged A q 
       let d : Has N q → ⊥ = λ h. false≢true (sym e ∙ h.has) in
       let (i, l) = u.one_leaves b in
       read_together A p a S (join N (single q)) q (has_join_right N (has_single q)).has j
-      (read_in_lem A p a S q (members (without (join N (single q)) q)) j
+      (read_in A p a S q (members (without (join N (single q)) q)) j
       (record {
         number = c - 1;
         there = i;

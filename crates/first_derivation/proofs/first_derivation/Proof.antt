@@ -7,7 +7,7 @@ use Rattle.tables.specs.Records.{as_result}
 use Rattle.first_reading.specs.Answer.{NotFoundBelow, Unchanged}
 use Rattle.first_reading.specs.Answer.Laws.{same_refl, same_after, passed_none, passed_more}
 use Rattle.first_reading.specs.Words.Laws.{ready_still}
-use Rattle.first_move.specs.Premises.Loops.{finds_from}
+use Rattle.first_derivation.specs.Premises.Loops.{finds_from}
 use Rattle.first_derivation.specs.Derived.{rule_gives}
 use Rattle.first_derivation.specs.Derived.Small.{states_small}
 use Rattle.first_derivation.specs.Derived.Laws.{first_missing, rule_fails, rule_found}
@@ -15,11 +15,11 @@ use Rattle.first_derivation.proofs.first_derivation.Statement.{statement}
 use Rattle.first_derivation.proofs.first_derivation.Tie as tie
 
 abbrev invariant-loop : tie.invariant-loop
-invariant-loop z inner entries moves states controls body count x edges₀ chosen₀ i₀ edges chosen i =
+invariant-loop z inner entries moves body count x edges₀ chosen₀ i₀ edges chosen i =
     NotFoundBelow count (rule_gives (automaton_of z inner entries moves) (as_result x) body) i × Unchanged edges₀ edges × Unchanged chosen₀ chosen
 
 abbrev decreases-loop : tie.decreases-loop
-decreases-loop z inner entries moves states controls body count x edges₀ chosen₀ i₀ edges chosen i = count - i
+decreases-loop z inner entries moves body count x edges₀ chosen₀ i₀ edges chosen i = count - i
 
 loop-holds : tie.Need-loop-init invariant-loop decreases-loop
 loop-holds c = (passed_none, same_refl _, same_refl _)
@@ -30,10 +30,10 @@ rule-at-requires c κs = search rules
 by-rule-requires : tie.Need-by-rule-requires invariant-loop decreases-loop
 by-rule-requires c κs =
     let inv = c.before.before.before.before.loop.invariant in
-    record { ready_to_search = ready_still c.before.before.before.before.before.before.before.before.before.before.before.before.before.requires.0.ready_to_search inv.1 inv.2; premises_indexed = c.before.before.before.before.before.before.before.before.before.before.before.before.before.requires.0.premises_indexed }
+    ready_still c.before.before.before.before.before.before.before.before.before.before.before.requires.0 inv.1 inv.2
 
-enum-known-found : tie.Need-enum-known-found invariant-loop decreases-loop
-enum-known-found c = search rules
+enum-known-premise : tie.Need-enum-known-premise invariant-loop decreases-loop
+enum-known-premise c = search rules
 
 same_length : tie.Need-same-length invariant-loop decreases-loop
 same_length c = search rules
@@ -45,8 +45,8 @@ returns : tie.Need-returns invariant-loop decreases-loop
 returns c =
     let inv = c.before.before.before.before.before.before.before.before.before.before.before.before.loop.invariant in
     let found = finds_from _ _ inv.1 inv.2 c.before.before.before.before.before.before.before.by-rule.ensures in (
-      rule_found _ _ _ _ _ _ c.before.before.before.before.before.before.before.before.before.before.rule-at.ensures c.before.found.given.1 inv.0 c.before.before.before.before.before.before.before.before.before.before.before.loop-test.true found,
-      states_small _ _ _ _ c.before.before.before.before.before.before.before.before.before.before.before.before.before.before.before.before.before.before.before.before.before.requires.0.ready_to_search.tables_within (λ j. (c.before.before.before.before.before.before.before.before.before.before.before.before.before.before.before.before.before.before.before.shared-slice-known2.given j).fits) (λ j. (c.before.before.before.before.before.before.before.before.before.before.before.before.before.before.before.before.before.before.shared-slice-known3.given j).fits),
+      rule_found _ _ _ _ _ _ c.before.before.before.before.before.before.before.before.before.before.rule-at.ensures c.before.premise.given.1 inv.0 c.before.before.before.before.before.before.before.before.before.before.before.loop-test.true found,
+      states_small _ _ _ _ c.before.before.before.before.before.before.before.before.before.before.before.before.before.before.before.before.before.before.before.requires.0.tables_within (λ j. (c.before.before.before.before.before.before.before.before.before.before.before.before.before.before.before.before.before.shared-slice-known2.given j).fits) (λ j. (c.before.before.before.before.before.before.before.before.before.before.before.before.before.before.before.before.shared-slice-known3.given j).fits),
     )
 
 enum_told : tie.Need-enum-told invariant-loop decreases-loop
@@ -74,7 +74,7 @@ returns-2 : tie.Need-returns-2 invariant-loop decreases-loop
 returns-2 c =
     let inv = c.before.loop.invariant in (
       first_missing _ _ _ _ inv.1 inv.2 inv.0 c.loop-test.false,
-      states_small _ _ _ _ c.before.before.before.before.before.before.before.before.before.before.requires.0.ready_to_search.tables_within (λ j. (c.before.before.before.before.before.before.before.before.shared-slice-known2.given j).fits) (λ j. (c.before.before.before.before.before.before.before.shared-slice-known3.given j).fits),
+      states_small _ _ _ _ c.before.before.before.before.before.before.before.before.requires.0.tables_within (λ j. (c.before.before.before.before.before.before.shared-slice-known2.given j).fits) (λ j. (c.before.before.before.before.before.shared-slice-known3.given j).fits),
     )
 
 pub first-derivation-spec : {M : Type 1} → statement M
@@ -86,7 +86,7 @@ first-derivation-spec =
     loop-holds
     rule-at-requires
     by-rule-requires
-    enum-known-found
+    enum-known-premise
     same_length
     same-length-2
     returns

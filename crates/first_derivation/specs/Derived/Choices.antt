@@ -12,13 +12,13 @@ use Rattle.words.specs.Laws.Tests.{by_test}
 use Rattle.stacks.specs.System.{Rule}
 use Rattle.automata.specs.Automaton.{Automaton}
 use Rattle.automata.specs.Derivation.{Result, Derivation, first_derivation}
-use Rattle.walks.specs.Guide.{first_or_zero, second_or_zero, chooses_all}
+use Rattle.walks.specs.Guide.{first_or_zero, chooses_all}
 use Rattle.first_reading.specs.First.{is_some}
 use Rattle.first_reading.specs.Answer.{written_all, written_by}
 use Rattle.first_reading.specs.Answer.Laws.{answers_fails}
 use Rattle.first_derivation.specs.declared.First.{First}
 use Rattle.first_derivation.specs.declared.First.TheVariants.{Missing, Found}
-use Rattle.first_move.specs.Premises.{edge_states, read_states}
+use Rattle.first_derivation.specs.Premises.{edge_states, read_states}
 use Rattle.first_derivation.specs.Derived.{operation_by, derivation_edges, derivation_moves, step_of, FindsFirst, StatesSmall}
 use Rattle.first_derivation.specs.Derived.Small.{Below, edges_below, reads_below}
 
@@ -95,17 +95,16 @@ module _ {A : Automaton} {rules : List Rule} {x : Result} {es₀ es ms₀ ms : L
   missing_none h = answers_fails h.written
 
   -- a derivation with these numbers is found
-  pub found_some : {n i j : ℕ} → FindsFirst A rules x (Found n i j) es₀ es ms₀ ms
-      → (d : Derivation) × (first_derivation A rules x ≡ some d) × (d.rule ≡ n) × (first_or_zero d.premise ≡ i) × (second_or_zero d.premise ≡ j)
-  found_some {n} {i} {j} h = go (first_derivation A rules x) refl h.numbers
+  pub found_some : {n i : ℕ} → FindsFirst A rules x (Found n i) es₀ es ms₀ ms
+      → (d : Derivation) × (first_derivation A rules x ≡ some d) × (d.rule ≡ n) × (first_or_zero d.premise ≡ i)
+  found_some {n} {i} h = go (first_derivation A rules x) refl h.numbers
     where
-      go : (o : Option Derivation) → first_derivation A rules x ≡ o
-          → some (record { rule = n; first = i; second = j }) ≡ map step_of (first_derivation A rules x)
-          → (d : Derivation) × (first_derivation A rules x ≡ some d) × (d.rule ≡ n) × (first_or_zero d.premise ≡ i) × (second_or_zero d.premise ≡ j)
+      go : (o : Option Derivation) → first_derivation A rules x ≡ o → some (record { rule = n; premise = i }) ≡ map step_of (first_derivation A rules x)
+          → (d : Derivation) × (first_derivation A rules x ≡ some d) × (d.rule ≡ n) × (first_or_zero d.premise ≡ i)
       go none e k = absurd (some-ne-none _ (k ∙ ap (map step_of) e))
       go (some d) e k =
           let s = some-injective _ (step_of d) (k ∙ ap (map step_of) e) in
-          (d, e, sym (ap (λ t. t.rule) s), sym (ap (λ t. t.first) s), sym (ap (λ t. t.second) s))
+          (d, e, sym (ap (λ t. t.rule) s), sym (ap (λ t. t.premise) s))
 
   module _ {r : First} {d : Derivation} (h : FindsFirst A rules x r es₀ es ms₀ ms) (is : first_derivation A rules x ≡ some d) where
     pub edges_written : es ≡ derivation_edges A rules d es₀

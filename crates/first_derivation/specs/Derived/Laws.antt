@@ -23,15 +23,13 @@ use Rattle.first_reading.specs.First.{is_some, or_else, first_below}
 use Rattle.first_reading.specs.First.Laws.{or_else_none, or_else_assoc}
 use Rattle.first_reading.specs.Answer.{written_all, NotFoundBelow, Unchanged}
 use Rattle.first_reading.specs.Answer.Laws.{answer_map, answers_none, answers_is, answers_eq, answers_from, answers_fails, is_some_map, passed_hit, passed_all}
-use Rattle.first_move.specs.declared.Premise.{Premise}
-use Rattle.first_move.specs.declared.Premise.TheVariants.{Nothing, By}
+use Rattle.first_derivation.specs.declared.Premise.{Premise}
+use Rattle.first_derivation.specs.declared.Premise.TheVariants.{Nothing, By}
 use Rattle.first_derivation.specs.declared.First.TheVariants.{Missing, Found}
-use Rattle.first_move.specs.Search.{PremiseNumbers}
-use Rattle.first_premise.specs.Search.{derived, by_rule}
-use Rattle.first_derivation.specs.Search.{first_from}
+use Rattle.first_derivation.specs.Search as Search
+use Rattle.first_derivation.specs.Search.{derived, by_rule, first_from}
 use Rattle.first_derivation.specs.Search.Laws.{derivation_first}
-use Rattle.first_move.specs.Premises.{edge_states, read_states, writes_edges, writes_moves, step_edges, step_moves, PremisePair, pair_of, premise_in, premise_of}
-use Rattle.first_premise.specs.Premises.{FindsByRule}
+use Rattle.first_derivation.specs.Premises.{edge_states, read_states, writes_edges, writes_moves, step_edges, step_moves, premise_in, premise_of, FindsByRule}
 use Rattle.first_derivation.specs.Derived.{operation_by, derivation_edges, derivation_moves, step_of, FindsFirst, rule_gives}
 
 -- the first of the numbers below n, from the left
@@ -91,11 +89,10 @@ module _ (A : Automaton) (x : Result) (body : List ℕ) (k : ℕ) (ρ : Rule) (i
       (gives_is ∙ ap (map (derived k x)) f.0, f.1, f.2)
 
 -- the numbers of a step by rule k
-same_step : (x : Result) (k i j : ℕ) (o : Option PremiseNumbers) → some (record { first = i; second = j }) ≡ premise_of o
-    → some (record { rule = k; first = i; second = j }) ≡ map step_of (map (derived k x) o)
-same_step x k i j none e = absurd (some-ne-none _ e)
-same_step x k i j (some s) e =
-    ap (λ (p : PremisePair). some (record { rule = k; first = p.first; second = p.second })) (some-injective _ (pair_of s.premise) e)
+same_step : (x : Result) (k i : ℕ) (o : Option Search.PremiseNumbers) → some i ≡ premise_of o
+    → some (record { rule = k; premise = i }) ≡ map step_of (map (derived k x) o)
+same_step x k i none e = absurd (some-ne-none i e)
+same_step x k i (some s) e = ap (λ (j : ℕ). some (record { rule = k; premise = j })) (some-injective i (first_or_zero s.premise) e)
 
 -- ---- the loop
 
@@ -119,19 +116,19 @@ module _ (A : Automaton) (x : Result) (n : ℕ) (body : List ℕ) where
       record { numbers = ap (map step_of) (sym e); written = answers_from s t (answers_none es ms e) }
 
   -- rule k gives x
-  pub rule_found : (k : ℕ) (ρ : Rule) → ρ ≡ rule_of (rule_bytes (record_at 5 k body)) → {i j : ℕ} {r : Premise} {es₀ es ms₀ ms : List ℕ} → r ≡ By i j
+  pub rule_found : (k : ℕ) (ρ : Rule) → ρ ≡ rule_of (rule_bytes (record_at 5 k body)) → {i : ℕ} {r : Premise} {es₀ es ms₀ ms : List ℕ} → r ≡ By i
       → NotFoundBelow n (rule_gives A x body) k → k < n → FindsByRule A x ρ r es₀ es ms₀ ms
-      → FindsFirst A R x (Found k i j) es₀ es ms₀ ms
+      → FindsFirst A R x (Found k i) es₀ es ms₀ ms
   unfolding is_some rule_in derivation_edges derivation_moves step_edges step_moves writes_edges writes_moves
-  rule_found k ρ is {i} {j} {r} {es₀} {es} {ms₀} {ms} is-by h below g =
-      let f : FindsByRule A x ρ (By i j) es₀ es ms₀ ms =
+  rule_found k ρ is {i} {r} {es₀} {es} {ms₀} {ms} is-by h below g =
+      let f : FindsByRule A x ρ (By i) es₀ es ms₀ ms =
       subst (λ (q : Premise). FindsByRule A x ρ q es₀ es ms₀ ms) is-by g in
       let op : operation_by R k ≡ ρ.operation = operation_in n body k below ∙ ap (λ (r : Rule). r.operation) (sym is) in
       let gives : rule_gives A x body k ≡ map (derived k x) (by_rule A x ρ) = gives_is A x body k ρ is in
       let s : is_some (rule_gives A x body k) ≡ true = ap is_some gives ∙ is_some_map (derived k x) (by_rule A x ρ) ∙ sym f.written.edges.success in
       let e : first_derivation A R x ≡ map (derived k x) (by_rule A x ρ) = rules_below ∙ passed_hit h below s ∙ gives in
       record {
-        numbers = same_step x k i j (by_rule A x ρ) f.numbers ∙ ap (map step_of) (sym e);
+        numbers = same_step x k i (by_rule A x ρ) f.number ∙ ap (map step_of) (sym e);
         written =
             answers_eq e
             (record {

@@ -26,7 +26,7 @@ use Rattle.tables.specs.Layouts.{move_row, entry_row, edge_row}
 use Rattle.tables.specs.Held.{automaton_of}
 use Rattle.tables.specs.Held.Laws.{none_set}
 use Rattle.first_reading.specs.Words.{TablesWithin}
-use Rattle.first_move.specs.Premises.{edge_states, read_states}
+use Rattle.first_derivation.specs.Premises.{edge_states, read_states}
 use Rattle.first_derivation.specs.Derived.{StatesSmall}
 
 -- ---- of the tables that stand in slices of words

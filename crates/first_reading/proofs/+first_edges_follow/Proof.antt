@@ -16,7 +16,7 @@ use Rattle.first_reading.specs.Answer.Laws.{answers_none, answers_is, answers_eq
 use Rattle.joins.specs.Joining.{the_joins}
 use Rattle.first_reading.specs.Words.{followed}
 use Rattle.words.specs.Lists.Laws.{fewer_left}
-use Rattle.first_reading.specs.Words.Laws.{ready_still, ready_reading}
+use Rattle.first_reading.specs.Words.Laws.{ready_still}
 use Rattle.first_reading.specs.Words.Edges.{base_other, base_answers, followed_other, followed_no_part, followed_yes, followed_no, edges_below, states_edges}
 use borrow.Fn.Kinds.{In}
 use borrow.Fn.PlainCycle.{Measures, is, falls, and}
@@ -35,25 +35,25 @@ use Rattle.tables.proofs.edge_of.Reads as edge-of-reads
 use Rattle.first_reading.proofs.+first_edges_follow.{statement}
 use Rattle.first_reading.proofs.+first_edges_follow.Tie.{close}
 
-abbrev μ-first-edges : Measures 6 first-edges-kinds.ps ℕ
-μ-first-edges κs a = length (members a.1.1.1.1.1.1.0) * 2
+abbrev μ-first-edges : Measures 5 first-edges-kinds.ps ℕ
+μ-first-edges κs a = length (members a.1.1.1.1.1.0) * 2
 
-abbrev μ-follow : Measures 6 follow-kinds.ps ℕ
-μ-follow κs a = length (members a.1.1.1.1.1.1.0.others) * 2 + 1
+abbrev μ-follow : Measures 5 follow-kinds.ps ℕ
+μ-follow κs a = length (members a.1.1.1.1.1.0.others) * 2 + 1
 
-abbrev first-edges-at : ℕ → In 6 first-edges-kinds.ps
+abbrev first-edges-at : ℕ → In 5 first-edges-kinds.ps
 first-edges-at t =
-    and 6 first-edges-kinds.ps (is 6 first-edges-kinds.ps μ-first-edges t) first-edges.Pre
+    and 5 first-edges-kinds.ps (is 5 first-edges-kinds.ps μ-first-edges t) first-edges.Pre
 
-abbrev first-edges-below : ℕ → In 6 first-edges-kinds.ps
+abbrev first-edges-below : ℕ → In 5 first-edges-kinds.ps
 first-edges-below t =
-    and 6 first-edges-kinds.ps (falls 6 first-edges-kinds.ps ◌<◌ μ-first-edges t) first-edges.Pre
+    and 5 first-edges-kinds.ps (falls 5 first-edges-kinds.ps ◌<◌ μ-first-edges t) first-edges.Pre
 
-abbrev follow-at : ℕ → In 6 follow-kinds.ps
-follow-at t = and 6 follow-kinds.ps (is 6 follow-kinds.ps μ-follow t) follow.Pre
+abbrev follow-at : ℕ → In 5 follow-kinds.ps
+follow-at t = and 5 follow-kinds.ps (is 5 follow-kinds.ps μ-follow t) follow.Pre
 
-abbrev follow-below : ℕ → In 6 follow-kinds.ps
-follow-below t = and 6 follow-kinds.ps (falls 6 follow-kinds.ps ◌<◌ μ-follow t) follow.Pre
+abbrev follow-below : ℕ → In 5 follow-kinds.ps
+follow-below t = and 5 follow-kinds.ps (falls 5 follow-kinds.ps ◌<◌ μ-follow t) follow.Pre
 
 -- what the callees of first_edges require and ensure
 abbrev first-edges-claims : ℕ → first-edges-lts.Claims
@@ -82,18 +82,18 @@ follow-claims t = (
 )
 
 abbrev first-edges-Inv-loop : first-edges-lts.invariant-loop
-first-edges-Inv-loop z inner entries moves states a left names s order b r x edges₀ chosen₀ part n e₀ edges chosen e =
+first-edges-Inv-loop z inner entries moves a left names s order b r x edges₀ chosen₀ part n e₀ edges chosen e =
     NotFoundBelow n (followed (automaton_of z inner entries moves) a (wanted (as_result x)) (the_joins order b r) x.s part.member (members part.others) names s) e
     × Unchanged edges₀ edges × Unchanged chosen₀ chosen
 
 abbrev first-edges-μ-loop : first-edges-lts.decreases-loop
-first-edges-μ-loop z inner entries moves states a left names s order b r x edges₀ chosen₀ part n e₀ edges chosen e = n - e
+first-edges-μ-loop z inner entries moves a left names s order b r x edges₀ chosen₀ part n e₀ edges chosen e = n - e
 
 first-edges-returns : (t : ℕ) → first-edges-lts.Need-returns (first-edges-claims t) (first-edges-at t) first-edges.Post first-edges-Inv-loop first-edges-μ-loop
 first-edges-returns t c = answers_none _ _ (base_other _ _ _ _ _ _ _ _ _ _ c.before.before.if1.true c.if2.true)
 
 first-edges-first-reading-requires : (t : ℕ) → first-edges-lts.Need-first-reading-requires (first-edges-claims t) (first-edges-at t) first-edges.Post first-edges-Inv-loop first-edges-μ-loop
-first-edges-first-reading-requires t c κs = ready_reading c.before.before.before.before.before.before.before.before.before.before.requires.1
+first-edges-first-reading-requires t c κs = search rules
 
 first-edges-same-length : (t : ℕ) → first-edges-lts.Need-same-length (first-edges-claims t) (first-edges-at t) first-edges.Post first-edges-Inv-loop first-edges-μ-loop
 first-edges-same-length t c = search rules
@@ -114,7 +114,7 @@ first-edges-follow-requires : (t : ℕ) → first-edges-lts.Need-follow-requires
 first-edges-follow-requires t c κs =
     let inv = c.before.before.before.loop.invariant in
     let least = c.before.before.before.before.before.least-member.ensures in
-    let ready = c.before.before.before.before.before.before.before.before.before.before.before.before.before.requires in
+    let ready = c.before.before.before.before.before.before.before.before.before.before.before.before.requires in
     (fewer_left _ _ _ _ least.0 ready.0, (ready_still ready.1 inv.1 inv.2, c.before.before.loop-test.true, least.1))
 
 first-edges-same-length-2 : (t : ℕ) → first-edges-lts.Need-same-length-2 (first-edges-claims t) (first-edges-at t) first-edges.Post first-edges-Inv-loop first-edges-μ-loop
@@ -133,7 +133,7 @@ first-edges-returns-3 t c =
 
 first-edges-add-e : (t : ℕ) → first-edges-lts.Need-overflow-add-e (first-edges-claims t) (first-edges-at t) first-edges.Post first-edges-Inv-loop first-edges-μ-loop
 first-edges-add-e t c =
-    let tables = c.before.before.before.before.before.before.before.before.before.before.before.before.before.before.before.before.before.before.before.requires.1.tables_within in
+    let tables = c.before.before.before.before.before.before.before.before.before.before.before.before.before.before.before.before.before.before.requires.1.tables_within in
     omega (arith, c.before.before.before.before.before.before.before.before.loop-test.true, tables.edges_few, tables.entries_stand.states_few)
 
 first-edges-loop-less : (t : ℕ) → first-edges-lts.Need-loop-smaller (first-edges-claims t) (first-edges-at t) first-edges.Post first-edges-Inv-loop first-edges-μ-loop
@@ -171,7 +171,7 @@ follow-part-of-requires t c κs = search rules
 
 follow-returns-2 : (t : ℕ) → follow-lts.Need-returns-2 (follow-claims t) (follow-at t) follow.Post
 follow-returns-2 t c =
-    let s = c.before.before.before.before.before.before.before.before.before.before.before.before.args.s in
+    let s = c.before.before.before.before.before.before.before.before.before.before.before.args.s in
     let no_part = sym c.before.part_of.ensures ∙ not-true _ c.if2.true in
     answers_none _ _ (followed_no_part _ _ _ _ _ _ _ _ _ _ s _ _ c.before.before.before.before.before.Edge-of.ensures.0 c.before.before.before.if1.false c.before.before.join.ensures no_part)
 
@@ -186,17 +186,17 @@ follow-first-edges-requires t c κs = search rules
 
 follow-cast-edges : (t : ℕ) → follow-lts.Need-overflow-cast-edges (follow-claims t) (follow-at t) follow.Post
 follow-cast-edges t c =
-    let ready = c.before.before.before.before.before.before.before.before.before.before.before.before.before.before.before.before.before.before.before.before.before.before.requires.1 in
+    let ready = c.before.before.before.before.before.before.before.before.before.before.before.before.before.before.before.before.before.before.before.before.before.requires.1 in
     let tables = ready.0.tables_within in
     omega (arith, ready.1, tables.edges_few, tables.entries_stand.states_few)
 
 follow-mul-edges : (t : ℕ) → follow-lts.Need-overflow-mul-edges (follow-claims t) (follow-at t) follow.Post
-follow-mul-edges t c = omega (arith, c.before.before.before.before.before.before.before.before.before.before.before.before.before.before.before.before.before.before.before.before.before.before.requires.1.2)
+follow-mul-edges t c = omega (arith, c.before.before.before.before.before.before.before.before.before.before.before.before.before.before.before.before.before.before.before.before.before.requires.1.2)
 
 follow-slice-write-edges : (t : ℕ) → follow-lts.Need-slice-write-edges (follow-claims t) (follow-at t) follow.Post
 follow-slice-write-edges t c =
-    let ready = c.before.before.before.before.before.before.before.before.before.before.before.before.before.before.before.before.before.before.before.before.before.before.requires.1 in
-    omega (arith, ready.2, ready.0.word_for_each_edge, c.before.before.before.before.before.first-edges.auto.1.1.1.1.1.1.1.1.1.1.1.1.1.0)
+    let ready = c.before.before.before.before.before.before.before.before.before.before.before.before.before.before.before.before.before.before.before.before.before.requires.1 in
+    omega (arith, ready.2, ready.0.word_for_each_edge, c.before.before.before.before.before.first-edges.auto.1.1.1.1.1.1.1.1.1.1.1.1.0)
 
 follow-same-length : (t : ℕ) → follow-lts.Need-same-length (follow-claims t) (follow-at t) follow.Post
 follow-same-length t c = search rules

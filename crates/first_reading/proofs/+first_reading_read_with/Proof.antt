@@ -8,14 +8,13 @@ use mathlib.Core.Path.{ap, sym, ◌∙◌}
 use lib.ListN.{length}
 use Rattle.words.specs.Sets.{members}
 use Rattle.tables.specs.Records.{as_result}
-use Rattle.first_reading.specs.Answer.{Unchanged}
-use Rattle.first_reading.specs.Answer.Laws.{answer_none, answer_is, answer_eq, answer_fails, answer_from, answer_states, same_refl, same_after, chain_hit, chain_all}
-use native.Mathlib.Omega.{arith}
-use Rattle.rising_moves.specs.Rising.{StatesRise}
-use Rattle.rising_moves.specs.Rising.Laws.{after_above}
+use Rattle.first_reading.specs.Search.{wanted}
+use Rattle.first_reading.specs.Answer.{NotFoundBelow, Unchanged}
+use Rattle.first_reading.specs.Answer.Laws.{answer_none, answer_is, answer_eq, answer_fails, answer_from, answer_states, same_refl, same_after, passed_none, passed_more, passed_hit, passed_all}
 use Rattle.joins.specs.Joining.{the_joins, as_joined}
+use Rattle.first_reading.specs.Words.{moves_in, tried}
 use Rattle.words.specs.Lists.Laws.{fewer_left}
-use Rattle.first_reading.specs.Words.Reading.{answer_base, reading_below, tried_nothing, tried_yes, tried_no, TriedUpTo, tried_first, tried_after}
+use Rattle.first_reading.specs.Words.Reading.{answer_base, reading_below, tried_nothing, tried_yes, tried_no}
 use Rattle.first_reading.specs.Reach.Laws.{reading_cut}
 use borrow.Fn.Kinds.{In}
 use borrow.Fn.PlainCycle.{Measures, is, falls, and}
@@ -30,36 +29,34 @@ use Rattle.first_reading.proofs.is_wanted.Reads as is-wanted-reads
 use Rattle.first_reading.proofs.can_fill.Reads as can-fill-reads
 use Rattle.joins.proofs.candidate.Reads as candidate_reads
 use Rattle.sets.proofs.least_member.Reads as least-member-reads
-use Rattle.rising_moves.proofs.first.Reads as first_reads
-use Rattle.rising_moves.proofs.after.Reads as after-reads
 use Rattle.tables.proofs.move_at.Reads as move-at-reads
 use Rattle.first_reading.proofs.+first_reading_read_with.{statement}
 use Rattle.first_reading.proofs.+first_reading_read_with.Tie.{close}
 
-abbrev μ-first-reading : Measures 3 first-reading-kinds.ps ℕ
-μ-first-reading κs a = length (members a.1.1.1.1.0) * 2
+abbrev μ-first-reading : Measures 2 first-reading-kinds.ps ℕ
+μ-first-reading κs a = length (members a.1.1.1.0) * 2
 
-abbrev μ-read-with : Measures 3 read-with-kinds.ps ℕ
-μ-read-with κs a = length (members a.1.1.1.1.0.others) * 2 + 1
+abbrev μ-read-with : Measures 2 read-with-kinds.ps ℕ
+μ-read-with κs a = length (members a.1.1.1.0.others) * 2 + 1
 
-abbrev first-reading-at : ℕ → In 3 first-reading-kinds.ps
+abbrev first-reading-at : ℕ → In 2 first-reading-kinds.ps
 first-reading-at t =
-    and 3 first-reading-kinds.ps (is 3 first-reading-kinds.ps μ-first-reading t) first-reading.Pre
+    and 2 first-reading-kinds.ps (is 2 first-reading-kinds.ps μ-first-reading t) first-reading.Pre
 
-abbrev first-reading-below : ℕ → In 3 first-reading-kinds.ps
+abbrev first-reading-below : ℕ → In 2 first-reading-kinds.ps
 first-reading-below t =
     and
-    3
+    2
     first-reading-kinds.ps
-    (falls 3 first-reading-kinds.ps ◌<◌ μ-first-reading t)
+    (falls 2 first-reading-kinds.ps ◌<◌ μ-first-reading t)
     first-reading.Pre
 
-abbrev read-with-at : ℕ → In 3 read-with-kinds.ps
-read-with-at t = and 3 read-with-kinds.ps (is 3 read-with-kinds.ps μ-read-with t) read-with.Pre
+abbrev read-with-at : ℕ → In 2 read-with-kinds.ps
+read-with-at t = and 2 read-with-kinds.ps (is 2 read-with-kinds.ps μ-read-with t) read-with.Pre
 
-abbrev read-with-below : ℕ → In 3 read-with-kinds.ps
+abbrev read-with-below : ℕ → In 2 read-with-kinds.ps
 read-with-below t =
-    and 3 read-with-kinds.ps (falls 3 read-with-kinds.ps ◌<◌ μ-read-with t) read-with.Pre
+    and 2 read-with-kinds.ps (falls 2 read-with-kinds.ps ◌<◌ μ-read-with t) read-with.Pre
 
 -- what the callees of first_reading require and ensure
 abbrev first-reading-claims : ℕ → first-reading-lts.Claims
@@ -70,12 +67,8 @@ first-reading-claims t = (
   can-fill-reads.Learnt,
   least-member-reads.Asked,
   least-member-reads.Learnt,
-  first_reads.Asked,
-  first_reads.Learnt,
   read-with-below t,
   read-with.Post,
-  after-reads.Asked,
-  after-reads.Learnt,
 )
 
 -- what the callees of read_with require and ensure
@@ -92,12 +85,11 @@ read-with-claims t = (
 )
 
 abbrev first-reading-Inv-loop : first-reading-lts.invariant-loop
-first-reading-Inv-loop moves n states a left order b r x chosen₀ part i₀ chosen i =
-    ((s : StatesRise n moves states) → TriedUpTo n moves states a (as_result x) part.member (members part.others) (the_joins order b r) s.key i)
-    × Unchanged chosen₀ chosen
+first-reading-Inv-loop moves n a left order b r x chosen₀ part i₀ chosen i =
+    NotFoundBelow n (tried (moves_in n moves) a (wanted (as_result x)) part.member (members part.others) (the_joins order b r)) i × Unchanged chosen₀ chosen
 
 abbrev first-reading-μ-loop : first-reading-lts.decreases-loop
-first-reading-μ-loop moves n states a left order b r x chosen₀ part i₀ chosen i = 1024 - i
+first-reading-μ-loop moves n a left order b r x chosen₀ part i₀ chosen i = n - i
 
 first-reading-is-wanted-requires : (t : ℕ) → first-reading-lts.Need-is-wanted-requires (first-reading-claims t) (first-reading-at t) first-reading.Post first-reading-Inv-loop first-reading-μ-loop
 first-reading-is-wanted-requires t c κs = search rules
@@ -106,7 +98,7 @@ first-reading-returns : (t : ℕ) → first-reading-lts.Need-returns (first-read
 first-reading-returns t c = answer_base _ _ _ _ _ _ _ c.before.if1.true c.is-wanted.ensures
 
 first-reading-can-fill-requires : (t : ℕ) → first-reading-lts.Need-can-fill-requires (first-reading-claims t) (first-reading-at t) first-reading.Post first-reading-Inv-loop first-reading-μ-loop
-first-reading-can-fill-requires t c κs = c.before.before.before.before.requires.1.moves_ready
+first-reading-can-fill-requires t c κs = search rules
 
 first-reading-returns-2 : (t : ℕ) → first-reading-lts.Need-returns-2 (first-reading-claims t) (first-reading-at t) first-reading.Post first-reading-Inv-loop first-reading-μ-loop
 first-reading-returns-2 t c = answer_none _ (reading_cut _ _ _ _ _ (sym c.before.can-fill.ensures ∙ not-true _ c.if2.true))
@@ -114,16 +106,12 @@ first-reading-returns-2 t c = answer_none _ (reading_cut _ _ _ _ _ (sym c.before
 first-reading-least-member-requires : (t : ℕ) → first-reading-lts.Need-least-member-requires (first-reading-claims t) (first-reading-at t) first-reading.Post first-reading-Inv-loop first-reading-μ-loop
 first-reading-least-member-requires t c κs = search rules
 
-first-reading-first-requires : (t : ℕ) → first-reading-lts.Need-first-requires (first-reading-claims t) (first-reading-at t) first-reading.Post first-reading-Inv-loop first-reading-μ-loop
-first-reading-first-requires t c κs = let s = c.before.before.before.before.before.before.before.requires.1.moves_ready.moves_indexed in record { key = s.key; rising = s.rising }
-
 first-reading-loop-holds : (t : ℕ) → first-reading-lts.Need-loop-init (first-reading-claims t) (first-reading-at t) first-reading.Post first-reading-Inv-loop first-reading-μ-loop
-first-reading-loop-holds t c = (λ s. tried_first _ _ _ _ _ _ _ _ s (c.first.ensures s.key s.rising), same_refl _)
+first-reading-loop-holds t c = (passed_none, same_refl _)
 
 first-reading-read-with-requires : (t : ℕ) → first-reading-lts.Need-read-with-requires (first-reading-claims t) (first-reading-at t) first-reading.Post first-reading-Inv-loop first-reading-μ-loop
 first-reading-read-with-requires t c κs =
-    let long = c.before.before.loop.invariant.1.long in
-    (fewer_left _ _ _ _ c.before.before.before.before.least-member.ensures.0 c.before.before.before.before.before.before.before.before.before.before.before.requires.0, (record { moves_ready = c.before.before.before.before.before.before.before.before.before.before.before.requires.1.moves_ready; word_for_each_move = long ∙ c.before.before.before.before.before.before.before.before.before.before.before.requires.1.word_for_each_move }, c.before.loop-test.true, c.before.before.before.before.least-member.ensures.1))
+    (fewer_left _ _ _ _ c.before.before.before.least-member.ensures.0 c.before.before.before.before.before.before.before.before.before.requires.0, search rules)
 
 first-reading-same-length : (t : ℕ) → first-reading-lts.Need-same-length (first-reading-claims t) (first-reading-at t) first-reading.Post first-reading-Inv-loop first-reading-μ-loop
 first-reading-same-length t c = search rules
@@ -131,29 +119,22 @@ first-reading-same-length t c = search rules
 first-reading-returns-3 : (t : ℕ) → first-reading-lts.Need-returns-3 (first-reading-claims t) (first-reading-at t) first-reading.Post first-reading-Inv-loop first-reading-μ-loop
 first-reading-returns-3 t c =
     let inv = c.before.before.before.before.before.before.loop.invariant in
-    let least = c.before.before.before.before.before.before.before.before.least-member.ensures.0 in
+    let least = c.before.before.before.before.before.before.before.least-member.ensures.0 in
     let found = c.before.before.before.read-with.ensures in
-    let hit = reading_below _ _ _ _ _ _ _ _ least ∙ chain_hit (inv.0 c.before.before.before.before.before.before.before.before.before.before.before.before.before.before.before.requires.1.moves_ready.moves_indexed) c.before.before.before.before.before.loop-test.true (sym found.success ∙ c.if3.true) in
+    let hit = reading_below _ _ _ _ _ _ _ _ least ∙ passed_hit inv.0 c.before.before.before.before.before.loop-test.true (sym found.success ∙ c.if3.true) in
     answer_from inv.1 (answer_states least (answer_eq hit (answer_is c.if3.true found)))
 
-first-reading-after-requires : (t : ℕ) → first-reading-lts.Need-after-requires (first-reading-claims t) (first-reading-at t) first-reading.Post first-reading-Inv-loop first-reading-μ-loop
-first-reading-after-requires t c κs =
-    let s = c.before.before.before.before.before.before.before.before.before.before.before.before.before.before.before.requires.1.moves_ready.moves_indexed in
-    (record { key = s.key; rising = s.rising }, omega (arith, c.before.before.before.before.before.loop-test.true, c.before.before.before.before.before.before.before.before.before.before.before.before.before.before.before.requires.1.moves_ready.moves_few))
+first-reading-add-i : (t : ℕ) → first-reading-lts.Need-overflow-add-i (first-reading-claims t) (first-reading-at t) first-reading.Post first-reading-Inv-loop first-reading-μ-loop
+first-reading-add-i t c = search rules
 
 first-reading-loop-less : (t : ℕ) → first-reading-lts.Need-loop-smaller (first-reading-claims t) (first-reading-at t) first-reading.Post first-reading-Inv-loop first-reading-μ-loop
-first-reading-loop-less t c =
-    let s = c.before.before.before.before.before.before.before.before.before.before.before.before.before.before.before.before.requires.1.moves_ready.moves_indexed in
-    let few = c.before.before.before.before.before.before.before.before.before.before.before.before.before.before.before.before.requires.1.moves_ready.moves_few in
-    let below = c.before.before.before.before.before.before.loop-test.true in
-    omega (arith, below, few, after_above s.key (s.key c.before.before.before.before.before.before.before.loop.i) c.before.before.before.before.before.before.before.loop.i (omega (arith, below, few)) (c.after.ensures s.key s.rising))
+first-reading-loop-less t c = search rules
 
 first-reading-loop-again : (t : ℕ) → first-reading-lts.Need-loop-preserved (first-reading-claims t) (first-reading-at t) first-reading.Post first-reading-Inv-loop first-reading-μ-loop
 first-reading-loop-again t c =
-    let inv = c.before.before.before.before.before.before.before.loop.invariant in
-    let f = answer_fails (answer_is c.before.if3.false c.before.before.before.before.read-with.ensures) in
-    let few = c.before.before.before.before.before.before.before.before.before.before.before.before.before.before.before.before.requires.1.moves_ready.moves_few in
-    (λ s. tried_after _ _ _ _ _ _ _ _ s (inv.0 s) (omega (arith, c.before.before.before.before.before.before.loop-test.true, few)) f.0 (c.after.ensures s.key s.rising), same_after inv.1 f.1)
+    let inv = c.before.before.before.before.before.before.loop.invariant in
+    let f = answer_fails (answer_is c.if3.false c.before.before.before.read-with.ensures) in
+    (passed_more inv.0 c.before.before.before.before.before.loop-test.true f.0, same_after inv.1 f.1)
 
 first-reading-same-length-2 : (t : ℕ) → first-reading-lts.Need-same-length-2 (first-reading-claims t) (first-reading-at t) first-reading.Post first-reading-Inv-loop first-reading-μ-loop
 first-reading-same-length-2 t c = search rules
@@ -161,7 +142,7 @@ first-reading-same-length-2 t c = search rules
 first-reading-returns-4 : (t : ℕ) → first-reading-lts.Need-returns-4 (first-reading-claims t) (first-reading-at t) first-reading.Post first-reading-Inv-loop first-reading-μ-loop
 first-reading-returns-4 t c =
     let inv = c.before.loop.invariant in
-    let missed = reading_below _ _ _ _ _ _ _ _ c.before.before.before.least-member.ensures.0 ∙ chain_all (inv.0 c.before.before.before.before.before.before.before.before.before.before.requires.1.moves_ready.moves_indexed) c.loop-test.false in
+    let missed = reading_below _ _ _ _ _ _ _ _ c.before.before.least-member.ensures.0 ∙ passed_all inv.0 c.loop-test.false in
     answer_from inv.1 (answer_none _ missed)
 
 read-with-move-at-requires : (t : ℕ) → read-with-lts.Need-move-at-requires (read-with-claims t) (read-with-at t) read-with.Post
@@ -181,13 +162,14 @@ read-with-enum-told t c = search rules
 
 read-with-returns : (t : ℕ) → read-with-lts.Need-returns (read-with-claims t) (read-with-at t) read-with.Post
 read-with-returns t c =
-    tried_nothing _ _ _ _ _ _ _ _ c.before.before.before.before.before.before.before.before.requires.1.1 _ _ _ c.before.before.before.before.move_at.ensures c.before.before.before.candidate.ensures c.before.before.parts_within.ensures _ (ap as_joined c.enum_told.given.1)
+    let x = c.before.before in
+    tried_nothing _ _ _ _ _ _ _ _ x.before.before.before.before.before.requires.1.1 _ _ _ x.before.before.move_at.ensures x.before.candidate.ensures x.parts_within.ensures _ (ap as_joined c.enum_told.given.1)
 
 read-with-first-reading-requires : (t : ℕ) → read-with-lts.Need-first-reading-requires (read-with-claims t) (read-with-at t) read-with.Post
 read-with-first-reading-requires t c κs = search rules
 
 read-with-cast-chosen : (t : ℕ) → read-with-lts.Need-overflow-cast-chosen (read-with-claims t) (read-with-at t) read-with.Post
-read-with-cast-chosen t c = omega (arith, c.before.before.before.before.before.before.before.before.before.before.before.before.before.before.requires.1.1, c.before.before.before.before.before.before.before.before.before.before.before.before.before.before.requires.1.0.moves_ready.moves_few)
+read-with-cast-chosen t c = search rules
 
 read-with-mul-chosen : (t : ℕ) → read-with-lts.Need-overflow-mul-chosen (read-with-claims t) (read-with-at t) read-with.Post
 read-with-mul-chosen t c = search rules
@@ -200,7 +182,8 @@ read-with-same-length t c = search rules
 
 read-with-returns-2 : (t : ℕ) → read-with-lts.Need-returns-2 (read-with-claims t) (read-with-at t) read-with.Post
 read-with-returns-2 t c =
-    tried_yes _ _ _ _ _ _ _ _ c.before.before.before.before.before.before.before.before.before.before.before.before.before.before.requires.1.1 _ _ _ c.before.before.before.before.before.before.before.before.before.before.move_at.ensures c.before.before.before.before.before.before.before.before.before.candidate.ensures c.before.before.before.before.before.before.before.before.parts_within.ensures _ _ _ (ap as_joined c.before.before.before.before.before.before.k.given.1)
+    let x = c.before.before.before.before.before.before.before.before in
+    tried_yes _ _ _ _ _ _ _ _ x.before.before.before.before.before.requires.1.1 _ _ _ x.before.before.move_at.ensures x.before.candidate.ensures x.parts_within.ensures _ _ _ (ap as_joined c.before.before.before.before.before.before.k.given.1)
     (answer_is c.if1.true c.before.before.before.first-reading.ensures)
 
 read-with-same-length-2 : (t : ℕ) → read-with-lts.Need-same-length-2 (read-with-claims t) (read-with-at t) read-with.Post
@@ -208,7 +191,8 @@ read-with-same-length-2 t c = search rules
 
 read-with-returns-3 : (t : ℕ) → read-with-lts.Need-returns-3 (read-with-claims t) (read-with-at t) read-with.Post
 read-with-returns-3 t c =
-    tried_no _ _ _ _ _ _ _ _ c.before.before.before.before.before.before.before.before.before.before.before.before.before.before.requires.1.1 _ _ _ c.before.before.before.before.before.before.before.before.before.before.move_at.ensures c.before.before.before.before.before.before.before.before.before.candidate.ensures c.before.before.before.before.before.before.before.before.parts_within.ensures _ _ _ (ap as_joined c.before.before.before.before.before.before.k.given.1)
+    let x = c.before.before.before.before.before.before.before.before in
+    tried_no _ _ _ _ _ _ _ _ x.before.before.before.before.before.requires.1.1 _ _ _ x.before.before.move_at.ensures x.before.candidate.ensures x.parts_within.ensures _ _ _ (ap as_joined c.before.before.before.before.before.before.k.given.1)
     (answer_is c.if1.false c.before.before.before.first-reading.ensures)
 
 pub +first-reading-read-with-spec : {M : Type 1} → statement M
@@ -222,12 +206,11 @@ pub +first-reading-read-with-spec : {M : Type 1} → statement M
     (first-reading-can-fill-requires t)
     (first-reading-returns-2 t)
     (first-reading-least-member-requires t)
-    (first-reading-first-requires t)
     (first-reading-loop-holds t)
     (first-reading-read-with-requires t)
     (first-reading-same-length t)
     (first-reading-returns-3 t)
-    (first-reading-after-requires t)
+    (first-reading-add-i t)
     (first-reading-loop-less t)
     (first-reading-loop-again t)
     (first-reading-same-length-2 t)

@@ -1,11 +1,25 @@
 -- `first_reading::reach_with` meets its contract.
 -- Assumes nothing.
-use mathlib.Core.Path.{ap}
+use Prim.Native.Nat.{◌≤◌}
+use mathlib.Core.Path.{ap, sym, ◌∙◌}
+use native.Mathlib.Omega.{arith}
 use borrow.Author.Rules.{rules}
+use borrow.Author.Tests.{not-true, not-false}
 use Rattle.joins.specs.Joining.{as_joined}
-use Rattle.first_reading.specs.Reach.Turns.{turn_nothing, turn_more}
+use Rattle.first_reading.specs.Reach.Turns.{turn_other, turn_past, turn_nothing, turn_more}
 use Rattle.first_reading.proofs.reach_with.Statement.{statement}
 use Rattle.first_reading.proofs.reach_with.Tie as tie
+
+returns : tie.Need-returns
+returns c =
+    let past : 64 ≤ c.before.args.m.state = omega arith in
+    turn_past _ _ _ _ _ _ past (omega arith)
+
+has-requires : tie.Need-has-requires
+has-requires c κs = search rules
+
+returns-2 : tie.Need-returns-2
+returns-2 c = turn_other _ _ _ _ _ _ (sym c.before.has.ensures ∙ not-true _ c.if2.true)
 
 candidate-requires : tie.Need-candidate-requires
 candidate-requires c κs = search rules
@@ -19,8 +33,14 @@ enum_told c = search rules
 enum-told-2 : tie.Need-enum-told-2
 enum-told-2 c = search rules
 
-returns : tie.Need-returns
-returns c = turn_nothing _ _ _ _ _ _ _ _ c.before.before.before.candidate.ensures c.before.before.parts_within.ensures (ap as_joined c.enum-told2.given.1)
+returns-3 : tie.Need-returns-3
+returns-3 c =
+    let x = c.before.before in
+    let l = x.before.before in
+    turn_nothing _ _ _ _ _ _ _ _ (sym l.before.has.ensures ∙ not-false _ l.if2.false) x.before.candidate.ensures x.parts_within.ensures (ap as_joined c.enum-told2.given.1)
+
+one-bit-requires : tie.Need-one-bit-requires
+one-bit-requires c κs = search rules
 
 join-requires : tie.Need-join-requires
 join-requires c κs = search rules
@@ -28,8 +48,31 @@ join-requires c κs = search rules
 join-requires-2 : tie.Need-join-requires-2
 join-requires-2 c κs = search rules
 
-returns-2 : tie.Need-returns-2
-returns-2 c = turn_more _ _ _ _ _ _ _ _ c.before.before.before.before.before.candidate.ensures c.before.before.before.before.parts_within.ensures (ap as_joined c.before.before.enum_told.given.1) c.before.join.ensures c.join2.ensures
+join-requires-3 : tie.Need-join-requires-3
+join-requires-3 c κs = search rules
+
+returns-4 : tie.Need-returns-4
+returns-4 c =
+    let e = c.before.before.before.before in
+    let x = e.before.before in
+    let l = x.before.before in
+    turn_more _ _ _ _ _ _ _ _ (sym l.before.has.ensures ∙ not-false _ l.if2.false) x.before.candidate.ensures x.parts_within.ensures (ap as_joined e.enum_told.given.1)
+    c.before.before.before.one_bit.ensures.1 c.before.before.join.ensures c.before.join2.ensures c.join3.ensures
 
 pub reach-with-spec : {M : Type 1} → statement M
-reach-with-spec = tie.close (tie.spec candidate-requires parts-within-requires enum_told enum-told-2 returns join-requires join-requires-2 returns-2)
+reach-with-spec =
+    tie.close
+    (tie.spec
+    returns
+    has-requires
+    returns-2
+    candidate-requires
+    parts-within-requires
+    enum_told
+    enum-told-2
+    returns-3
+    one-bit-requires
+    join-requires
+    join-requires-2
+    join-requires-3
+    returns-4)

@@ -6,9 +6,8 @@ use Rattle.std.proofs.lemmas.Bool.{false≢true}
 use Rattle.std.proofs.Math.Path.{ap}
 use Rattle.std.proofs.Common.{sym, ◌∙◌, subst, add-one, arith}
 use Rattle.std.proofs.Math.Option.{Option, none, some, map}
-use Rattle.rising_moves.specs.Rising.Laws.{Passed}
 use Rattle.first_reading.specs.First.{is_some, first_below}
-use Rattle.first_reading.specs.First.Laws.{first_below_zero, first_below_more, first_below_fails, first_below_at}
+use Rattle.first_reading.specs.First.Laws.{first_below_zero, first_below_more, first_below_at}
 use Rattle.first_reading.specs.Answer.{written_all, written_by, Answer, Answers, NotFoundBelow, Unchanged}
 
 -- ---- one search
@@ -142,15 +141,6 @@ module _ {B : Type 0} {n : ℕ} {f : ℕ → Option B} where
 
   pub passed_all : {i : ℕ} → NotFoundBelow n f i → n ≤ i → first_below n f ≡ none
   passed_all {i} h l = let z : i ≡ n = omega (arith, h.below) in ap (λ (k : ℕ). first_below k f) (sym z) ∙ h.fails
-
--- ---- a loop along a chain
-
-module _ {B : Type 0} {n : ℕ} {f : ℕ → Option B} {key : ℕ → ℕ} {k i : ℕ} where
-  pub chain_hit : Passed key k n (λ j. f j ≡ none) i → i < n → is_some (f i) ≡ true → first_below n f ≡ f i
-  chain_hit p l e = first_below_at f i n l (first_below_fails f i (λ j h. p.before j h (omega arith))) e
-
-  pub chain_all : Passed key k n (λ j. f j ≡ none) i → n ≤ i → first_below n f ≡ none
-  chain_all p l = first_below_fails f n (λ j h. p.before j (omega arith) h)
 
 -- the same states
 pub answer_states : {l k : List ℕ} {o : Option (List ℕ)} {t : Bool} {ws₀ ws : List ℕ} → l ≡ k → Answer o (written_all k) t ws₀ ws → Answer o (written_all l) t ws₀ ws

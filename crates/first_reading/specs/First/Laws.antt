@@ -162,11 +162,6 @@ module _ {B : Type 0} (f : ℕ → Option B) where
   unfolding first_below or_else
   first_below_more n e h = ap₂ or_else e h
 
-  -- no number succeeds
-  pub first_below_fails : (n : ℕ) → ((i : ℕ) → i < n → f i ≡ none) → first_below n f ≡ none
-  first_below_fails zero h = first_below_zero
-  first_below_fails (suc n) h = first_below_more n (first_below_fails n (λ i l. h i (omega arith))) (h n (omega arith))
-
   -- a turn of a loop with success
   pub first_below_hit : (i n : ℕ) {y : B} → i < n → first_below i f ≡ none → f i ≡ some y → first_below n f ≡ some y
   unfolding first_below or_else

@@ -15,7 +15,7 @@ use Rattle.first_reading.specs.First.{only_if}
 use Rattle.first_reading.specs.Answer.{Unchanged}
 use Rattle.first_reading.specs.Search.{joins_key, wanted, within}
 use Rattle.first_reading.specs.Search.Laws.{same_cons}
-use Rattle.first_reading.specs.Words.{ReadyToRead, ReadyToSearch}
+use Rattle.first_reading.specs.Words.{ReadyToSearch}
 
 -- ---- joins that are parts
 
@@ -57,20 +57,11 @@ module _ (j : Joins) (x : Result) where
 -- ---- what the searches are given
 
 -- slices that are as they were have their words still
-pub ready_still : {z : Table} {inner entries moves states es₀ es ms₀ ms : List ℕ} → ReadyToSearch z inner entries moves states es₀ ms₀ → Unchanged es₀ es → Unchanged ms₀ ms
-    → ReadyToSearch z inner entries moves states es ms
+pub ready_still : {z : Table} {inner entries moves es₀ es ms₀ ms : List ℕ} → ReadyToSearch z inner entries moves es₀ ms₀ → Unchanged es₀ es → Unchanged ms₀ ms
+    → ReadyToSearch z inner entries moves es ms
 ready_still h e m =
     record {
       tables_within = h.tables_within;
-      moves_indexed = h.moves_indexed;
       word_for_each_edge = e.long ∙ h.word_for_each_edge;
       word_for_each_move = m.long ∙ h.word_for_each_move;
-    }
-
--- who is ready to search is ready to read
-pub ready_reading : {z : Table} {inner entries moves states es ms : List ℕ} → ReadyToSearch z inner entries moves states es ms → ReadyToRead z.moves moves states ms
-ready_reading h =
-    record {
-      moves_ready = record { moves_lent = h.tables_within.moves_stand.moves_lent; moves_few = h.tables_within.moves_few; moves_indexed = h.moves_indexed };
-      word_for_each_move = h.word_for_each_move;
     }

@@ -1,23 +1,20 @@
 -- The search for the first reading, as the code goes: the base, one move tried, and the loop over the moves of the least state.
 -- Assumes nothing.
-use Rattle.std.specs.Prelude.{ℕ, ◌<◌, ◌+◌, Bool, true, false, ◌&&◌, ◌≡◌, refl, List, [], ◌∷◌}
-use Rattle.std.proofs.Math.Path.{ap, ap₂, sym}
-use Rattle.std.proofs.Common.{◌∙◌, eqb-true}
+use Rattle.std.specs.Prelude.{ℕ, ◌<◌, Bool, true, false, ◌&&◌, ◌≡◌, refl, List, [], ◌∷◌}
+use Rattle.std.proofs.Math.Path.{ap, sym}
+use Rattle.std.proofs.Common.{◌∙◌}
 use Rattle.std.proofs.Math.Option.{Option, none, some, map}
 use Rattle.std.proofs.Math.ListN.{get_or, set}
 use Rattle.std.proofs.Math.Dec.{eqb}
 use Rattle.words.specs.Sets.{members}
 use Rattle.words.specs.Sets.Laws.{members_empty}
-use Rattle.words.specs.Laws.Tests.{by_test, and_left, and_right}
+use Rattle.words.specs.Laws.Tests.{by_test}
 use Rattle.words.specs.Order.{same}
 use Rattle.automata.specs.Automaton.{Automaton, Move, no_move, move_at, moves_of}
 use Rattle.automata.specs.Derivation.{Result, Joins, join_move}
 use Rattle.tables.specs.Rows.{row_at, rows_in}
 use Rattle.tables.specs.Rows.Laws.{length_rows_in, get_or_rows_in}
 use Rattle.tables.specs.Layouts.{move_row}
-use Rattle.move_index.specs.Keys.{state_key}
-use Rattle.rising_moves.specs.Rising.{next_from, StatesRise}
-use Rattle.rising_moves.specs.Rising.Laws.{Passed, passed_first, passed_after}
 use Rattle.joins.specs.Joining.{candidate_of}
 use Rattle.joins.specs.Joining.Laws.{candidate_yes, candidate_no}
 use Rattle.first_reading.specs.First.{only_if, is_some, first_below}
@@ -103,32 +100,3 @@ reading_below n moves a goal left q qs j e =
     ∙ first_reading_cons (moves_in n moves) a goal q qs j
     ∙ first_of_places (λ m. eqb m.state q && eqb m.symbol a) (rows_in move_row n moves) no_move _
     ∙ ap (λ (k : ℕ). first_below k (tried (moves_in n moves) a goal q qs j)) (length_rows_in move_row n moves)
-
--- ---- the loop along the moves of a state
-
-module _ (n : ℕ) (moves states : List ℕ) (a : ℕ) (x : Result) (q : ℕ) (qs : List ℕ) (j : Joins) where
-  -- what move i gives
-  abbrev tried_of : ℕ → Option (List ℕ)
-  tried_of = tried (moves_in n moves) a (wanted x) q qs j
-
-  -- The loop has come to i: no move below i gives a reading.
-  abbrev pub TriedUpTo : (ℕ → ℕ) → ℕ → Type 0
-  TriedUpTo key i = Passed key (state_key q a) n (λ k. tried_of k ≡ none) i
-
-  module _ (s : StatesRise n moves states) where
-    -- a move with another key gives none
-    tried_other : (i : ℕ) → i < n → (s.key i ≡ state_key q a → ⊥) → tried_of i ≡ none
-    unfolding tried move_at
-    tried_other i l h =
-        let m : Move = get_or (rows_in move_row n moves) i no_move in
-        let is : m ≡ row_at move_row moves i = get_or_rows_in move_row n moves i no_move l in
-        only_if_no _ _ (by_test (eqb m.state q && eqb m.symbol a)
-        (λ t. absurd (h (s.key_is i l ∙ ap (λ (k : Move). state_key k.state k.symbol) (sym is)
-        ∙ ap₂ state_key (eqb-true m.state q (and_left (eqb m.state q) _ t)) (eqb-true m.symbol a (and_right (eqb m.state q) _ t)))))
-        (λ t. t))
-
-    pub tried_first : {i : ℕ} → i ≡ next_from s.key (state_key q a) 0 → TriedUpTo s.key i
-    tried_first e = passed_first s.key (state_key q a) n (λ k. tried_of k ≡ none) tried_other e
-
-    pub tried_after : {i r : ℕ} → TriedUpTo s.key i → i < 1024 → tried_of i ≡ none → r ≡ next_from s.key (s.key i) (i + 1) → TriedUpTo s.key r
-    tried_after p l e f = passed_after s.key (state_key q a) n (λ k. tried_of k ≡ none) tried_other p l e f

@@ -12,7 +12,7 @@ use Rattle.words.specs.Lists.{zeros}
 use Rattle.services.specs.Saturate.{saturated}
 use Rattle.services.specs.Guide.{GuideInput, GuideDone, guide_lent, guide_run, guide_left, refused, guide_service}
 use Rattle.services.specs.Memory.Laws.{padded_none}
-use Rattle.guided_walk.specs.Whole.{Leaves}
+use Rattle.guided_walk.specs.Turns.{Leaves}
 use Rattle.sound_files.specs.Refusal.{FilesSound, number_refusal}
 use Rattle.sound_files.specs.Saturated.{lent_of}
 use Rattle.guided_start.specs.Run.{guide_input}

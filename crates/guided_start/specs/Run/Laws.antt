@@ -22,7 +22,7 @@ use Rattle.rounds.specs.Won.{is_won}
 use Rattle.rounds.specs.Won.Laws.{round2_accepts}
 use Rattle.acceptance.specs.Cells.{RoundsStand}
 use Rattle.acceptance.specs.Cells.Laws.{StatesBelow}
-use Rattle.guided_walk.specs.Whole.{Leaves}
+use Rattle.guided_walk.specs.Turns.{Leaves}
 use Rattle.sound_files.specs.Starts.{start_round}
 use Rattle.sound_files.specs.Sound.{StartSound}
 use Rattle.sound_files.specs.Sound.Rounds.{start_read, start_listed, start_since}

@@ -28,8 +28,7 @@ use Rattle.start_records.specs.Body.{cells_in}
 use Rattle.least_choices.specs.Starts.{Prepared, start_cells}
 use Rattle.guided_step.specs.declared.Walk.{Walk}
 use Rattle.guided_step.specs.Walks.{walk_in}
-use Rattle.guided_turn.specs.Turns.{RunStands}
-use Rattle.guided_walk.specs.Whole.{Leaves}
+use Rattle.guided_walk.specs.Turns.{RunStands, Leaves}
 use Rattle.sound_files.specs.Sound.Laws.{cells_count, cells_few, cells_lent_lem}
 use Rattle.sound_files.specs.Sound.Rounds.{cells_are}
 use Rattle.guided_start.specs.Tables.{TablesStand}

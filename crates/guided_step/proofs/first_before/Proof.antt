@@ -1,6 +1,6 @@
 -- `guided_step::first_before` meets its contract.
 -- Assumes nothing.
-use Rattle.guided_step.specs.Step.Laws.{before_ready, before_small, finds_before}
+use Rattle.guided_step.specs.Step.Laws.{before_stands, before_small, finds_before}
 use borrow.Author.Rules.{rules}
 use Rattle.guided_step.proofs.first_before.Statement.{statement}
 use Rattle.guided_step.proofs.first_before.Tie as tie
@@ -16,9 +16,10 @@ result-of-requires c κs = search rules
 
 first-derivation-requires : tie.Need-first-derivation-requires
 first-derivation-requires c κs =
-    let asked = c.before.before.before.before.before.before.before.before.before.before.before.before.before.before.requires in
-    let ready = before_ready c.before.before.before.before.before.before.before.before.before.before.before.before.before.before.args.z _ _ _ _ _ _ c.before.before.before.before.table_before.ensures asked.0.tables_within asked.0.moves_indexed asked.1.0 asked.1.1 in
-    (ready, asked.0.rules_lent)
+    let start = c.before.before.before.before.before.before.before.before.before.before.before.before in
+    let asked = start.requires in
+    let tables = before_stands start.args.z _ _ _ _ _ _ c.before.before.before.before.table_before.ensures asked.0.0 in
+    (record { tables_within = tables; word_for_each_edge = asked.1.0; word_for_each_move = asked.1.1 }, asked.0.1)
 
 same_length : tie.Need-same-length
 same_length c = search rules
@@ -27,7 +28,7 @@ same-length-2 : tie.Need-same-length-2
 same-length-2 c = search rules
 
 returns : tie.Need-returns
-returns c = (finds_before c.before.before.before.before.before.before.before.before.before.before.before.before.before.before.before.before.before.before.before.args.z _ _ _ _ _ _ c.before.before.before.before.before.before.before.before.before.table_before.ensures c.before.before.before.before.before.before.before.before.move_of_lem.ensures c.before.before.before.before.before.before.before.result-of.ensures c.before.before.before.before.first-derivation.ensures.0, before_small c.before.before.before.before.before.before.before.before.before.before.before.before.before.before.before.before.before.before.before.args.z _ _ _ _ _ _ c.before.before.before.before.before.before.before.before.before.table_before.ensures c.before.before.before.before.first-derivation.ensures.1)
+returns c = (finds_before c.before.before.before.before.before.before.before.before.before.before.before.before.before.before.before.before.before.args.z _ _ _ _ _ _ c.before.before.before.before.before.before.before.before.before.table_before.ensures c.before.before.before.before.before.before.before.before.move_of_lem.ensures c.before.before.before.before.before.before.before.result-of.ensures c.before.before.before.before.first-derivation.ensures.0, before_small c.before.before.before.before.before.before.before.before.before.before.before.before.before.before.before.before.before.args.z _ _ _ _ _ _ c.before.before.before.before.before.before.before.before.before.table_before.ensures c.before.before.before.before.first-derivation.ensures.1)
 
 pub first-before-spec : {M : Type 1} → statement M
 first-before-spec =

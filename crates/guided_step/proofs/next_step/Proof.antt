@@ -18,7 +18,7 @@ step-of-requires : tie.Need-step-of-requires
 step-of-requires c κs = search rules
 
 returns : tie.Need-returns
-returns c = next_empty _ c.before.before.before.before.before.before.before.before.before.before.before.before.before.args.z _ _ _ _ _ c.before.before.before.before.before.before.before.before.before.before.before.before.before.args.w _ c.before.before.top_of.ensures c.enum_told.given.1
+returns c = next_empty _ c.before.before.before.before.before.before.before.before.before.before.before.args.z _ _ _ _ _ c.before.before.before.before.before.before.before.before.before.before.before.args.w _ c.before.before.top_of.ensures c.enum_told.given.1
 
 same_length : tie.Need-same-length
 same_length c = search rules
@@ -27,7 +27,7 @@ same-length-2 : tie.Need-same-length-2
 same-length-2 c = search rules
 
 returns-2 : tie.Need-returns-2
-returns-2 c = next_to _ c.before.before.before.before.before.before.before.before.before.before.before.before.before.before.before.before.before.before.before.before.before.args.z _ _ _ _ _ c.before.before.before.before.before.before.before.before.before.before.before.before.before.before.before.before.before.before.before.before.before.args.w _ c.before.before.before.before.before.before.before.before.before.before.top_of.ensures c.before.before.before.before.before.before.before.before.tip.given.1 c.before.before.before.before.step_of_lem.ensures
+returns-2 c = next_to _ c.before.before.before.before.before.before.before.before.before.before.before.before.before.before.before.before.before.before.before.args.z _ _ _ _ _ c.before.before.before.before.before.before.before.before.before.before.before.before.before.before.before.before.before.before.before.args.w _ c.before.before.before.before.before.before.before.before.before.before.top_of.ensures c.before.before.before.before.before.before.before.before.tip.given.1 c.before.before.before.before.step_of_lem.ensures
 
 pub next-step-spec : {M : Type 1} → statement M
 next-step-spec =

@@ -18,34 +18,29 @@ use Rattle.automata.specs.Derivation.Laws.{Says}
 use Rattle.automata.specs.Derivation.Kept.{named_kept}
 use Rattle.automata.specs.Facts.{Extends}
 use Rattle.automata.specs.Facts.Laws.{move_at_kept, entry_move_kept}
-use Rattle.walks.specs.Guide.{first_or_zero, second_or_zero, chooses_all}
+use Rattle.walks.specs.Guide.{first_or_zero, chooses_all}
 use Rattle.tables.specs.declared.Table.{Table}
 use Rattle.tables.specs.Rows.{rows_in}
 use Rattle.tables.specs.Rows.Laws.{length_rows_in}
 use Rattle.tables.specs.Layouts.{move_row, entry_row, edge_row}
 use Rattle.tables.specs.Held.{automaton_of}
 use Rattle.first_reading.specs.Words.{TablesWithin}
-use Rattle.first_move.specs.Premises.{edge_states, read_states}
+use Rattle.first_derivation.specs.Premises.{edge_states, read_states}
 use Rattle.first_derivation.specs.Derived.Choices.{by_state}
 use Rattle.cell_steps.specs.Steps.Choices.{top_state, root_edge, HoldsRest, HoldsNumbers}
 use Rattle.guided_step.specs.Step.{StepSmall}
 
--- ---- the premises
+-- ---- the premise
 
--- the number of the first
-premise_one : {l ns : List ℕ} {n : ℕ} → l ≡ n ∷ ns → n ≡ first_or_zero l
+-- the first number of a premise that is one number
+premise_one : {l : List ℕ} {n : ℕ} → l ≡ n ∷ [] → n ≡ first_or_zero l
 unfolding first_or_zero
 premise_one e = sym (ap first_or_zero e)
 
--- the number of the second where there is one premise only
-second_none : {l : List ℕ} {n : ℕ} → l ≡ n ∷ [] → second_or_zero l < 1024
-unfolding first_or_zero second_or_zero
-second_none e = rw e (omega arith)
-
--- both where there is none
-none_small : {l : List ℕ} → l ≡ [] → (first_or_zero l < 1024) × (second_or_zero l < 1024)
-unfolding first_or_zero second_or_zero
-none_small e = rw e (omega arith, omega arith)
+-- where there is none
+none_small : {l : List ℕ} → l ≡ [] → first_or_zero l < 1024
+unfolding first_or_zero
+none_small e = rw e (omega arith)
 
 -- ---- words that hold numbers
 
@@ -123,29 +118,25 @@ module _ {A : Automaton} (few : Sized A) where
       let l : length A.moves ≤ 1024 = few.moves_few in
       (omega arith, omega arith, omega arith)
 
-  pub says_small : (ρ : Rule) (d : Derivation) (op : Operation) → Says A ρ op d → StepSmall A op (first_or_zero d.premise) (second_or_zero d.premise)
+  pub says_small : (ρ : Rule) (d : Derivation) (op : Operation) → Says A ρ op d → StepSmall A op (first_or_zero d.premise)
   unfolding top_state root_edge
   says_small ρ d (rewrite b) h =
       let k = move_small h.premise (first_or_zero d.premise) (premise_one h.concluded.premise_is) in
-      record { state_small = k.0; premise_small = k.1; edge_small = k.2; second_small = second_none h.concluded.premise_is }
+      record { state_small = k.0; premise_small = k.1; edge_small = k.2 }
   says_small ρ d (push1 b) h =
       let k = move_small h.premise (first_or_zero d.premise) (premise_one h.concluded.premise_is) in
-      record { state_small = k.0; premise_small = k.1; edge_small = k.2; second_small = second_none h.concluded.premise_is }
+      record { state_small = k.0; premise_small = k.1; edge_small = k.2 }
   says_small ρ d (push2 b) h =
       let k = move_small h.premise (first_or_zero d.premise) (premise_one h.concluded.premise_is) in
-      record { state_small = k.0; premise_small = k.1; edge_small = k.2; second_small = second_none h.concluded.premise_is }
+      record { state_small = k.0; premise_small = k.1; edge_small = k.2 }
   says_small ρ d copy h =
       let k = move_small h.premise (first_or_zero d.premise) (premise_one h.concluded.premise_is) in
-      record { state_small = k.0; premise_small = k.1; edge_small = k.2; second_small = second_none h.concluded.premise_is }
+      record { state_small = k.0; premise_small = k.1; edge_small = k.2 }
   says_small ρ d pop1 h =
       let k = entry_small h.premise (first_or_zero d.premise) (premise_one h.concluded.premise_is) in
-      record { state_small = omega arith; premise_small = k.0; edge_small = k.1; second_small = second_none h.concluded.premise_is }
-  says_small ρ d pop2 h =
-      let k = none_small h.premise_is in
-      record { state_small = omega arith; premise_small = k.0; edge_small = omega arith; second_small = k.1 }
+      record { state_small = omega arith; premise_small = k.0; edge_small = k.1 }
+  says_small ρ d pop2 h = record { state_small = omega arith; premise_small = none_small h.premise_is; edge_small = omega arith }
   says_small ρ d collapse1 h =
       let k = entry_small h.premise (first_or_zero d.premise) (premise_one h.concluded.premise_is) in
-      record { state_small = omega arith; premise_small = k.0; edge_small = k.1; second_small = second_none h.concluded.premise_is }
-  says_small ρ d collapse2 h =
-      let k = none_small h.premise_is in
-      record { state_small = omega arith; premise_small = k.0; edge_small = omega arith; second_small = k.1 }
+      record { state_small = omega arith; premise_small = k.0; edge_small = k.1 }
+  says_small ρ d collapse2 h = record { state_small = omega arith; premise_small = none_small h.premise_is; edge_small = omega arith }

@@ -1,8 +1,8 @@
 -- What the answers of the code say of one step.
 -- Assumes nothing.
-use Rattle.std.specs.Prelude.{ℕ, ◌≤◌, ◌<◌, ◌≡◌, refl, List, [], length, get_or, replicate}
+use Rattle.std.specs.Prelude.{ℕ, ◌≤◌, ◌<◌, ◌≡◌, List, [], get_or, replicate}
 use Rattle.std.proofs.Math.Path.{ap, sym, subst}
-use Rattle.std.proofs.Common.{◌∙◌, arith}
+use Rattle.std.proofs.Common.{◌∙◌}
 use Rattle.std.proofs.Math.Option.{Option, some}
 use Rattle.std.proofs.Math.ListN.{get_elem?}
 use borrow.Author.Tests.{lt-ltb, le-ltb}
@@ -16,7 +16,7 @@ use Rattle.automata.specs.Derivation.Kept.{says_kept}
 use Rattle.automata.specs.Saturation.{Saturated, last_up_to, before, own_moves}
 use Rattle.automata.specs.Saturation.Laws.{before_extends}
 use Rattle.walks.specs.Guide as walks
-use Rattle.walks.specs.Guide.{first_or_zero, second_or_zero, chooses_all, by_derivation, at_top}
+use Rattle.walks.specs.Guide.{first_or_zero, chooses_all, by_derivation, at_top}
 use Rattle.tables.specs.declared.Table.{Table}
 use Rattle.tables.specs.Rows.{first_of, rows_in}
 use Rattle.tables.specs.Rows.Laws.{length_first_of, get_or_first_of}
@@ -25,12 +25,10 @@ use Rattle.tables.specs.Held.{automaton_of, table_of}
 use Rattle.results.specs.Collecting.{rule_in, rules_in}
 use Rattle.saturation.specs.Sizes.{the_size}
 use Rattle.saturation.specs.Layout.{size_row}
-use Rattle.rising_moves.specs.Rising.{MovesRise}
-use Rattle.rising_moves.specs.Rising.Laws.{rise_fewer}
 use Rattle.first_reading.specs.Words.{TablesWithin}
 use Rattle.first_derivation.specs.declared.First.{First}
 use Rattle.first_derivation.specs.declared.First.TheVariants.{Missing, Found}
-use Rattle.first_move.specs.Premises.{ReadyToDerive, edge_states, read_states}
+use Rattle.first_derivation.specs.Premises.{edge_states, read_states}
 use Rattle.first_derivation.specs.Derived.{operation_by, FindsFirst, StatesSmall}
 use Rattle.first_derivation.specs.Derived.Choices.{by_state, Blank, blank_zeros, missing_none, found_some, edges_chosen, moves_chosen, operation_is}
 use Rattle.cell_steps.specs.declared.Top.{Top}
@@ -59,18 +57,8 @@ module _ (z : Table) (inner entries moves : List ℕ) (k : ℕ) (sizes : List �
   before_is e =
       ap (λ (b : Table). automaton_of b inner entries moves) e ∙ table_up_to z inner entries moves (last_up_to (the_size 0 0) (rows_in size_row k sizes) i)
 
-  -- the search for a first derivation from it can be made
-  pub before_ready : {b : Table} {states controls es ms : List ℕ} → b ≡ table_up_to_lem z (last_up_to (the_size 0 0) (rows_in size_row k sizes) i)
-      → TablesWithin z inner entries moves → MovesRise z entries moves states controls → length es ≡ 64 → length ms ≡ 64
-      → ReadyToDerive b inner entries moves states controls es ms
-  before_ready {b} {states} {controls} {es} {ms} e h r l m =
-      let y = last_up_to (the_size 0 0) (rows_in size_row k sizes) i in
-      let rise : MovesRise (table_up_to_lem z y) entries moves states controls = rise_fewer refl (omega arith) (omega arith) r in
-      subst (λ (t : Table). ReadyToDerive t inner entries moves states controls es ms) (sym e)
-      (record {
-        ready_to_search = record { tables_within = up_to_stands y h; moves_indexed = rise.by_state_lem; word_for_each_edge = l; word_for_each_move = m };
-        premises_indexed = rise.by_control;
-      })
+  pub before_stands : {b : Table} → b ≡ table_up_to_lem z (last_up_to (the_size 0 0) (rows_in size_row k sizes) i) → TablesWithin z inner entries moves → TablesWithin b inner entries moves
+  before_stands e h = subst (λ (b : Table). TablesWithin b inner entries moves) (sym e) (up_to_stands (last_up_to (the_size 0 0) (rows_in size_row k sizes) i) h)
 
   pub before_small : {b : Table} → b ≡ table_up_to_lem z (last_up_to (the_size 0 0) (rows_in size_row k sizes) i) → StatesSmall (automaton_of b inner entries moves) → StatesSmall (before T i)
   before_small e h = subst StatesSmall (before_is e) h
@@ -110,11 +98,10 @@ module _ (rules : List Rule) (T : Saturated) (x : Top) (i : ℕ) where
   goes_by w {d} {ρ} h e g k =
       rw (at_top, le-ltb i (own_moves T.sizes) h, e, by_derivation, g) (ap (λ (m : ℕ). walks.to m (walks.moved rules T w (top_by x i) d ρ)) k)
 
-  taken : {d : Derivation} {n p q : ℕ} {r : First} {es₀ es ms₀ ms : List ℕ} → own_moves T.sizes ≤ i → Sized T.table → StatesSmall (before T i)
+  taken : {d : Derivation} {n p : ℕ} {r : First} {es₀ es ms₀ ms : List ℕ} → own_moves T.sizes ≤ i → Sized T.table → StatesSmall (before T i)
       → Blank es₀ → Blank ms₀ → FindsFirst (before T i) rules X r es₀ es ms₀ ms → first_derivation (before T i) rules X ≡ some d → d.rule ≡ n
-      → first_or_zero d.premise ≡ p → second_or_zero d.premise ≡ q → Derives (before T i) rules d → (w : walks.Walk)
-      → Taken rules T w (at_top rules T w (some (top_by x i))) x n p q es ms
-  taken {d} {n} {p} {q} {r} {es₀} {es} {ms₀} {ms} h few small be bm f e k first second D w =
+      → first_or_zero d.premise ≡ p → Derives (before T i) rules d → (w : walks.Walk) → Taken rules T w (at_top rules T w (some (top_by x i))) x n p es ms
+  taken {d} {n} {p} {r} {es₀} {es} {ms₀} {ms} h few small be bm f e k q D w =
       let ρ : Rule = D.rule in
       let op : operation_by rules d.rule ≡ ρ.operation = operation_is rules d.rule D.numbered in
       let edges_are : by_state es ≡ chooses_all (edge_states (before T i) ρ.operation (first_or_zero d.premise)) d.edges =
@@ -127,20 +114,17 @@ module _ (rules : List Rule) (T : Saturated) (x : Top) (i : ℕ) where
         move = i;
         goes = goes_by w h e D.numbered k;
         numbered = ap (get_elem? rules) (sym k) ∙ D.numbered;
-        premise_is = sym first;
-        second_is = sym second;
+        premise_is = sym q;
         holds = holds_kept (before_extends T i) ρ d ρ.operation es ms D.says edges_are moves_are;
-        small = subst (λ (m : ℕ). StepSmall T.table ρ.operation m q) first
-            (subst (StepSmall T.table ρ.operation (first_or_zero d.premise)) second
-            (says_small few ρ d ρ.operation (says_kept (before_extends T i) ρ d ρ.operation D.says)));
+        small = subst (StepSmall T.table ρ.operation) q (says_small few ρ d ρ.operation (says_kept (before_extends T i) ρ d ρ.operation D.says));
       }
 
-  pub step_to : {o n p q : ℕ} {r : First} {es₀ es ms₀ ms : List ℕ} → o ≡ own_moves T.sizes → o ≤ i → Sized T.table → StatesSmall (before T i)
-      → es₀ ≡ replicate 64 0 → ms₀ ≡ replicate 64 0 → r ≡ Found n p q → FindsFirst (before T i) rules X r es₀ es ms₀ ms → AtTop rules T x i (To x n p q) es ms
-  step_to {o} {n} {p} {q} {r} {es₀} {es} {ms₀} {ms} e h few small be bm m f =
+  pub step_to : {o n p : ℕ} {r : First} {es₀ es ms₀ ms : List ℕ} → o ≡ own_moves T.sizes → o ≤ i → Sized T.table → StatesSmall (before T i)
+      → es₀ ≡ replicate 64 0 → ms₀ ≡ replicate 64 0 → r ≡ Found n p → FindsFirst (before T i) rules X r es₀ es ms₀ ms → AtTop rules T x i (To x n p) es ms
+  step_to {o} {n} {p} {r} {es₀} {es} {ms₀} {ms} e h few small be bm m f =
       let g = found_some (subst (λ (a : First). FindsFirst (before T i) rules X a es₀ es ms₀ ms) m f) in
       record {
-        gives = taken (subst (λ (k : ℕ). k ≤ i) e h) few small (subst Blank (sym be) blank_zeros) (subst Blank (sym bm) blank_zeros) f g.1 g.2 g.3 g.4
+        gives = taken (subst (λ (k : ℕ). k ≤ i) e h) few small (subst Blank (sym be) blank_zeros) (subst Blank (sym bm) blank_zeros) f g.1 g.2 g.3
             (derivations_out (before T i) rules (first_derivation_out (before T i) rules X g.1).0);
       }
 

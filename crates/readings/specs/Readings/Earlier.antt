@@ -12,7 +12,7 @@ use Rattle.automata.specs.Derivation.{Result, Joins, join_move}
 use Rattle.automata.specs.Facts.{Extends}
 use Rattle.automata.specs.Facts.Laws.{move_at_kept, edge_at_kept}
 use Rattle.readings.specs.Readings.{read_results, edge_results}
-use Rattle.readings.specs.Readings.Order.{read_out, read_in_lem}
+use Rattle.readings.specs.Readings.Order.{read_out, read_in}
 
 -- ---- a result of a choice of edges, by its first edge
 
@@ -52,7 +52,7 @@ module _ {E A : Automaton} (x : Extends E A) (p a : ℕ) where
   pub read_old : (S r : ℕ) (rs : List ℕ) (j : Joins) (i : ℕ) {k : Joins} {y : Result} → Memᴰ i (moves_of A r a) → i < length E.moves
       → join_move j (move_at A i) ≡ some k → Memᴰ y (read_results E p a S rs k) → Memᴰ y (read_results E p a S (r ∷ rs) j)
   read_old S r rs j i {k} m b e h =
-      read_in_lem E p a S r rs j
+      read_in E p a S r rs j
       (record {
         number = i;
         there = old_move r m b;

@@ -82,9 +82,9 @@ module _ (A : Automaton) (p a S : ℕ) where
       let v = from_joins_lem (join_move j (move_at A w.0)) (λ k. read_results A p a S rs k) w.2 in
       record { number = w.0; there = w.1; joins = v.0; joins_are = v.1; rest = v.2 }
 
-  pub read_in_lem : (r : ℕ) (rs : List ℕ) (j : Joins) {x : Result} → FirstMove r rs j x → Memᴰ x (read_results A p a S (r ∷ rs) j)
+  pub read_in : (r : ℕ) (rs : List ℕ) (j : Joins) {x : Result} → FirstMove r rs j x → Memᴰ x (read_results A p a S (r ∷ rs) j)
   unfolding read_results from_joins
-  read_in_lem r rs j {x} f =
+  read_in r rs j {x} f =
       each_in (λ i. from_joins (join_move j (move_at A i)) (λ k. read_results A p a S rs k)) f.there
       (subst (λ (o : Option Joins). Memᴰ x (from_joins o (λ k. read_results A p a S rs k))) (sym f.joins_are) f.rest)
 
@@ -95,13 +95,13 @@ module _ (A : Automaton) (p a S : ℕ) where
       let f = read_out q (r ∷ rs) j m in
       let g = read_out r rs f.joins f.rest in
       let s = join_swap j (move_at A f.number) (move_at A g.number) f.joins_are g.joins_are in
-      read_in_lem r (q ∷ rs) j
+      read_in r (q ∷ rs) j
       (record {
         number = g.number;
         there = g.there;
         joins = s.first;
         joins_are = s.first_is;
-        rest = read_in_lem q rs s.first (record { number = f.number; there = f.there; joins = g.joins; joins_are = s.second_is; rest = g.rest });
+        rest = read_in q rs s.first (record { number = f.number; there = f.there; joins = g.joins; joins_are = s.second_is; rest = g.rest });
       })
 
   read_front : (us : List ℕ) (q : ℕ) (vs : List ℕ) (j : Joins) {x : Result}
@@ -110,7 +110,7 @@ module _ (A : Automaton) (p a S : ℕ) where
   read_front (u ∷ us) q vs j m =
       let f = read_out u (us ++ q ∷ vs) j m in
       read_swap u q (us ++ vs) j
-      (read_in_lem u (q ∷ us ++ vs) j
+      (read_in u (q ∷ us ++ vs) j
       (record { number = f.number; there = f.there; joins = f.joins; joins_are = f.joins_are; rest = read_front us q vs f.joins f.rest }))
 
   read_back : (us : List ℕ) (q : ℕ) (vs : List ℕ) (j : Joins) {x : Result}
@@ -118,7 +118,7 @@ module _ (A : Automaton) (p a S : ℕ) where
   read_back [] q vs j m = m
   read_back (u ∷ us) q vs j m =
       let f = read_out u (q ∷ us ++ vs) j (read_swap q u (us ++ vs) j m) in
-      read_in_lem u (us ++ q ∷ vs) j
+      read_in u (us ++ q ∷ vs) j
       (record { number = f.number; there = f.there; joins = f.joins; joins_are = f.joins_are; rest = read_back us q vs f.joins f.rest })
 
   -- one member of a set first, and the others

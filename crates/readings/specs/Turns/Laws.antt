@@ -33,7 +33,7 @@ use Rattle.offers.specs.Offers.{AllHeld, Covered, Collects}
 use Rattle.offers.specs.Offers.Laws.{collects_same}
 use Rattle.offers.specs.Offers.Alike.{gathered_none, gathered_more, gathered_same, gathered_all, held_none, covered_in, covered_same, collects_alike}
 use Rattle.readings.specs.Readings.{the_result, from_joins, read_results}
-use Rattle.readings.specs.Readings.Order.{from_joins_lem, read_out, read_in_lem, read_apart, read_together}
+use Rattle.readings.specs.Readings.Order.{from_joins_lem, read_out, read_in, read_apart, read_together}
 use Rattle.readings.specs.Turns.{OnChain, move_results, FromOn, ReadDownTo}
 
 -- ---- a row of the moves
@@ -99,7 +99,7 @@ module _ (z : Table) (entries moves : List ℕ) (p a S : ℕ) (j : Joins) (q : �
       let len : length (rows_in move_row z.moves moves) ≡ z.moves = length_rows_in move_row z.moves moves in
       let w = from_joins_lem (candidate_of q a j (move_at (table_of z entries moves) i)) (λ k. read_results (table_of z entries moves) p a S rs k) m in
       let c = candidate_out q a j (move_at (table_of z entries moves) i) w.1 in
-      read_in_lem (table_of z entries moves) p a S q rs j
+      read_in (table_of z entries moves) p a S q rs j
       (record {
         number = i;
         there = moves_of_in (table_of z entries moves) (record { below = omega arith; state_is = c.state_is; symbol_is = c.symbol_is });

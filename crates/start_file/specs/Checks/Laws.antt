@@ -8,7 +8,7 @@ use Rattle.files.specs.Bytes.{first_hit, records}
 use Rattle.files.specs.Case.{Head, head}
 use Rattle.files.specs.Start.{start_placed, CellBytes, cell_bytes, starts_of, cell_records, start_right, cell_right, cells_right, start_file_right, start_tests, start_refusal}
 use Rattle.bytes_in.specs.Records.{record_at}
-use Rattle.bytes_in.specs.Records.Laws.{from_first, from_last_lem, from_cons}
+use Rattle.bytes_in.specs.Records.Laws.{from_first, from_last, from_cons}
 use Rattle.start_file.specs.Checks.{files_of, CellsFrom, refusal_by, refusal_for}
 
 -- ---- the loop over the cells
@@ -33,7 +33,7 @@ cells_wrong A b n i p h t = p ∙ rw (from_cons n 6 i b h, cells_cons, t)
 pub cells_last : (A : ℕ) (b : List ℕ) (n i : ℕ) → CellsFrom A b n i → i ≡ n
     → true ≡ cells_right A (map cell_bytes (records n 6 b)) 0 (map cell_bytes (records n 6 b))
 unfolding cells_right
-cells_last A b n i p e = sym (p ∙ rw (e, from_last_lem))
+cells_last A b n i p e = sym (p ∙ rw (e, from_last))
 
 -- ---- the refusal
 
