@@ -1,4 +1,5 @@
 // Results added to tables, one after another: each as the last move, with its entry where it is new.
+#![tactic(auto)]
 ghost use Rattle.std.specs.Prelude.{[], ◌∷◌, ◌≤◌, ◌+◌, ◌*◌, length};
 ghost use Rattle.services.specs.Memory.{entry_width};
 ghost use Rattle.tables.specs.Rows.{rows_in};
@@ -9,7 +10,7 @@ ghost use Rattle.tables.specs.Counts.{CountsStand};
 ghost use Rattle.added_results.specs.Adding.{Entered, Growing, StatesExist, Added};
 
 // A table with results added, or, where `fits` is false, the table before there was no room for an entry.
-#[derive(Drop)]
+#[derive(Clone, Copy)]
 pub struct Grown {
     pub fits: bool,
     pub table: tables::Table,

@@ -1,4 +1,5 @@
 // Numbers in the bytes of a file, low byte first, and tables of contents.
+#![tactic(auto)]
 ghost use Rattle.std.specs.Prelude.{◌≡◌, ◌<◌, ◌≤◌, ◌+◌, ◌*◌, ◌^◌, length, get_or};
 ghost use Rattle.files.specs.Bytes.{field, count_of, offset_of, line_right, bodies_placed};
 ghost use Rattle.files.specs.Bytes;
@@ -59,7 +60,7 @@ pub fn number8(b: &[u8], at: usize) -> u64
 // ---- tables of contents
 
 // A body's kind, its least and most number of records, and the bytes of a record.
-#[derive(Drop)]
+#[derive(Clone, Copy)]
 pub struct Body {
     pub kind: u64,
     pub least: u64,
@@ -68,7 +69,7 @@ pub struct Body {
 }
 
 // Where the body after this one begins, or that this one's line is wrong.
-#[derive(Drop)]
+#[derive(Clone, Copy)]
 enum NextBody {
     At(usize),
     Wrong,

@@ -1,4 +1,5 @@
 // The check of a case file, body by body.
+#![tactic(auto)]
 ghost use Rattle.std.specs.Prelude.{◌≡◌, true, [], ◌∷◌, map, ◌<◌, ◌≤◌, ◌+◌, ◌*◌, length};
 ghost use Rattle.words.specs.Lists.{every};
 ghost use Rattle.words.specs.Order.{rising};
@@ -41,7 +42,7 @@ const BODIES: [u16; 20] = [
 ];
 
 // How a case is written: the lines of its contents, which no case has 0 of, and the codes in its record of operation codes, 0 without one.
-#[derive(Drop)]
+#[derive(Clone, Copy)]
 struct Form {
     lines: usize,
     codes: usize,

@@ -1,4 +1,5 @@
 // The records of a case file: what each one's bytes stand for, and whether it keeps the bounds of its body.
+#![tactic(auto)]
 ghost use Rattle.std.specs.Prelude.{◌≡◌, true, ◌<◌, ◌≤◌, ◌+◌, ◌*◌, length};
 ghost use Rattle.files.specs.Case;
 ghost use Rattle.files.specs.Case.{head_of, head_right, rule_bytes, rule_right, operation_of, rule_of, edge_bytes, edge_right, move_of, annotation_right, move_right, move_key};
@@ -15,7 +16,7 @@ use tables::Move;
 // ---- values
 
 // The numbers of controls P, inner order-2 states I, inner order-1 states J and symbols A, and the final sets.
-#[derive(Drop)]
+#[derive(Clone, Copy)]
 pub struct Head {
     pub controls: u64,
     pub inner2: u64,
@@ -26,7 +27,7 @@ pub struct Head {
 }
 
 // The eight operations; the first three name a symbol b.
-#[derive(Drop)]
+#[derive(Clone, Copy)]
 pub enum Operation {
     Rewrite(u64),
     Push1(u64),
@@ -39,7 +40,7 @@ pub enum Operation {
 }
 
 // The rule (p, a, operation, b, p').
-#[derive(Drop)]
+#[derive(Clone, Copy)]
 pub struct Rule {
     pub control: u64,
     pub symbol: u64,
@@ -48,7 +49,7 @@ pub struct Rule {
 }
 
 // An edge's order-2 state, its order-1 state or 254 or 255 (`first`, the second byte) and its set S.
-#[derive(Drop)]
+#[derive(Clone, Copy)]
 pub struct Edge {
     pub state: u64,
     pub first: u64,

@@ -1,4 +1,5 @@
 // Lent cells: a flat slice of 16-bit words, 68 words a cell: its kind, symbol, first and second, then the choice for each of 64 states.
+#![tactic(auto)]
 ghost use Rattle.std.specs.Prelude.{◌≡◌, ◌<◌, ◌≤◌, ◌+◌, ◌*◌, [], ◌∷◌, length};
 ghost use Rattle.std.proofs.lemmas.List.Edits.{sets};
 ghost use Rattle.cell_memory.specs.Memory.{cell_in, choice_in, with_cell, with_choice, with_choices};
@@ -6,7 +7,7 @@ ghost use Rattle.cell_memory.specs.Memory.{cell_in, choice_in, with_cell, with_c
 use limits::Limits;
 
 // A cell by value.
-#[derive(Drop)]
+#[derive(Clone, Copy)]
 pub enum Cell {
     Empty1,
     Symbol(u16, u16, u16),

@@ -1,4 +1,5 @@
 // A step on lent cells: the cells that an operation adds, and the choices that a guided run gives them.
+#![tactic(auto)]
 ghost use Rattle.std.specs.Prelude.{◌≡◌, [], ◌∷◌, ◌++◌, ◌<◌, ◌≤◌, ◌+◌, ◌*◌, ◌^◌, length};
 ghost use Rattle.stacks.specs.Stack.{new_cells, copy};
 ghost use Rattle.walks.specs.Cell.{symbol, above, cells_after, root_after};
@@ -10,7 +11,7 @@ use case_records::Operation;
 use cell_memory::Cell;
 
 // The top of a stack in cells: a symbol, the cells of its annotation and of the order-1 stack after it, and the order-2 cell below.
-#[derive(Drop)]
+#[derive(Clone, Copy)]
 pub struct Top {
     pub symbol: u16,
     pub annotation: u16,
@@ -19,7 +20,7 @@ pub struct Top {
 }
 
 // The new top symbol chooses `number` for order-1 state `state`, and the new root chooses `edge` for `control`.
-#[derive(Drop)]
+#[derive(Clone, Copy)]
 pub struct Choice {
     pub state: u64,
     pub number: u16,

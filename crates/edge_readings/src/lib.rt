@@ -1,5 +1,6 @@
 // The results of readings from sets of order-2 states: one choice of an edge for each state, then the readings from the order-1 states that
 // these edges name. The index of the moves, the table of the round before and the memo table are those of `readings::read_from`.
+#![tactic(auto)]
 ghost use Rattle.std.specs.Prelude.{◌≡◌, ◌∷◌, ◌<◌};
 ghost use Rattle.words.specs.Sets.{members};
 ghost use Rattle.tables.specs.Held.{automaton_of};

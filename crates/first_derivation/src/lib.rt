@@ -1,4 +1,5 @@
 // The first derivation of a known result, found by a search nested over rules, premises, edges and moves.
+#![tactic(auto)]
 ghost use Rattle.std.specs.Prelude.{◌≡◌, [], ◌<◌, ◌≤◌, ◌+◌, ◌*◌, length, eqb};
 ghost use Rattle.words.specs.Sets.{single};
 ghost use Rattle.words.specs.Order.{same};
@@ -92,7 +93,7 @@ fn by_move(
 }
 
 // The number of a premise (0 where the rule has none), or that there is no derivation.
-#[derive(Drop)]
+#[derive(Clone, Copy)]
 enum Premise {
     Nothing,
     By(u64),
@@ -331,7 +332,7 @@ fn by_rule(
 }
 
 // The numbers of the first derivation's rule and premise (0 where the rule has none), or that there is none.
-#[derive(Drop)]
+#[derive(Clone, Copy)]
 pub enum First {
     Missing,
     Found(u64, u64),

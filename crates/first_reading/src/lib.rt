@@ -1,5 +1,6 @@
 // The first reading, and the first choice of edges with a reading, whose joined sets are those of a known result. Each is found by recursion
 // over the states left, with the joins carried along. A reading is searched no further where the states left can not reach the result.
+#![tactic(auto)]
 ghost use Rattle.std.specs.Prelude.{◌≡◌, ◌<◌, ◌≤◌, ◌+◌, ◌*◌, length};
 ghost use Rattle.words.specs.Sets.{members};
 ghost use Rattle.words.specs.Order.{same};
@@ -45,7 +46,7 @@ pub fn is_wanted(order: u64, b: u64, r: u64, x: Result) -> bool
 }
 
 // What moves reach together: the states that they are of, and their sets, joined.
-#[derive(Drop)]
+#[derive(Clone, Copy)]
 struct Reach {
     states: u64,
     b: u64,

@@ -1,4 +1,5 @@
 // The guided run from one start of a sound start file, on the table of a sound case after rounds.
+#![tactic(auto)]
 ghost use Rattle.std.specs.Prelude.{◌≡◌, [], ◌<◌, ◌≤◌, ◌-◌, ◌*◌, length};
 ghost use Rattle.walks.specs.Guide.{start_walk, guided};
 ghost use Rattle.files.specs.Case.{case_refusal, rules_of};
@@ -22,7 +23,7 @@ use start_records::Start;
 use tables::Table;
 
 // Since when the start is accepted, and what guide answers.
-#[derive(Drop)]
+#[derive(Clone, Copy)]
 pub struct Guided {
     pub won: Acceptance,
     pub reply: Reply,

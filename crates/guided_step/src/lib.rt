@@ -1,4 +1,5 @@
 // One step of the guided run: the top of the walk with its chosen move, and the move's first derivation from the table before its round.
+#![tactic(auto)]
 ghost use Rattle.std.specs.Prelude.{◌≡◌, [], ◌<◌, ◌≤◌, ◌+◌, ◌*◌, length, get_or, replicate};
 ghost use Rattle.automata.specs.Automaton.{no_edge};
 ghost use Rattle.automata.specs.Derivation.{result_of};
@@ -26,7 +27,7 @@ use saturation::Size;
 use tables::{Move, Result, Table};
 
 // The state of a walk: its control, its root cell, and the numbers of cells used and steps taken.
-#[derive(Drop)]
+#[derive(Clone, Copy)]
 pub struct Walk {
     pub control: u64,
     pub root: u16,
@@ -88,7 +89,7 @@ fn first_of(z: Table, inner: &[u64], entries: &[u64], n: u16) -> u64
 }
 
 // The top of a walk with the number of its chosen move, or that there is none: its stack or its top order-1 stack is empty.
-#[derive(Drop)]
+#[derive(Clone, Copy)]
 enum Tip {
     Nothing,
     At(Top, u16),
@@ -211,7 +212,7 @@ fn result_of(z: Table, entries: &[u64], m: Move) -> Result
 // ---- the step
 
 // What a walk does next: it has arrived, it is stuck, or it goes on from a top by the derivation of these numbers of a rule and a premise.
-#[derive(Drop)]
+#[derive(Clone, Copy)]
 pub enum Next {
     Arrived,
     Stuck,

@@ -1,4 +1,5 @@
 // The guided run on lent cells, with its halts: "a walk is tested for arrival first, then trace, then cells".
+#![tactic(auto)]
 ghost use Rattle.std.specs.Prelude.{◌≡◌, [], ◌<◌, ◌≤◌, ◌+◌, ◌*◌, ◌-◌, ◌^◌, length};
 ghost use Rattle.automata.specs.Automaton.{move_at, entry_edge};
 ghost use Rattle.stacks.specs.Stack.{new_cells};
@@ -139,7 +140,7 @@ fn counts(w: Walk) -> Counts
 }
 
 // What a turn answers: the walk halts, is stuck, or goes on.
-#[derive(Drop)]
+#[derive(Clone, Copy)]
 enum Going {
     Halted(Halt),
     Stuck,

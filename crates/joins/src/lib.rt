@@ -1,4 +1,5 @@
 // Joins of moves: their annotation sets, which are of one order, and their rest sets, each joined.
+#![tactic(auto)]
 ghost use Rattle.std.specs.Prelude.{◌≡◌};
 ghost use Rattle.automata.specs.Derivation.{clash, join_move};
 ghost use Rattle.tables.specs.Records.{as_move};
@@ -7,7 +8,7 @@ ghost use Rattle.joins.specs.Joining.{as_joins, as_joined, candidate_of};
 use tables::Move;
 
 // Joined annotation sets, of one order, and joined rest sets.
-#[derive(Drop)]
+#[derive(Clone, Copy)]
 pub struct Joins {
     pub order: u64,
     pub b: u64,
@@ -15,7 +16,7 @@ pub struct Joins {
 }
 
 // What a move is joined to, or nothing where it does not join.
-#[derive(Drop)]
+#[derive(Clone, Copy)]
 pub enum Joined {
     Nothing,
     To(Joins),

@@ -1,7 +1,8 @@
 // The papers' limits, the sizes of their records in files and in lent memory, and what follows from these: the lengths of files and of working
 // memory. Constants only; nothing else in the code names these numbers.
+#![tactic(auto)]
 
-#[derive(Drop)]
+#[derive(Clone, Copy)]
 pub struct Limits {}
 
 impl Limits {

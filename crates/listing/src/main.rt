@@ -1,4 +1,5 @@
 // Prints the listing of case.bin and start.bin in its working directory, and makes the file `written` there once it is written.
+#![tactic(auto)]
 ghost use Rattle.io.specs.Counts.{IsPrefixLen};
 ghost use Rattle.services.specs.Listing.{listing_text};
 ghost use Rattle.printing.specs.Texts.{TextRead};

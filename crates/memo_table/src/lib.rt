@@ -1,6 +1,7 @@
 // A memo table: states of a recursion that were worked through already, in rows of nine words. A state's words give its place in the table;
 // a state put into a row takes the place of what stood there. Each round has a table of moves of its own length, which stands in a state's
 // kind: rows of earlier rounds are told by it, and the memo table is never cleared.
+#![tactic(auto)]
 ghost use Rattle.std.specs.Prelude.{◌≡◌, ◌+◌, ◌*◌, ◌≤◌, length};
 ghost use Rattle.words.specs.Order.{same};
 ghost use Rattle.tables.specs.Rows.{row_at, put_row};
@@ -12,7 +13,7 @@ use limits::Limits;
 // A state of the recursion over readings of a symbol, to entries of a control, in a table of n moves. Kind 2 * n + 1: the order-1 states
 // `left` are still to be read, for the set s. Kind 2 * n + 2: an edge is still to be chosen for each of the order-2 states `left`; the edges
 // so far name the order-1 states `named` and lead into s. Joined so far: (order, b, r). A row of kind 0 is empty.
-#[derive(Drop)]
+#[derive(Clone, Copy)]
 pub struct State {
     pub kind: u64,
     pub control: u64,

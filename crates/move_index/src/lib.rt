@@ -1,4 +1,6 @@
 // An index of the moves of a table: chains of the moves by state and symbol, and by all their words, so that a search looks at few moves.
+#![tactic(auto)]
+
 ghost use Rattle.std.specs.Prelude.{◌≡◌, ◌<◌, ◌≤◌, ◌+◌, ◌*◌, length};
 ghost use Rattle.words.specs.Lists.{some_of};
 ghost use Rattle.tables.specs.Rows.{rows_in};

@@ -1,4 +1,5 @@
 // One round of saturation on lent tables: its results are collected first, and then added; and whether a round would add a move.
+#![tactic(auto)]
 ghost use Rattle.std.specs.Prelude.{◌≡◌, ◌≤◌, ◌*◌, length};
 ghost use Rattle.automata.specs.Saturation.{adds_move};
 ghost use Rattle.tables.specs.Held.{automaton_of};
@@ -11,7 +12,7 @@ use added_results::Grown;
 use readings::Before;
 
 // The most moves and entries that there may be.
-#[derive(Drop)]
+#[derive(Clone, Copy)]
 pub struct Capacity {
     pub moves: usize,
     pub entries: usize,

@@ -1,4 +1,5 @@
 // The table of operations, and the codes that a tool's record gives in the place of ours.
+#![tactic(auto)]
 ghost use Rattle.std.specs.Prelude.{◌≡◌, [], ◌∷◌, map, ◌<◌, ◌≤◌, ◌+◌, ◌*◌, length};
 ghost use Rattle.std.proofs.lemmas.List.Edits.{sets};
 ghost use Rattle.files.specs.Bytes.{records};
@@ -11,14 +12,14 @@ use limits::Limits;
 // ---- the table
 
 // What a rule's b is: a symbol, or 0 as it is not used.
-#[derive(Drop)]
+#[derive(Clone, Copy)]
 pub enum Operand {
     Symbol,
     Zero,
 }
 
 // A line of the table: our code for the operation, the use of b, the new cells.
-#[derive(Drop)]
+#[derive(Clone, Copy)]
 pub struct Line {
     pub code: u8,
     pub operand: Operand,

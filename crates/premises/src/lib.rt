@@ -1,4 +1,5 @@
 // What a move of an entry gives as the premise of a rule, collected. What an old premise gave in the round before is held.
+#![tactic(auto)]
 ghost use Rattle.std.specs.Prelude.{◌≡◌, ◌||◌, ◌<◌, eqb};
 ghost use Rattle.tables.specs.Rows.{row_at};
 ghost use Rattle.tables.specs.Records.{as_move};
@@ -15,7 +16,7 @@ ghost use Rattle.premises.specs.Settled.{SourceHeld};
 use readings::Goal;
 
 // How an operation uses a move of an entry.
-#[derive(Drop)]
+#[derive(Clone, Copy)]
 pub enum MoveUse {
     Rewritten,
     Pushed1,
@@ -24,7 +25,7 @@ pub enum MoveUse {
 }
 
 // Where an operation takes its premises from, and how it uses them: the moves on this symbol of the entries of this control.
-#[derive(Drop)]
+#[derive(Clone, Copy)]
 pub struct Source {
     pub kind: MoveUse,
     pub symbol: u64,
@@ -42,7 +43,7 @@ pub fn order_fits(k: u64, order: u64) -> bool
 }
 
 // A push of this order for the set s, whose readings are joined to the rest set `rest`.
-#[derive(Drop)]
+#[derive(Clone, Copy)]
 struct Push {
     order: u64,
     s: u64,
@@ -50,7 +51,7 @@ struct Push {
 }
 
 // What is read for a premise: nothing, the move's rest set by a push, or the edges of its entry's set.
-#[derive(Drop)]
+#[derive(Clone, Copy)]
 enum Reads {
     Nothing,
     Rest(Push),

@@ -1,4 +1,5 @@
 // What the programs share: they read a file, and end their output.
+#![tactic(auto)]
 ghost use Rattle.io.specs.Counts.{IsPrefixLen};
 
 use libc::STDOUT_FILENO;

@@ -1,5 +1,6 @@
 // The results of readings, from the table of the earlier rounds: by one choice of a move for each state of a set. The automaton's tables are
 // only read. Moves are found by an index, and what the table of the round before gives is passed over: it is held.
+#![tactic(auto)]
 ghost use Rattle.std.specs.Prelude.{◌≡◌, ◌||◌, ◌&&◌, not, ◌∷◌, ◌<◌, leb};
 ghost use Rattle.words.specs.Sets.{part_of, members};
 ghost use Rattle.tables.specs.Held.{table_of};
@@ -13,7 +14,7 @@ use joins::{Joined, Joins};
 
 // The table of the round before: so many moves and entries. What it gives is held, so only what the last round added is looked at, as in
 // semi-naive evaluation; in round 1, where there is none, all is `new`. No move on a goal's symbol of a state of `settled` is newer.
-#[derive(Drop)]
+#[derive(Clone, Copy)]
 pub struct Before {
     pub new: bool,
     pub moves: usize,
@@ -22,7 +23,7 @@ pub struct Before {
 }
 
 // Where results go: to this symbol of entries of this control, as far as there is room for them; and the table of the round before.
-#[derive(Drop)]
+#[derive(Clone, Copy)]
 pub struct Goal {
     pub control: u64,
     pub symbol: u64,

@@ -1,4 +1,5 @@
 // One step of a replay on cells in lent bytes: whether a rule exists and applies, whether there is room for its new cells, and the step.
+#![tactic(auto)]
 ghost use Rattle.std.specs.Prelude.{◌≡◌, ◌<◌, ◌≤◌, ◌+◌, ◌*◌, length};
 ghost use Rattle.stacks.specs.Stack.{new_cells};
 ghost use Rattle.case_records.specs.Values.{the_operation, the_rule};
@@ -14,7 +15,7 @@ use cell_memory::Cell;
 use cell_steps::Top;
 
 // Where a replay stands: its control, its root cell, and the number of cells used.
-#[derive(Drop)]
+#[derive(Clone, Copy)]
 pub struct Place {
     pub control: u64,
     pub root: u16,
@@ -24,7 +25,7 @@ pub struct Place {
 // ---- the top
 
 // The top of a stack in cells, or that it is empty or has an empty top order-1 stack.
-#[derive(Drop)]
+#[derive(Clone, Copy)]
 enum Found {
     Nothing,
     At(Top),
@@ -127,7 +128,7 @@ fn take_step(op: Operation, next: u64, x: Top, cells: &mut [u8], w: Place) -> Pl
 }
 
 // What a step answers: the rule does not exist or does not apply, there is no room for its new cells, or the place after it.
-#[derive(Drop)]
+#[derive(Clone, Copy)]
 pub enum Stepped {
     Fails,
     Short,

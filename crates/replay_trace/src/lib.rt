@@ -1,4 +1,5 @@
 // The replay of a trace, step by step, on cells in lent bytes.
+#![tactic(auto)]
 ghost use Rattle.std.specs.Prelude.{◌≡◌, ◌≤◌, ◌*◌, length};
 ghost use Rattle.services.specs.Replay.{rule_numbers};
 ghost use Rattle.results.specs.Collecting.{rules_in, RulesStand};
@@ -10,7 +11,7 @@ use replay_step::{Place, Stepped};
 use replies::Replayed;
 
 // What the steps of a trace come to: an answer, or the place after the last of them.
-#[derive(Drop)]
+#[derive(Clone, Copy)]
 pub enum Ended {
     Answered(Replayed),
     At(Place),

@@ -1,7 +1,8 @@
 // The answers of the services, and of acceptance: types only. specs/ gives the papers' number and values for each of their cases.
+#![tactic(auto)]
 
 // What saturate returns: 0 with its numbers of moves and entries, or a refusal's number with 0 and 0.
-#[derive(Drop)]
+#[derive(Clone, Copy)]
 pub struct Saturation {
     pub code: u64,
     pub moves: u64,
@@ -9,28 +10,28 @@ pub struct Saturation {
 }
 
 // What judge returns: 0 with the number of rounds that added a move, or a refusal's number with 0.
-#[derive(Drop)]
+#[derive(Clone, Copy)]
 pub struct Judged {
     pub code: u64,
     pub rounds: u64,
 }
 
 // Since when a stack is accepted from a state: from the table after this round on, or from no table.
-#[derive(Drop)]
+#[derive(Clone, Copy)]
 pub enum Acceptance {
     Never,
     Since(u64),
 }
 
 // The steps taken and the cells used by a walk.
-#[derive(Drop)]
+#[derive(Clone, Copy)]
 pub struct Counts {
     pub steps: u64,
     pub cells: u64,
 }
 
 // Why a walk halted.
-#[derive(Drop)]
+#[derive(Clone, Copy)]
 pub enum Halt {
     Arrived(Counts),
     TraceFull(Counts),
@@ -38,7 +39,7 @@ pub enum Halt {
 }
 
 // What guide answers.
-#[derive(Drop)]
+#[derive(Clone, Copy)]
 pub enum Reply {
     Refused(u64),
     NoRun,
@@ -47,7 +48,7 @@ pub enum Reply {
 }
 
 // What replay answers: a refusal, that the trace is accepted, or the step that fails, counted from 0.
-#[derive(Drop)]
+#[derive(Clone, Copy)]
 pub enum Replayed {
     Refused(u64),
     Accepted,
@@ -55,7 +56,7 @@ pub enum Replayed {
 }
 
 // What brackets answers: a refusal, or the length of the text that it has printed.
-#[derive(Drop)]
+#[derive(Clone, Copy)]
 pub enum Brackets {
     Refused(u64),
     Printed(usize),

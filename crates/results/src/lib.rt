@@ -1,5 +1,6 @@
 // The results of all rules from the table of the earlier rounds, collected: those that are not yet held, sorted, each once. What the table of
 // the round before gives is held, so only what the last round added is looked at.
+#![tactic(auto)]
 ghost use Rattle.std.specs.Prelude.{◌≡◌, [], ◌∷◌, ◌<◌, ◌≤◌, ◌+◌, ◌*◌, length};
 ghost use Rattle.tables.specs.Rows.{row_at};
 ghost use Rattle.tables.specs.Records.{as_result};
@@ -24,7 +25,7 @@ use premises::{MoveUse, Source};
 use readings::{Before, Goal};
 
 // How an operation uses an entry itself.
-#[derive(Drop)]
+#[derive(Clone, Copy)]
 enum EntryUse {
     Popped,
     Collapsed,
@@ -117,7 +118,7 @@ fn by_nothing(
 }
 
 // What a rule's operation uses: moves on a symbol of the entries of the control that it goes to, these entries, or nothing, for one result.
-#[derive(Drop)]
+#[derive(Clone, Copy)]
 enum Use {
     Moves(MoveUse, u64),
     Entries(EntryUse),

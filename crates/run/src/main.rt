@@ -1,5 +1,6 @@
 // Prints the run from one start of start.bin for case.bin, both in its working directory, and makes the file `written` there once it is written.
 // Its arguments are the number of the start and a number of rounds, in decimal: all rounds where there is no second one.
+#![tactic(auto)]
 ghost use Rattle.io.specs.Counts.{IsPrefixLen};
 ghost use Rattle.services.specs.Run.{run_text};
 ghost use Rattle.printing.specs.Texts.{TextRead};

@@ -1,5 +1,6 @@
 // Rounds of saturation on lent tables, as many as are asked for; the numbers of moves and entries after each round are reported, and whether a round
 // more would add a move.
+#![tactic(auto)]
 ghost use Rattle.std.specs.Prelude.{◌≡◌, ◌≤◌, ◌+◌, ◌*◌, length};
 ghost use Rattle.tables.specs.Rows.{row_at, put_row};
 ghost use Rattle.move_index.specs.Keys.{ByState, ByWords};
@@ -42,7 +43,7 @@ fn put_sizes(t: &mut [u64], i: usize, moves: usize, entries: usize)
 }
 
 // Numbers of moves and entries.
-#[derive(Drop)]
+#[derive(Clone, Copy)]
 pub struct Size {
     pub moves: u64,
     pub entries: u64,
@@ -61,7 +62,7 @@ pub fn size_at(sizes: &[u64], i: usize) -> Size
 }
 
 // A table after rounds, the number of those that added a move, and whether a round more would; or, where `fits` is false, a limit is passed.
-#[derive(Drop)]
+#[derive(Clone, Copy)]
 pub struct Saturated {
     pub fits: bool,
     pub table: tables::Table,
@@ -94,7 +95,7 @@ pub fn passed(z: tables::Table) -> Saturated
 }
 
 // What a turn answers: the rounds are done, or go on with the table of one more.
-#[derive(Drop)]
+#[derive(Clone, Copy)]
 enum Turn {
     Done(Saturated),
     On(tables::Table),
@@ -115,7 +116,7 @@ fn after_round(z: tables::Table, k: usize, g: Grown) -> Turn
 }
 
 // How far the rounds are: so many are run, the table that they left, and that of the round before.
-#[derive(Drop)]
+#[derive(Clone, Copy)]
 struct Progress {
     run: usize,
     table: tables::Table,

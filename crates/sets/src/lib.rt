@@ -1,4 +1,5 @@
 // Sets of states as words of 64 bits: state n is a member exactly if bit n of the word is 1.
+#![tactic(auto)]
 ghost use Rattle.std.specs.Prelude.{◌≡◌, true, ◌∷◌, ℕ, ◌<◌, ◌^◌, ◌-◌, ltb, leb};
 ghost use Rattle.sets.specs.Without.{without};
 ghost use Rattle.words.specs.Lists.{every};
@@ -68,7 +69,7 @@ pub fn without(s: u64, n: u64) -> u64
 }
 
 // A member of a set, and the set of the others.
-#[derive(Drop)]
+#[derive(Clone, Copy)]
 pub struct Split {
     pub member: u64,
     pub others: u64,

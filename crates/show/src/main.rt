@@ -1,5 +1,6 @@
 // Prints one start of start.bin, for case.bin, as brackets, both files in its working directory, and makes the file `written` there once it is
 // written. Its argument is the number of the start in decimal.
+#![tactic(auto)]
 ghost use Rattle.io.specs.Counts.{IsPrefixLen};
 ghost use Rattle.services.specs.Brackets.{show_text};
 ghost use Rattle.printing.specs.Texts.{TextRead};

@@ -1,5 +1,6 @@
 // The text of stacks in cells of a start file, written into lent bytes as far as they reach. The printers of order-2 cells, of order-1 cells and
 // of annotations call each other, and the cell number falls. Where the lent bytes are passed they return at once: each goes on only from a place.
+#![tactic(auto)]
 ghost use Rattle.std.specs.Prelude.{◌<◌, ◌≡◌, ◌++◌};
 ghost use Rattle.walks.specs.Cell.{order1, order2};
 ghost use Rattle.walks.specs.Cell.Formed.{order_at};

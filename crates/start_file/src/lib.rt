@@ -1,4 +1,5 @@
 // The check of a start file, body by body.
+#![tactic(auto)]
 ghost use Rattle.std.specs.Prelude.{◌≡◌, true, map, ◌≤◌, ◌*◌, length};
 ghost use Rattle.words.specs.Lists.{every};
 ghost use Rattle.files.specs.Bytes.{records};

@@ -1,4 +1,5 @@
 // The records of a start file: what each one's bytes stand for, and whether it keeps the bounds of its body.
+#![tactic(auto)]
 ghost use Rattle.std.specs.Prelude.{◌≡◌, map, ◌≤◌, ◌+◌, ◌*◌, length};
 ghost use Rattle.files.specs.Bytes.{records};
 ghost use Rattle.files.specs.Start.{start_of, cell_bytes, order_of, refers_to, cell_right, start_right, cell_of};
@@ -15,14 +16,14 @@ use limits::Limits;
 // ---- values and readers
 
 // A start's control and root cell.
-#[derive(Drop)]
+#[derive(Clone, Copy)]
 pub struct Start {
     pub control: u64,
     pub root: u64,
 }
 
 // A cell's kind, symbol, first and second.
-#[derive(Drop)]
+#[derive(Clone, Copy)]
 pub struct Fields {
     pub kind: u64,
     pub symbol: u64,

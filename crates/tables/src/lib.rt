@@ -1,5 +1,6 @@
 // Tables of records in slices of words: moves (five words each), entries (three), inner edges (three) and the results of a round (six).
 // Nothing else touches the words of a table.
+#![tactic(auto)]
 ghost use Rattle.std.specs.Prelude.{◌≡◌, ◌<◌, ◌≤◌, ◌+◌, ◌-◌, ◌*◌, ◌^◌, length, get_or, drop, []};
 ghost use Rattle.std.proofs.Math.Seq.{paste};
 ghost use Rattle.words.specs.Order.{less};
@@ -17,7 +18,7 @@ ghost use Rattle.tables.specs.Counts.{raised};
 use limits::Limits;
 
 // A move of an order-1 state.
-#[derive(Drop)]
+#[derive(Clone, Copy)]
 pub struct Move {
     pub state: u64,
     pub symbol: u64,
@@ -27,14 +28,14 @@ pub struct Move {
 }
 
 // An entry [p,S].
-#[derive(Drop)]
+#[derive(Clone, Copy)]
 pub struct Entry {
     pub control: u64,
     pub s: u64,
 }
 
 // An edge (r,S) of an order-2 state; `first` is r.
-#[derive(Drop)]
+#[derive(Clone, Copy)]
 pub struct Edge {
     pub state: u64,
     pub first: u64,
@@ -42,7 +43,7 @@ pub struct Edge {
 }
 
 // A result: the move (symbol, order, B, R) of entry [p,S].
-#[derive(Drop)]
+#[derive(Clone, Copy)]
 pub struct Result {
     pub control: u64,
     pub s: u64,
@@ -54,7 +55,7 @@ pub struct Result {
 
 // An automaton whose inner edges, entries and moves stand in the first rows of three slices: the numbers of these rows, the number J of
 // inner order-1 states, and the final sets.
-#[derive(Drop)]
+#[derive(Clone, Copy)]
 pub struct Table {
     pub inner1: u64,
     pub final1: u64,
@@ -327,7 +328,7 @@ pub fn edge_of(z: Table, inner: &[u64], entries: &[u64], n: usize) -> Edge
 }
 
 // The entry that an order-1 state is, or that it is none.
-#[derive(Drop)]
+#[derive(Clone, Copy)]
 pub enum Found {
     Nothing,
     At(Entry),

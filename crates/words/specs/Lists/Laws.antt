@@ -36,7 +36,7 @@ drop_zeros (suc k) (suc n) = drop_zeros k n ∙ ap (λ (m : ℕ). replicate m 0)
 -- ---- each
 
 module _ {A B : Type 0} where
-  pub each_in : (f : A → List B) {l : List A} {x : A} {y : B} → Memᴰ x l → Memᴰ y (f x) → Memᴰ y (each l f)
+  pub each_in : (f : A → List B) {x : A} {l : List A} {y : B} → Memᴰ x l → Memᴰ y (f x) → Memᴰ y (each l f)
   unfolding each
   each_in f {y = y} (Memᴰ.head {xs = xs} e) j = Memᴰ.append_left (each xs f) (subst (λ (z : A). Memᴰ y (f z)) e j)
   each_in f (Memᴰ.tail {x = z} i) j = Memᴰ.append_right (f z) (each_in f i j)
@@ -154,7 +154,7 @@ module _ {A : Type 0} where
       every_cons test x (xs ++ ys) ∙ ap (λ (t : Bool). test x && t) (every_append test xs ys)
       ∙ sym (and_assoc (test x) (every test xs) (every test ys)) ∙ ap (λ (t : Bool). t && every test ys) (sym (every_cons test x xs))
 
-  pub every_in : (test : A → Bool) {l : List A} {x : A} → every test l ≡ true → Memᴰ x l → test x ≡ true
+  pub every_in : (test : A → Bool) {x : A} {l : List A} → every test l ≡ true → Memᴰ x l → test x ≡ true
   every_in test h (Memᴰ.head {x = z} {xs = zs} e) = ap test e ∙ and_left (test z) (every test zs) (sym (every_cons test z zs) ∙ h)
   every_in test h (Memᴰ.tail {x = z} {xs = zs} i) = every_in test (and_right (test z) (every test zs) (sym (every_cons test z zs) ∙ h)) i
 
@@ -172,7 +172,7 @@ module _ {A : Type 0} where
       (every_in f (and_left (every f xs) (every g xs) t) i)
       (every_in g (and_right (every f xs) (every g xs) t) i)))
 
-  pub some_of_in : (test : A → Bool) {l : List A} {x : A} → Memᴰ x l → test x ≡ true → some_of test l ≡ true
+  pub some_of_in : (test : A → Bool) {x : A} {l : List A} → Memᴰ x l → test x ≡ true → some_of test l ≡ true
   some_of_in test (Memᴰ.head {x = z} {xs = zs} e) h = some_of_cons test z zs ∙ ap (λ (t : Bool). t || some_of test zs) (sym (ap test e) ∙ h)
   some_of_in test (Memᴰ.tail {x = z} {xs = zs} i) h =
       some_of_cons test z zs ∙ ap (λ (t : Bool). test z || t) (some_of_in test i h) ∙ or-true (test z)
@@ -210,7 +210,7 @@ module _ {A : Type 0} where
       let r = first_split test l h in
       (rw r.2 (Memᴰ.append_right r.0 (Memᴰ.head refl)), r.4)
 
-  pub first_none : (test : A → Bool) {l : List A} {x : A} → first test l ≡ Option.none → Memᴰ x l → test x ≡ false
+  pub first_none : (test : A → Bool) {x : A} {l : List A} → first test l ≡ Option.none → Memᴰ x l → test x ≡ false
   first_none test h (Memᴰ.head {x = z} {xs = zs} e) =
       ap test e ∙ by_test (test z) (λ y. absurd (some-ne-none z (sym (first_yes test z zs y) ∙ h))) (λ n. n)
   first_none test h (Memᴰ.tail {x = z} {xs = zs} i) = by_test (test z)
@@ -222,7 +222,7 @@ module _ {A : Type 0} where
   none_first test [] h = refl
   none_first test (x ∷ xs) h = first_no test x xs (h x (Memᴰ.head refl)) ∙ none_first test xs (λ y i. h y (Memᴰ.tail i))
 
-  pub some_first : (test : A → Bool) {l : List A} {x : A} → Memᴰ x l → test x ≡ true → (y : A) × (first test l ≡ some y)
+  pub some_first : (test : A → Bool) {x : A} {l : List A} → Memᴰ x l → test x ≡ true → (y : A) × (first test l ≡ some y)
   some_first test (Memᴰ.head {x = z} {xs = zs} e) h = (z, first_yes test z zs (sym (ap test e) ∙ h))
   some_first test (Memᴰ.tail {x = z} {xs = zs} i) h = by_test (test z)
       (λ y. (z, first_yes test z zs y))
@@ -240,7 +240,7 @@ module _ {A : Type 0} where
   get_or_in (x ∷ xs) zero d h = Memᴰ.head refl
   get_or_in (x ∷ xs) (suc i) d h = Memᴰ.tail (get_or_in xs i d (le_of_suc-le-suc h))
 
-  pub in_get_or : {l : List A} {x : A} → Memᴰ x l → (i : ℕ) × (i < length l) × ((d : A) → get_or l i d ≡ x)
+  pub in_get_or : {x : A} {l : List A} → Memᴰ x l → (i : ℕ) × (i < length l) × ((d : A) → get_or l i d ≡ x)
   in_get_or (Memᴰ.head e) = (0, omega arith, λ d. sym e)
   in_get_or (Memᴰ.tail j) = let r = in_get_or j in (suc r.0, suc-le-suc r.1, r.2)
 

@@ -9,7 +9,7 @@ use Rattle.words.specs.Laws.Numbers.{below_suc}
 use Rattle.words.specs.Lists.Laws.{in_get_or}
 
 -- a list without one of its elements has one element fewer and all others
-taken_out : {A : Type 0} {l : List A} {x : A} → Memᴰ x l
+taken_out : {A : Type 0} {x : A} {l : List A} → Memᴰ x l
     → (r : List A) × (length l ≡ suc (length r)) × ((y : A) → Memᴰ y l → (y ≡ x) ⊎ Memᴰ y r)
 taken_out (Memᴰ.head {xs = xs} e) = (xs, refl, λ y j. ⊎_elim (λ z. inl (z ∙ sym e)) (λ i. inr i) (Memᴰ.cases_cons j))
 taken_out (Memᴰ.tail {x = z} i) =

@@ -168,9 +168,9 @@ module _ {A : Type 0} (key : A → List ℕ) where
   append_rising_left (x ∷ xs) ys r = less_rising_from x xs
       (λ y j. rising_from_less x (xs ++ ys) r (Memᴰ.append_left ys j)) (append_rising_left xs ys (rising_tail x (xs ++ ys) r))
 
-  pub append_rising_less : {xs : List A} (ys : List A) {x y : A} → rising key (xs ++ ys) ≡ true → Memᴰ x xs → Memᴰ y ys → less (key x) (key y) ≡ true
+  pub append_rising_less : {x : A} {xs : List A} (ys : List A) {y : A} → rising key (xs ++ ys) ≡ true → Memᴰ x xs → Memᴰ y ys → less (key x) (key y) ≡ true
   unfolding rising
-  append_rising_less ys {x} {y} r (Memᴰ.head {x = z} {xs = zs} e) j = rw e (rising_from_less z (zs ++ ys) r (Memᴰ.append_right zs j))
+  append_rising_less {x} ys {y} r (Memᴰ.head {x = z} {xs = zs} e) j = rw e (rising_from_less z (zs ++ ys) r (Memᴰ.append_right zs j))
   append_rising_less ys r (Memᴰ.tail {x = z} {xs = zs} i) j = append_rising_less ys (rising_tail z (zs ++ ys) r) i j
 
   -- a loop that appends a greater element
@@ -248,7 +248,7 @@ module _ {A : Type 0} (key : A → List ℕ) where
       (λ h. ⊎_elim (λ e. inr (Memᴰ.head e)) (λ i. ⊎_elim (λ e. inl e) (λ k. inr (Memᴰ.tail k)) (insert_out x l i))
       (Memᴰ.cases_cons (rw (insert_after x z l h) at j)))
 
-  pub insert_in : (x : A) {l : List A} {y : A} → Memᴰ y l → Memᴰ y (insert key x l)
+  pub insert_in : (x : A) {y : A} {l : List A} → Memᴰ y l → Memᴰ y (insert key x l)
   insert_in x (Memᴰ.head {x = z} {xs = l} e) = by_place x z
       (λ h. rw (insert_before x z l h) (Memᴰ.tail (Memᴰ.head e)))
       (λ h. rw (insert_held x z l h) (Memᴰ.head e))
@@ -296,7 +296,7 @@ module _ {A : Type 0} (key : A → List ℕ) where
   sorted_out [] j = j
   sorted_out (x ∷ l) j = ⊎_elim (λ e. Memᴰ.head e) (λ i. Memᴰ.tail (sorted_out l i)) (insert_out x (sorted key l) j)
 
-  pub sorted_in : {l : List A} {x : A} → Memᴰ x l → (y : A) × Memᴰ y (sorted key l) × (key y ≡ key x)
+  pub sorted_in : {x : A} {l : List A} → Memᴰ x l → (y : A) × Memᴰ y (sorted key l) × (key y ≡ key x)
   unfolding sorted
   sorted_in (Memᴰ.head {x = z} {xs = l} e) = let r = insert_key z (sorted key l) in (r.0, r.1, r.2 ∙ ap key (sym e))
   sorted_in (Memᴰ.tail {x = z} {xs = l} j) = let r = sorted_in j in (r.0, insert_in z r.1, r.2)

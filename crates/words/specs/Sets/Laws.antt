@@ -11,6 +11,7 @@ use Rattle.std.proofs.Math.Nat.{div-div-eq-div-mul, pow-succ', zero-div, div-eq_
 use Rattle.std.proofs.Math.Dec.{eqb-zero-suc, eqb-suc-zero, eqb-suc-suc}
 use Rattle.std.proofs.Math.Arith.{bin_ind}
 use Rattle.std.specs.Int.Bits.{bit_or, digits, or_step, shifted_half, shifted_even}
+use Prim.Native.Nat.{bit_or-bitwise}
 use Rattle.std.proofs.lemmas.Nat.{or_shr}
 use Rattle.std.proofs.Math.Pow.{pow-lt}
 use Rattle.words.specs.Laws.Tests.{or_cases, equal_tests}
@@ -66,8 +67,9 @@ join_bits_or (suc k) (suc a) b =
     rw (eqb-suc-zero a, join_bits) (ap (λ (x : ℕ). x * 2 + max (suc a % 2) (b % 2)) (join_bits_or k (suc a / 2) (b / 2)))
 
 pub join_or : (a b : ℕ) → join a b ≡ bit_or a b
-unfolding join
-join_or a b = join_bits_or a a b
+unfolding join join_bits
+join_or zero b = refl
+join_or (suc a) b = join_bits_or (suc a) (suc a) b ∙ sym (bit_or-bitwise (suc a) b)
 
 pub or_bit : (a b : ℕ) → eqb (bit_or a b % 2) 1 ≡ eqb (a % 2) 1 || eqb (b % 2) 1
 or_bit a b =

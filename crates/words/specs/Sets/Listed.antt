@@ -6,9 +6,10 @@ use mathlib.Core.List.{List, [], ◌∷◌, ◌++◌, Memᴰ}
 use Rattle.words.specs.Sets.{single, join, set_of}
 use Rattle.words.specs.Sets.Laws.{Has, has_empty, has_single, single_has, has_join_left, has_join_right, join_cases, join_assoc, join_empty_left}
 
-pub in_set_of : {ns : List ℕ} {n : ℕ} → Memᴰ n ns → Has (set_of ns) n
+pub in_set_of : {n : ℕ} {ns : List ℕ} → Memᴰ n ns → Has (set_of ns) n
 unfolding set_of
-in_set_of {ns = m ∷ ns} {n} (Memᴰ.head e) = has_join_left (set_of ns) (rw e (has_single m))
+in_set_of {n = n} {ns = []} x = elim x [ ]
+in_set_of {n} {ns = m ∷ ns} (Memᴰ.head e) = has_join_left (set_of ns) (rw e (has_single m))
 in_set_of {ns = m ∷ ns} (Memᴰ.tail i) = has_join_right (single m) (in_set_of i)
 
 pub set_of_in : (ns : List ℕ) {n : ℕ} → Has (set_of ns) n → Memᴰ n ns
