@@ -4,7 +4,7 @@
 usage: python3 tools/respell.py [FOLDER]
 
 A definition or lemma of specs/ or proofs/ that is spelled in camel case or with dashes gets underscores: partOf is part_of,
-read-end is read_end. Where a lemma would then have the name of a definition it gets _lem. Functions of src/, names that Rattle
+read-end is read_end. Where a lemma would then have the name of a definition it gets _lem, where a field would, _holds. Functions of src/, names that Rattle
 makes, names of the library, strings and must-fail edits are left alone. It prints what to look at.
 """
 
@@ -71,7 +71,9 @@ def plan(root):
     for new, olds in groups.items():
         ranked = sorted(olds, key=lambda n: (0 if LOWER.search(n) else 1 if "-" not in n else 2, n))
         for place, old in enumerate(ranked):
-            to = new if place == 0 else new + "_lem" * place
+            to = new if place == 0 else new + ("_holds" if old in fields else "_lem") * place
+            if old in fields and not is_odd(old):
+                continue
             if to != old:
                 turned[old] = to
     return turned, fields, names
@@ -119,8 +121,10 @@ def turn(path, text, turned, fields, own):
             word = m.group(0)
             start = m.start()
             dotted = (piece[start - 1] if start else before[-1:]) == "."
-            at = word.startswith("@")
             if word not in turned or word in skip:
+                return word
+            plain = "-" not in word and LOWER.search(word) is None
+            if plain and (dotted or path.endswith(".rt")):
                 return word
             if dotted and "-" in word and in_proofs and word not in fields:
                 return word

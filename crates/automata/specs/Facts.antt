@@ -42,7 +42,7 @@ pub record TableFacts (P : ℕ) (A : Automaton) : Type 0 where
   pub final1_exists : All A.final1 (λ r. r < states A)
   pub inner_facts : (e : Edge) → Memᴰ e A.inner → InnerFacts P A.J e
   pub inner_rising : rising choice_key A.inner ≡ true
-  pub entry_control_lem : (e : Entry) → Memᴰ e A.entries → e.control < P
+  pub entry_control_holds : (e : Entry) → Memᴰ e A.entries → e.control < P
   pub entry_once : Once A.entries
   pub move_facts : (m : Move) → Memᴰ m A.moves → MoveFacts (states A) m
 

@@ -104,7 +104,7 @@ module _ {P : ℕ} (A : Automaton) (F : TableFacts P A) where
             move = m.move;
             S = m.S;
             premise = m.premise;
-            order_fits_lem = m.meets.fits;
+            order_fits_holds = m.meets.fits;
             reading = r.reading;
             joins = r.joins;
             joined = r.joined;

@@ -35,14 +35,14 @@ pub record Filled (x : Lent) (d : SaturateDone) : Type 0 where
   pub saturated : SaturatedTable x.case table
   pub moves_are : d.moves ≡ padded x.moves (move_table table)
   pub entries_are : d.entries ≡ padded x.entries (entry_table table)
-  pub move_count_lem : d.reply.moves ≡ length table.moves
+  pub move_count_holds : d.reply.moves ≡ length table.moves
   pub entry_count : d.reply.entries ≡ length table.entries
 
 -- "All zero", with "0 in a refusal" for both numbers.
 pub record Emptied (x : Lent) (d : SaturateDone) : Type 0 where
   pub moves_zero : d.moves ≡ zeros x.moves
   pub entries_zero : d.entries ≡ zeros x.entries
-  pub move_count_lem : d.reply.moves ≡ 0
+  pub move_count_holds : d.reply.moves ≡ 0
   pub entry_count : d.reply.entries ≡ 0
 
 -- what document 01 states of saturate's answer d to x

@@ -40,7 +40,7 @@ judge_for x answers =
 pub record NoRunExactly (x : GuideInput) (reply : Reply) : Type 0 where
   pub no_left : (reply ≡ NoRun) ↔ ((accepted_in x.case x.start x.number x.rounds ≡ false) × AddsNothing x.case x.rounds)
   pub is_open : (reply ≡ Open) ↔ ((accepted_in x.case x.start x.number x.rounds ≡ false) × AddsMove x.case x.rounds)
-  pub no_run_lem : reply ≡ NoRun → Runs x.case x.start x.number → ⊥
+  pub no_run_holds : reply ≡ NoRun → Runs x.case x.start x.number → ⊥
   pub exactly : AddsNothing x.case x.rounds → (reply ≡ NoRun) ↔ (Runs x.case x.start x.number → ⊥)
   pub marked_no : (answers : ℕ) → (judge_service (judge_for x answers)).code ≡ 0
       → (reply ≡ NoRun) ↔ (get_or (judge_service (judge_for x answers)).answers x.number 0 ≡ 0)

@@ -35,7 +35,7 @@ pub record RunArrives (case start : List ℕ) (rounds n : ℕ) : Type 0 where
   pub last : Walk
   pub full : FullRun case start rounds n trace last
   pub run : Run (rules_of case) (configuration_at start n) trace (walk_configuration last)
-  pub in_target_lem : in_target (own_of case) (walk_configuration last) ≡ true
+  pub in_target_holds : in_target (own_of case) (walk_configuration last) ≡ true
 
 -- What guide answers for the full run ns, where the lent cells hold the start file's cells: "the guide writes the full run's first m steps,
 -- m being the least number where the run has arrived, m = t, or step m + 1 would bring the cells used above c, and it answers the first of

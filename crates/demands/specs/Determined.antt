@@ -52,7 +52,7 @@ saturate_one x {d} {e} s t =
     let g = t.done (sym c ∙ eqb-true _ 0 z) in
     let a : f.table ≡ g.table = one_saturated x.case f.saturated g.saturated in
     saturate_done c
-    (f.move_count_lem ∙ ap (λ (A : Automaton). length A.moves) a ∙ sym g.move_count_lem)
+    (f.move_count_holds ∙ ap (λ (A : Automaton). length A.moves) a ∙ sym g.move_count_holds)
     (f.entry_count ∙ ap (λ (A : Automaton). length A.entries) a ∙ sym g.entry_count)
     (f.moves_are ∙ ap (λ (A : Automaton). padded x.moves (move_table A)) a ∙ sym g.moves_are)
     (f.entries_are ∙ ap (λ (A : Automaton). padded x.entries (entry_table A)) a ∙ sym g.entries_are))
@@ -61,7 +61,7 @@ saturate_one x {d} {e} s t =
     let f = s.refused bad in
     let g = t.refused (λ q. bad (c ∙ q)) in
     saturate_done c
-    (f.move_count_lem ∙ sym g.move_count_lem)
+    (f.move_count_holds ∙ sym g.move_count_holds)
     (f.entry_count ∙ sym g.entry_count)
     (f.moves_zero ∙ sym g.moves_zero)
     (f.entries_zero ∙ sym g.entries_zero))

@@ -126,7 +126,7 @@ refuses_guide d n e s =
 
 pub marks_no : (d : JudgeDone) → get_or d.answers 0 0 ≡ 0 → JudgeMarks input_a d → ⊥
 unfolding computed input_a
-marks_no d z m = ((m unrefused_A).each_mark 0 (lit< tt)).no_run_lem z run_A
+marks_no d z m = ((m unrefused_A).each_mark 0 (lit< tt)).no_run_holds z run_A
 
 -- ---- "Returning with tables untouched": a word of the memory column is another
 

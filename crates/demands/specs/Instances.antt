@@ -69,12 +69,12 @@ won_A = (((judge_marks input_a unrefused_A).each_mark 0 (lit< tt)).round (eqb-fa
 -- start 2 of model A is marked no, so there is no run
 pub no_run_A : Runs case_a start_a 2 → ⊥
 unfolding computed input_a
-no_run_A = ((judge_marks input_a unrefused_A).each_mark 2 (lit< tt)).no_run_lem refl
+no_run_A = ((judge_marks input_a unrefused_A).each_mark 2 (lit< tt)).no_run_holds refl
 
 -- start 1 of model B, its lone symbol, is marked no, so there is no run
 pub no_run_B : Runs case_b start_b 1 → ⊥
 unfolding computed input_b
-no_run_B = ((judge_marks input_b (demand1_judge input_b).number).each_mark 1 (lit< tt)).no_run_lem refl
+no_run_B = ((judge_marks input_b (demand1_judge input_b).number).each_mark 1 (lit< tt)).no_run_holds refl
 
 -- "Model B's lone symbol turns to yes if its entry is written with 254": there is a run of the published system, and its guided run arrives
 pub marked_B_final : MarkedYes input_bFinal 1

@@ -17,13 +17,13 @@ pub record Reaches (rules : List Rule) (own : Automaton) (c : Configuration) : T
   pub trace : List ℕ
   pub end : Configuration
   pub run : Run rules c trace end
-  pub in_target_lem : in_target own end ≡ true
+  pub in_target_holds : in_target own end ≡ true
 
 -- the same by transitions of the published system
 pub record PublishedReaches (rules : List Rule) (own : Automaton) (c : Configuration) : Type 0 where
   pub end : Configuration
   pub transitions : Transitions (map published_rule rules) c end
-  pub in_target_lem : in_target own end ≡ true
+  pub in_target_holds : in_target own end ≡ true
 
 -- ---- the starts of a start file
 
@@ -74,5 +74,5 @@ pub record Marks (case start : List ℕ) (rounds n word : ℕ) : Type 0 where
   pub is_open : (word ≡ open_word) ↔ ((accepted_in case start n rounds ≡ false) × AddsMove case rounds)
   pub round : Yes word → (r : ℕ) → (word ≡ suc r) ↔ WonIn case start n r
   pub run : Yes word → Runs case start n
-  pub no_run_lem : word ≡ 0 → Runs case start n → ⊥
+  pub no_run_holds : word ≡ 0 → Runs case start n → ⊥
   pub exactly : AddsNothing case rounds → Yes word ↔ Runs case start n

@@ -38,7 +38,7 @@ pub record Applies (x : ReplayInput) (n : ℕ) (d : Configuration) : Type 0 wher
 pub record RealFault (x : ReplayInput) : Type 0 where
   pub end : Configuration
   pub run : Run (rules_of x.case) (configuration_at x.start x.number) (trace_of x) end
-  pub in_target_lem : in_target (own_of x.case) end ≡ true
+  pub in_target_holds : in_target (own_of x.case) end ≡ true
   pub cells_suffice : cells_used x (length (trace_of x)) ≤ replay_cells x
 
 -- "The first step that fails, counted from 0, or the trace's length in rule numbers if only the arrival is missing": n.

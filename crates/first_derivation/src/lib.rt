@@ -265,7 +265,7 @@ fn by_collapse2(p: u64, x: Result) -> Premise
 // ---- a rule
 
 // The first derivation of x by a rule on a with this operation, to control p.
-fn first_step_lem(
+fn first_step(
     z: Table,
     inner: &[u64],
     entries: &[u64],
@@ -317,7 +317,7 @@ fn by_rule(
         return Premise::Nothing;
     }
     let op = rule.operation;
-    first_step_lem(
+    first_step(
         z,
         inner,
         entries,

@@ -138,7 +138,7 @@ module _ (rules : List Rule) (T : Saturated) where
     pub last : Walk
     pub arrives : ArrivesAfter rules T steps w last
     pub run : Run rules (walk_configuration w) (trace_after rules T steps w) (walk_configuration last)
-    pub in_target_lem : in_target own (walk_configuration last) ≡ true
+    pub in_target_holds : in_target own (walk_configuration last) ≡ true
 
   pub guided_arrival : {own : Automaton} (w : Walk) → WalkFormed w → Arrival rules T own (decorated_of w) → GuidedArrival own w
   guided_arrival {own} w F a =
@@ -149,7 +149,7 @@ module _ (rules : List Rule) (T : Saturated) where
         last = q.last;
         arrives = record { run_is = q.run_is; arrives = next_arrives rules T q.last q.formed (ap (next' rules T) q.stands ∙ a.at_end) };
         run = subst₃ (λ (c : Configuration) (ns : List ℕ) (d : Configuration). Run rules c ns d) (erased_at w) (sym q.trace_is) e a.run;
-        in_target_lem = ap (in_target own) (sym e) ∙ a.in_target_lem;
+        in_target_holds = ap (in_target own) (sym e) ∙ a.in_target_holds;
       }
 
 -- The full run of a start marked yes: its cells refer to lower ones, its root has order 2, and the table accepts its stack from its control.

@@ -30,7 +30,7 @@ pub record RunStands (z : Table) (inner entries moves body : List ℕ) (count : 
   pub rules_stand : RulesStand count body
   pub rules_few : count ≤ 256
   pub sizes_lent : k * 2 ≤ length sizes
-  pub cells_lent_lem : most * 68 ≤ length cells
+  pub cells_lent_holds : most * 68 ≤ length cells
   pub cells_few : most ≤ 4096
 
 -- What a report leaves: its reply, and its trace in a slice of so many words.
@@ -44,7 +44,7 @@ counts_in w = record { steps = w.steps; cells = w.cells }
 
 -- The walk is within the lent cells and trace, and the trace is zero from its steps on.
 pub record Walking (most : ℕ) (w : Walk) (trace : List ℕ) : Type 0 where
-  pub cells_lent_lem : w.cells ≤ most
+  pub cells_lent_holds : w.cells ≤ most
   pub steps_lent : w.steps ≤ length trace
   pub rest_zero : drop w.steps trace ≡ zeros (length trace - w.steps)
 

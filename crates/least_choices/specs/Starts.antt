@@ -45,7 +45,7 @@ pub record Prepared (z : Table) (inner entries moves body : List ℕ) (n : ℕ) 
   pub body_lent : n * 6 ≤ length body
   pub formed : Formed (cells_in n body)
   pub rounds_lent : n * 64 ≤ length rounds
-  pub accepted_in_lem : AcceptedIn (automaton_of z inner entries moves) (cells_in n body) rounds n
+  pub accepted_in_holds : AcceptedIn (automaton_of z inner entries moves) (cells_in n body) rounds n
 
 -- the lent cells where cell i, which is c, has its least choices, by the words of the cells to which it refers; a symbol's annotation is of
 -- order k

@@ -32,7 +32,7 @@ fn words_key(m: tables::Move) -> usize
 // Enters move i behind the moves below i.
 fn enter(moves: &[u64], i: usize, states: &mut [u16], words: &mut [u16])
     requires { (i < 1024) × (i * 5 + 5 ≤ length moves.now) × ByState i moves.now states.old × ByWords i moves.now words.old }
-    ensures by_state_lem { ByState (i + 1) moves.now states.new }
+    ensures by_state { ByState (i + 1) moves.now states.new }
     ensures words { ByWords (i + 1) moves.now words.new }
 {
     let m = tables::move_at(moves, i);
@@ -43,7 +43,7 @@ fn enter(moves: &[u64], i: usize, states: &mut [u16], words: &mut [u16])
 // Enters the moves from number `from` up to `to`.
 pub fn extend(moves: &[u64], from: usize, to: usize, states: &mut [u16], words: &mut [u16])
     requires { (from ≤ to) × (to ≤ 1024) × (to * 5 ≤ length moves.now) × ByState from moves.now states.old × ByWords from moves.now words.old }
-    ensures by_state_lem { ByState to moves.now states.new }
+    ensures by_state { ByState to moves.now states.new }
     ensures words { ByWords to moves.now words.new }
 {
     let mut i = from;
@@ -54,7 +54,7 @@ pub fn extend(moves: &[u64], from: usize, to: usize, states: &mut [u16], words: 
 }
 
 // Whether x and y are the same move.
-fn same_move_lem(x: tables::Move, y: tables::Move) -> bool
+fn same_move(x: tables::Move, y: tables::Move) -> bool
     ensures { result ≡ same_move (as_move x) (as_move y) }
 {
     if x.state != y.state {
@@ -80,7 +80,7 @@ pub fn has_move(z: tables::Table, moves: &[u64], words: &[u16], m: tables::Move)
     let mut c = chains::last(words, words_key(m));
     while 0 < c {
         let i = c - 1;
-        if same_move_lem(m, tables::move_at(moves, i)) {
+        if same_move(m, tables::move_at(moves, i)) {
             return true;
         }
         c = chains::before(words, i);

@@ -18,7 +18,7 @@ pub record SettledBy (A : Automaton) (t : Before) (xs : List Result) : Type 0 wh
   pub moves_before : t.moves ≤ length A.moves
   pub entries_before : t.entries ≤ length A.entries
   pub states_before : (i : ℕ) → i < t.moves → (move_at A i).state < A.J + t.entries
-  pub none_before_lem : t.new ≡ true → (t.moves ≡ 0) × (t.entries ≡ 0)
+  pub none_before : t.new ≡ true → (t.moves ≡ 0) × (t.entries ≡ 0)
   pub held_before : t.new ≡ false → AllHeld A xs
 
 -- What the premises from this source gave in the round before is held, and no newer move on the goal's symbol is one of a settled state.

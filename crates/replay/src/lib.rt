@@ -57,7 +57,7 @@ fn start_place(start: &[u8], number: usize, cells: &mut [u8]) -> Place
 }
 
 // What is answered at a place after so many steps, the last of the trace.
-fn answer_at_lem(case: &[u8], cells: &[u8], v: Place, steps: u64) -> Replayed
+fn answer_at(case: &[u8], cells: &[u8], v: Place, steps: u64) -> Replayed
     requires { (case_refusal case.now ≡ 0) × PlaceStands v cells.now × (v.cells ≤ 4096) }
     ensures { result ≡ arrival_answer (in_target (own_of case.now) (place_configuration v cells.now)) steps }
 {
@@ -88,7 +88,7 @@ fn replay_sound(
     let ended = replay_trace::replay_trace(&rules, count, trace, cells, most, w);
     match ended {
         Ended::Answered(r) => r,
-        Ended::At(v) => answer_at_lem(case, cells, v, (trace.len() / Limits::NUMBER_BYTES) as u64),
+        Ended::At(v) => answer_at(case, cells, v, (trace.len() / Limits::NUMBER_BYTES) as u64),
     }
 }
 

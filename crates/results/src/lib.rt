@@ -69,7 +69,7 @@ fn by_entry(
 }
 
 // Collects what the entries of control q give. What the entries below number `first` give is held.
-fn by_entries_lem(
+fn by_entries(
     z: tables::Table,
     entries: &[u64],
     moves: &[u64],
@@ -180,7 +180,7 @@ fn by_use(
                 z, inner, entries, moves, states, words, to, symbols, from, memo, out, n,
             )
         }
-        Use::Entries(k) => by_entries_lem(z, entries, moves, words, to, k, q, old, out, n),
+        Use::Entries(k) => by_entries(z, entries, moves, words, to, k, q, old, out, n),
         Use::Nothing(x) => by_nothing(z, entries, moves, words, to, x, out, n),
     }
 }

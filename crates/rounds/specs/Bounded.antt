@@ -117,12 +117,12 @@ module _ {Q K : ℕ} {A : Automaton} (F : Bounded Q K A) where
   says_bounded ρ (rewrite b) d r h = concluded_bounded r h.concluded (entry_bounded h.premise.entry_is) (move_at_bounded h.move)
   says_bounded ρ (push1 b) d r h =
       let f = move_at_bounded h.move in
-      let start = none_bounded _ (fits_below Q (states A) 1 (move_at A h.move).order h.order_fits_lem f.annotation_below) in
+      let start = none_bounded _ (fits_below Q (states A) 1 (move_at A h.move).order h.order_fits_holds f.annotation_below) in
       concluded_bounded r h.concluded (entry_bounded h.premise.entry_is) (joined_bounded d.moves start h.joined)
   says_bounded ρ (push2 b) d r h =
       let f = move_at_bounded h.move in
       concluded_bounded r h.concluded
-      (all_join (entry_bounded h.premise.entry_is) (fits_below Q (states A) 2 (move_at A h.move).order h.order_fits_lem f.annotation_below))
+      (all_join (entry_bounded h.premise.entry_is) (fits_below Q (states A) 2 (move_at A h.move).order h.order_fits_holds f.annotation_below))
       (joined_bounded d.moves (none_bounded 0 (all_empty _)) h.joined)
   says_bounded ρ copy d r h =
       concluded_bounded r h.concluded

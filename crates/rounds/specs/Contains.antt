@@ -41,4 +41,4 @@ module _ (A C : Automaton) where
     pub final2_in : All A.final2 (Has C.final2)
     pub inner_in : (e : Edge) → Memᴰ e A.inner → Memᴰ e C.inner
     pub entries_in : (e : Entry) → Memᴰ e A.entries → Memᴰ e C.entries
-    pub moves_in_lem : (m : Move) → Memᴰ m A.moves → (n : Move) × Memᴰ n C.moves × SameMove m n
+    pub moves_in_holds : (m : Move) → Memᴰ m A.moves → (n : Move) × Memᴰ n C.moves × SameMove m n

@@ -39,7 +39,7 @@ entries_few {P} {Q} {K} {A} F G =
     (λ i j l m e. F.entry_once i j l m (ap entry_key e))
     (λ e i.
     let s : e.S < 2 ^ Q = all_below Q e.S (G.entry_below e i) in
-    let l : entry_code Q e < P * 2 ^ Q = paired_below P (2 ^ Q) e.control e.S (F.entry_control_lem e i) s in
+    let l : entry_code Q e < P * 2 ^ Q = paired_below P (2 ^ Q) e.control e.S (F.entry_control_holds e i) s in
     (entry_code Q e, below_in (P * 2 ^ Q) (entry_code Q e) l, (s, refl)))
     (λ d e n x y. entry_code_once Q x.0 y.0 (x.1 ∙ sym y.1)))
 

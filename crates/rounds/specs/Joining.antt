@@ -36,14 +36,14 @@ module _ (A C : Automaton) where
   into_forth : {x y k k' : Joins} → Into x k → Into y k' → SameJoins x y
       → All x.B (λ n. (m : ℕ) × Has k'.B m × SameIn A C k.order n m) × All x.R (λ r. (t : ℕ) × Has k'.R t × Same A C r t)
   into_forth {x} {y} {k} {k'} i i' s = (
-    λ n h. let (m, g, z) = s.annotation_same.forth n h in (m, part_has y.B k'.B i'.B-part m g, same_in_fits k.order x.order n m i.order_fits_lem z),
+    λ n h. let (m, g, z) = s.annotation_same.forth n h in (m, part_has y.B k'.B i'.B-part m g, same_in_fits k.order x.order n m i.order_fits_holds z),
     λ r h. let (t, g, z) = s.rest_same.forth r h in (t, part_has y.R k'.R i'.R-part t g, z),
   )
 
   into_back : {x y k : Joins} → Into x k → SameJoins x y
       → All y.B (λ m. (n : ℕ) × Has k.B n × SameIn A C k.order n m) × All y.R (λ t. (r : ℕ) × Has k.R r × Same A C r t)
   into_back {x} {y} {k} i s = (
-    λ m h. let (n, g, z) = s.annotation_same.back m h in (n, part_has x.B k.B i.B-part n g, same_in_fits k.order x.order n m i.order_fits_lem z),
+    λ m h. let (n, g, z) = s.annotation_same.back m h in (n, part_has x.B k.B i.B-part n g, same_in_fits k.order x.order n m i.order_fits_holds z),
     λ t h. let (r, g, z) = s.rest_same.back t h in (r, part_has x.R k.R i.R-part r g, z),
   )
 
@@ -51,8 +51,8 @@ module _ (A C : Automaton) where
     joined_order : Fits k.order k'.order → k'.order ≡ k.order
     joined_order (inr z) = z
     joined_order (inl z) = z ∙ sym (⊎_elim
-        (λ p. p ∙ sym s.order_same ∙ none (join_moves_into j' ns e').0.order_fits_lem)
-        (λ p. let (n, l, t) = c.forth p.0 p.1 in p.2 ∙ sym t.order_same ∙ none ((join_moves_into j' ns e').1 n l).order_fits_lem)
+        (λ p. p ∙ sym s.order_same ∙ none (join_moves_into j' ns e').0.order_fits_holds)
+        (λ p. let (n, l, t) = c.forth p.0 p.1 in p.2 ∙ sym t.order_same ∙ none ((join_moves_into j' ns e').1 n l).order_fits_holds)
         (join_moves_order j ms e))
       where
         none : {o : ℕ} → Fits k'.order o → o ≡ 0
@@ -83,8 +83,8 @@ module _ (A C : Automaton) where
   pub joins_same : {j j' k : Joins} {ms ns : List Move} → SameJoins j j' → SameMoves ms ns → join_moves j ms ≡ some k
       → (k' : Joins) × (join_moves j' ns ≡ some k') × SameJoins k k'
   joins_same {j} {j'} {k} {ms} {ns} s c e = go (join_moves_some k.order j' ns
-      (rw s.order_same (join_moves_into j ms e).0.order_fits_lem)
-      (λ n h. let (m, l, t) = c.back n h in rw t.order_same ((join_moves_into j ms e).1 m l).order_fits_lem))
+      (rw s.order_same (join_moves_into j ms e).0.order_fits_holds)
+      (λ n h. let (m, l, t) = c.back n h in rw t.order_same ((join_moves_into j ms e).1 m l).order_fits_holds))
     where
       go : (k' : Joins) × (join_moves j' ns ≡ some k') × Fits k.order k'.order → (k' : Joins) × (join_moves j' ns ≡ some k') × SameJoins k k'
       go (k', e', f) = (k', e', joined_same s c e e' f)

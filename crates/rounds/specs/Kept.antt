@@ -80,7 +80,7 @@ module _ {P : ℕ} {A : Automaton} (F : TableFacts P A) where
         final1_exists = λ r h. le_trans (F.final1_exists r h) (states_more (with_entry_grows x.control x.S A.entries));
         inner_facts = F.inner_facts;
         inner_rising = F.inner_rising;
-        entry_control_lem = λ e j. ⊎_elim (λ i. F.entry_control_lem e i) (λ z. rw z f.control_exists) (with_entry_out x.control x.S A.entries j);
+        entry_control_holds = λ e j. ⊎_elim (λ i. F.entry_control_holds e i) (λ z. rw z f.control_exists) (with_entry_out x.control x.S A.entries j);
         entry_once = with_entry_once x.control x.S A.entries F.entry_once;
         move_facts = λ m j. ⊎_elim
             (λ i. move_facts_more (states_more (with_entry_grows x.control x.S A.entries)) (F.move_facts m i))

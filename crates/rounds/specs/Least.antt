@@ -77,8 +77,8 @@ module _ {A D : Automaton} (c : Contains A D) (x : Result) (l : LikeHeld A D x) 
         entries_in = λ e j. ⊎_elim (c.entries_in e)
             (λ z. let (n, q, g) = entry_at_some D like.state like_entry in Memᴰ.cast z (get_elem?_in D.entries n g))
             (with_entry_out x.control x.S A.entries j);
-        moves_in_lem = λ m j. ⊎_elim
-            (λ i. let (n, k, s) = c.moves_in_lem m i in (n, k, same_move_kept (add_extends A x) (extends_refl D) s))
+        moves_in_holds = λ m j. ⊎_elim
+            (λ i. let (n, k, s) = c.moves_in_holds m i in (n, k, same_move_kept (add_extends A x) (extends_refl D) s))
             (λ i. (like, move_at_in D l.number l.stands.move.below, subst (λ (w : Move). SameMove (add A x) D w like) (sym (Memᴰ.eq_of_singleton i)) new_move_same))
             (Memᴰ.append_cases A.moves j);
       }

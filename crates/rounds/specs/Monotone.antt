@@ -66,7 +66,7 @@ module _ {A C : Automaton} (c : Contains A C) {P : ℕ} (F : TableFacts P A) (on
   push_same k b start set starts sets {d} h =
       let (i, p, t) = entry_move_same c h.premise in
       let (ns, qs, ms) = reading_same c F.entry_once onceC t.rest_same h.reading in
-      let (j, e, s) = joins_same A C (starts (move_at A h.move) (move_at C i) t h.order_fits_lem) ms h.joined in
+      let (j, e, s) = joins_same A C (starts (move_at A h.move) (move_at C i) t h.order_fits_holds) ms h.joined in
       record {
         derivation = conclusion n ρ (i ∷ []) [] ns (set h.S (move_at C i)) j;
         rule_is = refl;
@@ -74,13 +74,13 @@ module _ {A C : Automaton} (c : Contains A C) {P : ℕ} (F : TableFacts P A) (on
           move = i;
           S = h.S;
           premise = p;
-          order_fits_lem = rw t.order_same h.order_fits_lem;
+          order_fits_holds = rw t.order_same h.order_fits_holds;
           reading = qs;
           joins = j;
           joined = e;
           concluded = concludes n ρ (i ∷ []) [] ns (set h.S (move_at C i)) j;
         };
-        same = concluded_same (set h.S (move_at C i)) h.concluded s (sets h.S (move_at A h.move) (move_at C i) t h.order_fits_lem);
+        same = concluded_same (set h.S (move_at C i)) h.concluded s (sets h.S (move_at A h.move) (move_at C i) t h.order_fits_holds);
       }
 
   copy_same : {d : Derivation} → ByCopy A ρ d → Like (ByCopy C ρ) d.result

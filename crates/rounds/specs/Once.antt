@@ -157,7 +157,7 @@ module _ {A C : Automaton} (once : Once A.entries) where
   pub contains_moves : MovesOnce A → Contains A C → length A.moves ≤ length C.moves
   unfolding move_at
   contains_moves moves_once c =
-      once_shorter (SameMove A C) no_move A.moves C.moves moves_once c.moves_in_lem (same_move_injective A C c.same_J once)
+      once_shorter (SameMove A C) no_move A.moves C.moves moves_once c.moves_in_holds (same_move_injective A C c.same_J once)
 
   -- so it keeps the limits that such an automaton keeps
   pub within_contained : (lent : Size) → MovesOnce A → Contains A C → within lent C ≡ true → within lent A ≡ true

@@ -22,7 +22,7 @@ module _ {A C : Automaton} (c : Contains A C) where
   -- each move has its like
   pub move_same : (i : ℕ) → i < length A.moves → (n : ℕ) × (n < length C.moves) × SameMove A C (move_at A i) (move_at C n)
   move_same i l =
-      let (m, j, s) = c.moves_in_lem (move_at A i) (move_at_in A i l) in
+      let (m, j, s) = c.moves_in_holds (move_at A i) (move_at_in A i l) in
       let (n, h, e) = in_move_at C j in
       (n, h, rw e s)
 
@@ -35,7 +35,7 @@ module _ {A C : Automaton} (c : Contains A C) where
 
     -- move n of C is a move of s on a, and the like of one of these moves of A
     record LikeReading (a : ℕ) (ms : List ℕ) (s n : ℕ) : Type 0 where
-      move_of_lem : MoveOf C a s n
+      move_of_holds : MoveOf C a s n
       number : ℕ
       there : Memᴰ number ms
       same : SameMove A C (move_at A number) (move_at C n)
@@ -51,7 +51,7 @@ module _ {A C : Automaton} (c : Contains A C) where
             let (r, l, x) = paired_state ps k in
             let (s, h, t) = z.forth r (in_has R l) in
             let (n, g, y) = paired_number qs (has_in h) in
-            let u : Same A C (move_at A y.number).state s = subst (Same A C (move_at A y.number).state) y.move_of_lem.state_is y.same.state_same in
+            let u : Same A C (move_at A y.number).state s = subst (Same A C (move_at A y.number).state) y.move_of_holds.state_is y.same.state_same in
             let q : y.number ≡ i = paired_once (λ i. (move_at A i).state) (λ r i x. x.state_is) ps (members_rising R) y.there k
             (same_injective c.same_J onceA u t ∙ sym x.state_is) in
             (move_at C n, mathlib.Core.List.Memᴰ.map (λ i. move_at C i) g, subst (λ (w : Move). SameMove A C w (move_at C n)) (ap (move_at A) q ∙ e) y.same)
@@ -71,11 +71,11 @@ module _ {A C : Automaton} (c : Contains A C) where
             let (r, h, t) = z.back s (in_has R' j) in
             let (i, k, x) = paired_number ps (has_in h) in
             let (n, y, m) = move_of_same t x in
-            (n, record { move_of_lem = y; number = i; there = k; same = m })
+            (n, record { move_of_holds = y; number = i; there = k; same = m })
 
         go : (ns : List ℕ) × Paired (LikeReading a ms) (members R') ns
             → (ns : List ℕ) × Paired (MoveOf C a) (members R') ns × SameMoves A C (map (λ i. move_at A i) ms) (map (λ i. move_at C i) ns)
-        go (ns, qs) = (ns, paired_map (λ s n y. y.move_of_lem) qs, like_moves z ps qs)
+        go (ns, qs) = (ns, paired_map (λ s n y. y.move_of_holds) qs, like_moves z ps qs)
 
 -- ---- entries and edges
 

@@ -26,7 +26,7 @@ round_before z = record { new = false; moves = z.moves; entries = z.entries; set
 pub record Prepared (rules : List Rule) (inner : List ℕ) (z : Table) (entries moves : List ℕ) (t : Before) (states words memo : List ℕ) : Type 0 where
   pub states_exist : StatesExist (automaton_of z inner entries moves)
   pub settled : SettledBy (automaton_of z inner entries moves) t (results rules (table_before t (automaton_of z inner entries moves)))
-  pub by_state_lem : ByState t.moves moves states
+  pub by_state : ByState t.moves moves states
   pub by_words : ByWords t.moves moves words
   pub memo_before : MemoBefore z.moves memo
   pub none_settled : t.settled ≡ 0

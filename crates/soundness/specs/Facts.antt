@@ -17,7 +17,7 @@ pub record SaturatedFacts (P : ℕ) (own : Automaton) (rules : List Rule) (T : S
   pub table : TableFacts P T.table
   pub extends : Extends own T.table
   pub rule_facts : (ρ : Rule) → Memᴰ ρ rules → RuleFacts P ρ
-  pub own_moves_lem : own_moves T.sizes ≡ length own.moves
+  pub own_moves_holds : own_moves T.sizes ≡ length own.moves
   pub later_entry : (i : ℕ) → length own.moves ≤ i → i < length T.table.moves → T.table.J ≤ (move_at T.table i).state
   pub derived : (i : ℕ) → length own.moves ≤ i → i < length T.table.moves
       → (d : Derivation) × (first_derivation (before T i) rules (result_of T.table (move_at T.table i)) ≡ some d)

@@ -73,7 +73,7 @@ module _ {P : ℕ} {own : Automaton} {rules : List Rule} {T : Saturated} (F : Sa
         let i = into n c.1 in
         let m : Move = move_at T.table n in
         good n c.1 r ρ.symbol u s (chooses_all rs d.moves) c.0
-        (ok_annotation_part F m.order m.B i.order_fits_lem i.B-part x) (all_part m.R k.R i.R-part y) refl
+        (ok_annotation_part F m.order m.B i.order_fits_holds i.B-part x) (all_part m.R k.R i.R-part y) refl
 
     -- the result's joins
     joined_annotation : {es ms ps : List ℕ} {S : ℕ} {j : Joins} → Concludes ρ ps es ms S j d → OkAnnotation F j.order j.B u
@@ -120,7 +120,7 @@ module _ {P : ℕ} {own : Automaton} {rules : List Rule} {T : Saturated} (F : Sa
         let m : Move = move_at T.table h.move in
         let into = join_all_into T.table (record { order = 0; B = 0; R = m.B }) d.moves h.joined in
         let fits : OkAnnotation F m.order m.B (of1' s) =
-        ⊎_elim any (λ e. one e (all_part m.B h.joins.R into.0.R-part (joined_rest c))) h.order_fits_lem in
+        ⊎_elim any (λ e. one e (all_part m.B h.joins.R into.0.R-part (joined_rest c))) h.order_fits_holds in
         (_, refl, pushed h good (of1' s) fits (joined_under c))
 
     -- the new annotation is t, and the premise's B is a part of S
@@ -130,7 +130,7 @@ module _ {P : ℕ} {own : Automaton} {rules : List Rule} {T : Saturated} (F : Sa
         let c = h.concluded in
         let m : Move = move_at T.table h.move in
         let fits : OkAnnotation F m.order m.B (of2' t) =
-        ⊎_elim any (λ e. two e (all_right h.S m.B (joined_under c))) h.order_fits_lem in
+        ⊎_elim any (λ e. two e (all_right h.S m.B (joined_under c))) h.order_fits_holds in
         (_, refl, pushed h good (of2' t) fits (all_left h.S m.B (joined_under c)))
 
     -- The lower copy is right for each order-1 state that the edges name, and each edge's set is a part of S. So the cell that chooses
@@ -152,7 +152,7 @@ module _ {P : ℕ} {own : Automaton} {rules : List Rule} {T : Saturated} (F : Sa
         edge_ok F w t g e.0 refl (cell (edge_at A (g q)).first (has_in (named_in A e.1)))
         (all_part (edge_at A (g q)).S (edge_sets A d.edges) (edge_sets_part A e.1) (joined_under c)) in
         let goes = enter u s (cons2' w t g) (good h.move (Memᴰ.append_left d.moves (premise_in_lem c.premise_is))) c.premise_is h.premise
-        (ok_annotation_part F m.order m.B into.0.order_fits_lem into.0.B-part (joined_annotation c))
+        (ok_annotation_part F m.order m.B into.0.order_fits_holds into.0.B-part (joined_annotation c))
         (all_part m.R h.joins.R into.0.R-part (joined_rest c)) lower in
         let sets : entry_set A (move_at A (premise A d ρ.next)).state ≡ h.S =
         ap (λ (n : ℕ). entry_set A (move_at A n).state) (premise_is A d ρ.next c.premise_is) ∙ entry_move_set A h.premise in

@@ -78,7 +78,7 @@ module _ {P : ℕ} {own : Automaton} {rules : List Rule} {T : Saturated} (F : Sa
         let under : All d.result.S (λ q. Ok2 F q t) = subst (λ (m : ℕ). All m (λ q. Ok2 F q t)) (sym set) z in
         let exists = (F.rule_facts ρ (get_elem?_in rules d.rule from.numbered)).next_exists in
         let v = left F d ρ exists u s t annotation rest under o from.says (λ j l. below j (from.uses_smaller j l)) in
-        let own_moves_lem = F.own_moves_lem in
+        let own_moves_holds = F.own_moves_holds in
         let late : own_moves T.sizes ≤ n = omega arith in
         arrives_onward own rules T p a u s f t g d ρ v.0 late
         (ap (λ (m : ℕ). first_derivation (before T m) rules (result_of T.table (move_at T.table m))) c ∙ first)

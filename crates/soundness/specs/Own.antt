@@ -81,7 +81,7 @@ module _ {P : ℕ} {own : Automaton} {rules : List Rule} {T : Saturated} (F : Sa
   own_arrives p S e i a u s f t g l h k x y z c =
       let b : i < length own.moves = l in
       let n : f (edge_at table (g p)).first < length own.moves = omega arith in
-      here (next_arrived own rules T p a u s f t g (rw F.own_moves_lem n)) (accepts2_in own (cons2 (cons1 a (erase_annotation u) (erase1 s)) (erase2 t)) p accepted)
+      here (next_arrived own rules T p a u s f t g (rw F.own_moves_holds n)) (accepts2_in own (cons2 (cons1 a (erase_annotation u) (erase1 s)) (erase2 t)) p accepted)
     where
       E : EntryIs own p S e
       E =
@@ -149,7 +149,7 @@ module _ {P : ℕ} {own : Automaton} {rules : List Rule} {T : Saturated} (F : Sa
 
       by_entry_lem : P ≤ q → (e : ℕ) × (e < length table.entries) × (n ≡ entry_edge table e) → Accepts2 own (erase2 (cons2' w t g)) q
       by_entry_lem l r =
-          let k = F.table.entry_control_lem (get_or table.entries r.0 no_entry) (get_or_in table.entries r.0 no_entry r.1) in
+          let k = F.table.entry_control_holds (get_or table.entries r.0 no_entry) (get_or_in table.entries r.0 no_entry r.1) in
           let x = entry_edge_lem table (record { below = r.1; control_is = refl; set_is = refl }) in
           let s : (get_or table.entries r.0 no_entry).control ≡ q =
           sym x.edge.state_is ∙ ap (λ (m : ℕ). (edge_at table m).state) (sym r.2) ∙ h.state_is in

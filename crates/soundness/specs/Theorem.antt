@@ -98,11 +98,11 @@ module _ (rules : List Rule) (T : Saturated) (own : Automaton) where
     pub reached : walk_after rules T steps w ≡ some last
     pub at_end : next rules T last ≡ arrived
     pub run : Run rules (erased w) (trace_after rules T steps w) (erased last)
-    pub in_target_lem : in_target own (erased last) ≡ true
+    pub in_target_holds : in_target own (erased last) ≡ true
 
   pub arrival : {w : DecoratedWalk} → Arrives rules T own w → Arrival w
   unfolding walk_after trace_after
-  arrival (here {w = w} e t) = record { steps = 0; last = w; reached = refl; at_end = e; run = stay; in_target_lem = t }
+  arrival (here {w = w} e t) = record { steps = 0; last = w; reached = refl; at_end = e; run = stay; in_target_holds = t }
   arrival (onward {w = w} {v = v} {n = n} ρ e k s r) =
       let a = arrival r in
       record {
@@ -111,7 +111,7 @@ module _ (rules : List Rule) (T : Saturated) (own : Automaton) where
         reached = rw (walk_after, e) a.reached;
         at_end = a.at_end;
         run = rw (trace_after, e) (go ρ k s a.run);
-        in_target_lem = a.in_target_lem;
+        in_target_holds = a.in_target_holds;
       }
 
 module _ {P : ℕ} {own : Automaton} {rules : List Rule} {T : Saturated} (F : SaturatedFacts P own rules T) (c : Configuration)
@@ -127,7 +127,7 @@ module _ {P : ℕ} {own : Automaton} {rules : List Rule} {T : Saturated} (F : Sa
       (λ t.
       let a = guided_arrives (ltb-true _ _ t) in
       let ns : List ℕ = trace_after rules T a.steps (decorated T.table c) in
-      (ns, erased a.last, subst (λ (x : Configuration). Run rules x ns (erased a.last)) (erased_decorated T.table c) a.run, a.in_target_lem))
+      (ns, erased a.last, subst (λ (x : Configuration). Run rules x ns (erased a.last)) (erased_decorated T.table c) a.run, a.in_target_holds))
       (λ t.
       let k = (accepts_ok2 F c.stack c.control (accepts2_out T.table c.stack c.control h)).inner (ltb-false _ _ t) in
       ([], c, stay, accepts2_in own c.stack c.control (rw (erase_decorate2 T.table c.stack) at k)))

@@ -47,7 +47,7 @@ fn starts_right(controls: u64, body: &[u8], m: usize, cells: &[u8], n: usize) ->
 }
 
 // Every cell of the body keeps its bounds, where there are so many symbols.
-fn cells_right_lem(symbols: u64, cells: &[u8], n: usize) -> bool
+fn cells_right(symbols: u64, cells: &[u8], n: usize) -> bool
     requires { (n * 6 ≤ length cells.now) × (n ≤ 256) }
     ensures { result ≡ cells_right symbols (map cell_bytes (records n 6 cells.now)) 0 (map cell_bytes (records n 6 cells.now)) }
 {
@@ -94,7 +94,7 @@ fn file_cells_right(symbols: u64, file: &[u8]) -> bool
     requires { start_placed file.now ≡ true }
     ensures { result ≡ cells_right symbols (cell_records file.now) 0 (cell_records file.now) }
 {
-    cells_right_lem(
+    cells_right(
         symbols,
         cell_body(file),
         bytes_in::count_of(file, Limits::CELL_BODY),

@@ -209,7 +209,7 @@ pub fn cell_right(symbols: u64, body: &[u8], n: usize, x: Fields) -> bool
 }
 
 // The start names a control, of which there are so many, and one of the n cells, of order 2.
-pub fn start_right_lem(controls: u64, body: &[u8], n: usize, x: Start) -> bool
+pub fn start_right(controls: u64, body: &[u8], n: usize, x: Start) -> bool
     requires { (n * 6 ≤ length body.now) × (n ≤ 256) }
     ensures { result ≡ start_right controls (map cell_bytes (records n 6 body.now)) (the_start x) }
 {

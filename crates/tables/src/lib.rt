@@ -205,7 +205,7 @@ fn words_before(x: &[u64], y: &[u64]) -> bool
 }
 
 // The words of row i, where a row has so many.
-fn row_words_lem(t: &[u64], width: usize, i: usize) -> &[u64]
+fn row_words(t: &[u64], width: usize, i: usize) -> &[u64]
     requires { i * width + width ≤ length t.now }
     ensures { result.now ≡ row_words width t.now i }
 {
@@ -221,7 +221,7 @@ fn place(t: &[u64], n: usize, x: &[u64]) -> usize
 {
     let mut i: usize = 0;
     while i < n {
-        if !words_before(row_words_lem(t, x.len(), i), x) {
+        if !words_before(row_words(t, x.len(), i), x) {
             return i;
         }
         i += 1;
@@ -237,7 +237,7 @@ fn holds(t: &[u64], n: usize, i: usize, x: &[u64]) -> bool
     if n <= i {
         return false;
     }
-    !words_before(x, row_words_lem(t, x.len(), i))
+    !words_before(x, row_words(t, x.len(), i))
 }
 
 // Moves the words from `at` up to `end` so many places further.

@@ -93,7 +93,7 @@ module _ (x : Lent) (rounds : ℕ) (sound : case_refusal x.case ≡ 0) {T : Satu
       record {
         states_few = few;
         inner_small = λ e j. let f : e.first < T.table.J = (table_facts.inner_facts e j).to_inner in (inner_exists e j, omega arith);
-        controls_small = λ e j. let l : e.control < (head x.case).P = table_facts.entry_control_lem e j in omega arith;
+        controls_small = λ e j. let l : e.control < (head x.case).P = table_facts.entry_control_holds e j in omega arith;
         states_small = λ m j. let l : m.state < T.table.J + length T.table.entries = (table_facts.move_facts m j).state_exists in omega arith;
         final1_small = λ r i. let l : r < T.table.J + length T.table.entries = table_facts.final1_exists r i in omega arith;
         final2_small = λ q i.

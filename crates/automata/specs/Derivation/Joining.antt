@@ -85,17 +85,17 @@ join_moves_keeps X j (m ∷ ms) h x f =
 
 -- x is a part of the joins k
 pub record Into (x k : Joins) : Type 0 where
-  pub order_fits_lem : Fits k.order x.order
+  pub order_fits_holds : Fits k.order x.order
   pub B-part : part_of x.B k.B ≡ true
   pub R-part : part_of x.R k.R ≡ true
 
 pub into_self : (x : Joins) → Into x x
-into_self x = record { order_fits_lem = inr refl; B-part = part_refl x.B; R-part = part_refl x.R }
+into_self x = record { order_fits_holds = inr refl; B-part = part_refl x.B; R-part = part_refl x.R }
 
 pub into_trans : {x y z : Joins} → Into x y → Into y z → Into x z
 into_trans {x} {y} {z} a b =
     record {
-      order_fits_lem = ⊎_elim inl (λ e. ⊎_map (λ f. e ∙ f) (λ f. e ∙ f) b.order_fits_lem) a.order_fits_lem;
+      order_fits_holds = ⊎_elim inl (λ e. ⊎_map (λ f. e ∙ f) (λ f. e ∙ f) b.order_fits_holds) a.order_fits_holds;
       B-part = part_trans x.B y.B z.B a.B-part b.B-part;
       R-part = part_trans x.R y.R z.R a.R-part b.R-part;
     }
@@ -103,8 +103,8 @@ into_trans {x} {y} {z} a b =
 pub both_into : (j : Joins) (m : Move) → clash j.order m.order ≡ false → Into j (both j m) × Into (joins_of m) (both j m)
 both_into j m e =
     let f = clash_fits j.order m.order e in (
-      record { order_fits_lem = f.0; B-part = part_join_left j.B m.B; R-part = part_join_left j.R m.R },
-      record { order_fits_lem = f.1; B-part = part_join_right j.B m.B; R-part = part_join_right j.R m.R },
+      record { order_fits_holds = f.0; B-part = part_join_left j.B m.B; R-part = part_join_left j.R m.R },
+      record { order_fits_holds = f.1; B-part = part_join_right j.B m.B; R-part = part_join_right j.R m.R },
     )
 
 -- what is joined is a part of the joins

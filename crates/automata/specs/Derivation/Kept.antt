@@ -62,7 +62,7 @@ module _ {own A : Automaton} (x : Extends own A) (ρ : Rule) (d : Derivation) wh
         move = h.move;
         S = h.S;
         premise = entry_move_kept x h.premise;
-        order_fits_lem = rw e h.order_fits_lem;
+        order_fits_holds = rw e h.order_fits_holds;
         reading = rw e (reading_kept h.reading);
         joins = h.joins;
         joined = rw e (join_all_kept x (start (move_at own h.move)) d.moves (reading_below h.reading) ∙ h.joined);

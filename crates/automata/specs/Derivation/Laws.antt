@@ -76,7 +76,7 @@ module _ (A : Automaton) (ρ : Rule) where
     pub move : ℕ
     pub S : ℕ
     pub premise : EntryMove A ρ.next S b move
-    pub order_fits_lem : ((move_at A move).order ≡ 0) ⊎ ((move_at A move).order ≡ k)
+    pub order_fits_holds : ((move_at A move).order ≡ 0) ⊎ ((move_at A move).order ≡ k)
     pub reading : Paired (MoveOf A ρ.symbol) (members (move_at A move).R) d.moves
     pub joins : Joins
     pub joined : join_all A (start (move_at A move)) d.moves ≡ some joins
@@ -185,7 +185,7 @@ module _ (A : Automaton) (n : ℕ) (ρ : Rule) where
           move = i;
           S = entry_set A (move_at A i).state;
           premise = control_moves_out A ρ.next b z;
-          order_fits_lem = ⊎_map (eqb-true _ _) (eqb-true _ _) (or_cases (eqb (move_at A i).order 0) _ w.0);
+          order_fits_holds = ⊎_map (eqb-true _ _) (eqb-true _ _) (or_cases (eqb (move_at A i).order 0) _ w.0);
           reading = readings_out A ρ.symbol (move_at A i).R y;
           joins = x;
           joined = e;
@@ -239,7 +239,7 @@ module _ (A : Automaton) (n : ℕ) (ρ : Rule) where
       let fits : eqb m.order 0 || eqb m.order k ≡ true = ⊎_elim
       (λ z. ap (λ (t : Bool). t || eqb m.order k) (eq-eqb _ _ z))
       (λ z. ap (λ (t : Bool). eqb m.order 0 || t) (eq-eqb _ _ z) ∙ or-true (eqb m.order 0))
-      h.order_fits_lem in
+      h.order_fits_holds in
       each_in _ (control_moves_in A h.premise) (when_in (eqb m.order 0 || eqb m.order k) fits
       (each_in _ (readings_in A m.R h.reading) (rw (entry_move_set A h.premise) (concluded_in _ e h.joined h.concluded))))
 

@@ -31,7 +31,7 @@ use Rattle.stack_text.specs.Cells.{CellsStand, stack_in}
 use Rattle.sound_files.specs.Refusal.{FilesSound, first_of, number_refusal}
 use Rattle.sound_files.specs.Refusal.Laws.{first_stays, first_passes, tests_first, sound_before, not_past}
 use Rattle.sound_files.specs.Sound.{StartSound}
-use Rattle.sound_files.specs.Sound.Laws.{cells_count, cells_lent_lem}
+use Rattle.sound_files.specs.Sound.Laws.{cells_count, cells_lent_holds}
 use Rattle.sound_files.specs.Sound.Rounds.{cells_are, cells_formed, start_read, start_listed}
 use Rattle.brackets.specs.Service.{brackets_input, brackets_done}
 
@@ -40,7 +40,7 @@ use Rattle.brackets.specs.Service.{brackets_input, brackets_done}
 module _ (file : List ℕ) (sound : StartSound file) {i : ℕ} (there : i < length (starts_of file)) {starts cells : List ℕ} {x : Start} {n : ℕ}
     (s : starts ≡ body_of file 0 3) (e : x ≡ start_of (record_at 3 i starts)) (b : cells ≡ body_of file 1 6) (count : n ≡ count_of file 1) where
   pub cells_stand : CellsStand n cells
-  cells_stand = record { room = (cells_lent_lem file sound.in_place {words = 256} count b (omega arith)).0; formed = cells_formed file b count sound }
+  cells_stand = record { room = (cells_lent_holds file sound.in_place {words = 256} count b (omega arith)).0; formed = cells_formed file b count sound }
 
   is : x ≡ start_at file i
   is = start_read file i there s e

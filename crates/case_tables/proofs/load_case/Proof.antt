@@ -83,15 +83,15 @@ returns : tie.Need-returns
 returns c =
     let the-head = c.before.before.before.before.before.before.before.before.before.before.before.before.before.before.before.before.before.before.before.before.before.before.before.head_of.ensures in
     let IsEdge-count = c.before.before.before.before.before.before.before.before.before.before.before.before.before.before.before.before.before.before.before.before.before.before.count_of.ensures.0 in
-    let move_count_lem = c.before.before.before.before.before.before.before.before.before.before.before.before.before.before.before.before.before.before.before.before.before.count-of2.ensures.0 in
+    let move_count_holds = c.before.before.before.before.before.before.before.before.before.before.before.before.before.before.before.before.before.before.before.before.before.count-of2.ensures.0 in
     let i : HoldsOwn edge_row (own_of c.before.before.before.before.before.before.before.before.before.before.before.before.before.before.before.before.before.before.before.before.before.before.before.before.before.before.before.before.args.file.now).inner c.before.before.before.before.before.before.before.before.before.before.before.before.before.before.before.before.before.before.before.before.before.before.before.before.before.before.before.before.args.inner.now _ _ =
     holds_inner _ _ _ _ _ _ _ the-head c.before.before.before.before.before.before.before.before.before.before.before.before.before.before.before.before.before.before.before.before.edge-body.ensures IsEdge-count c.before.before.before.before.before.before.before.before.before.before.before.before.before.before.before.before.before.before.load-inner.ensures.0 c.before.before.before.before.before.before.before.before.before.before.before.before.before.before.before.before.before.before.load-inner.ensures.1.0 c.before.before.before.before.before.before.before.before.before.before.before.before.before.before.before.before.before.before.load-inner.ensures.1.1 c.before.before.before.before.before.before.before.before.before.before.before.before.before.before.before.before.before.before.before.before.before.before.before.before.before.before.before.before.requires.1.inner_room in
     let known : HoldsOwn entry_row (own_of c.before.before.before.before.before.before.before.before.before.before.before.before.before.before.before.before.before.before.before.before.before.before.before.before.before.before.before.before.args.file.now).entries c.before.before.before.before.before.before.before.before.before.before.before.before.before.before.before.before.before.before.before.before.before.before.before.before.before.before.before.before.args.entries.now _ _ =
     holds_entries _ _ _ _ _ _ _ the-head c.before.before.before.before.before.before.before.before.before.before.before.before.before.before.before.edge-body2.ensures IsEdge-count c.before.before.before.before.before.before.before.before.before.before.before.before.before.load-entries.ensures.0 c.before.before.before.before.before.before.before.before.before.before.before.before.before.load-entries.ensures.1 c.before.before.before.before.before.before.before.before.before.before.before.before.before.before.before.before.before.before.before.before.before.before.before.before.before.before.before.before.requires.1.entry_room in
     let e : HoldsOwn counted_row (counted (own_of c.before.before.before.before.before.before.before.before.before.before.before.before.before.before.before.before.before.before.before.before.before.before.before.before.before.before.before.before.args.file.now)) c.before.before.before.before.before.before.before.before.before.before.before.before.before.before.before.before.before.before.before.before.before.before.before.before.before.before.before.before.args.entries.now _ _ =
-    holds_counted _ _ _ _ _ _ _ _ the-head c.before.before.before.before.before.before.before.before.before.before.move-body.ensures move_count_lem known c.before.before.before.before.before.before.before.Load-Moves.ensures.1 in
+    holds_counted _ _ _ _ _ _ _ _ the-head c.before.before.before.before.before.before.before.before.before.before.move-body.ensures move_count_holds known c.before.before.before.before.before.before.before.Load-Moves.ensures.1 in
     let m : HoldsOwn move_row (own_of c.before.before.before.before.before.before.before.before.before.before.before.before.before.before.before.before.before.before.before.before.before.before.before.before.before.before.before.before.args.file.now).moves c.before.before.before.before.before.before.before.before.before.before.before.before.before.before.before.before.before.before.before.before.before.before.before.before.before.before.before.before.args.moves.now _ _ =
-    holds_moves _ _ _ _ _ c.before.before.before.before.before.before.before.before.before.before.move-body.ensures move_count_lem c.before.before.before.before.before.before.before.Load-Moves.ensures.0 c.before.before.before.before.before.before.before.before.before.before.before.before.before.before.before.before.before.before.before.before.before.before.before.before.before.before.before.before.requires.1.move_room in
+    holds_moves _ _ _ _ _ c.before.before.before.before.before.before.before.before.before.before.move-body.ensures move_count_holds c.before.before.before.before.before.before.before.Load-Moves.ensures.0 c.before.before.before.before.before.before.before.before.before.before.before.before.before.before.before.before.before.before.before.before.before.before.before.before.before.before.before.before.requires.1.move_room in
     let finals = own_finals _ _ _ _ c.before.before.edge-body3.ensures IsEdge-count c.before.final-entries.ensures c.join.ensures in
     (own_loaded _ _ _ _ _ _ _ _ _ the-head refl finals refl i e m, (i.is, (e.is, (m.is, own_counted _ _ _ _ _ _ _ _ _ the-head refl e m))))
 

@@ -41,10 +41,10 @@ pub own_entries : (file body : List ℕ) (n : ℕ) (h : Head) → h ≡ head fil
 unfolding own_of
 own_entries file body n h g e f = ap₂ entries_of g (edges_here file body n e f)
 
-pub own_moves_lem : (file body : List ℕ) (n : ℕ) → body ≡ body_of file 3 19 → n ≡ count_of file 3
+pub own_moves_holds : (file body : List ℕ) (n : ℕ) → body ≡ body_of file 3 19 → n ≡ count_of file 3
     → map move_of (records n 19 body) ≡ (own_of file).moves
 unfolding own_of move_records
-own_moves_lem file body n e f = ap (map move_of) (records_here file 3 19 body n e f)
+own_moves_holds file body n e f = ap (map move_of) (records_here file 3 19 body n e f)
 
 -- the final states of order 1
 pub own_finals : (file body : List ℕ) (n : ℕ) (h : Head) {s f : ℕ} → body ≡ body_of file 2 4 → n ≡ count_of file 2
@@ -132,7 +132,7 @@ holds_entries file body e₀ e n k h g d f p q r =
 pub holds_moves : (file body m₀ m : List ℕ) (n : ℕ) → body ≡ body_of file 3 19 → n ≡ count_of file 3
     → m ≡ written move_row m₀ 0 (map move_of (records n 19 body)) → count_of file 3 * 5 ≤ length m₀ → HoldsOwn move_row (own_of file).moves m₀ m n
 holds_moves file body m₀ m n e f p r =
-    record { is = p ∙ ap (written move_row m₀ 0) (own_moves_lem file body n e f); count = f ∙ sym (length_moves file); room = omega arith }
+    record { is = p ∙ ap (written move_row m₀ 0) (own_moves_holds file body n e f); count = f ∙ sym (length_moves file); room = omega arith }
 
 -- what is asked of the entries before the moves are counted
 pub entries_ready : (file e₀ e : List ℕ) (k J : ℕ) → HoldsOwn entry_row (own_of file).entries e₀ e k → (k * entry_width ≤ length e) × CountsAre J k e []
@@ -151,7 +151,7 @@ holds_counted file body e₀ e₁ e n k h g b f old p =
     let l : List Counted = counted (own_of file) in
     let es : List Entry = (own_of file).entries in
     let is : e ≡ written counted_row e₁ 0 l =
-    p ∙ (λ i. written counted_row e₁ 0 (with_counts (own_moves_lem file body n b f i) (g i).J (holds_rows entry_row es e₀ e₁ k old i))) in
+    p ∙ (λ i. written counted_row e₁ 0 (with_counts (own_moves_holds file body n b f i) (g i).J (holds_rows entry_row es e₀ e₁ k old i))) in
     let len : length l ≡ length es = length_with_counts (own_of file).moves (own_of file).J es in
     let count : k ≡ length es = old.count in
     let room : k * entry_width ≤ length e₀ = old.room in

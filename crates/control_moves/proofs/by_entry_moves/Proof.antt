@@ -42,11 +42,11 @@ state-key-requires : tie.Need-state-key-requires invariant-loop decreases-loop
 state-key-requires c κs = search rules
 
 last-requires : tie.Need-last-requires invariant-loop decreases-loop
-last-requires c κs = (c.before.before.before.before.before.before.before.before.before.before.before.before.before.requires.0.moves_indexed.by_state_lem.long, c.state-key.ensures.1)
+last-requires c κs = (c.before.before.before.before.before.before.before.before.before.before.before.before.before.requires.0.moves_indexed.by_state.long, c.state-key.ensures.1)
 
 loop-holds : tie.Need-loop-init invariant-loop decreases-loop
 loop-holds c =
-    let first = c.last.ensures _ _ c.before.before.before.before.before.before.before.before.before.before.before.before.before.before.requires.0.moves_indexed.by_state_lem ∙ ap (λ key. last_below (state_key_at c.before.before.before.before.before.before.before.before.before.before.before.before.before.before.args.moves.now) key c.before.before.before.before.before.before.before.before.before.before.before.before.before.before.args.z.moves) c.before.state-key.ensures.0 in
+    let first = c.last.ensures _ _ c.before.before.before.before.before.before.before.before.before.before.before.before.before.before.requires.0.moves_indexed.by_state ∙ ap (λ key. last_below (state_key_at c.before.before.before.before.before.before.before.before.before.before.before.before.before.before.args.moves.now) key c.before.before.before.before.before.before.before.before.before.before.before.before.before.before.args.z.moves) c.before.state-key.ensures.0 in
     let chain = chain_starts c.before.before.before.before.before.before.before.before.before.before.before.before.before.before.args.moves.now _ _ _ first in
     (chain.0, chain.1, walk_none c.before.before.before.before.before.before.before.before.before.before.before.before.before.before.args.z _ _ _ _ _ _ _ _ _ _ _ _ _ c.before.before.before.before.before.before.before.before.before.before.before.before.before.before.requires.1.stands.number first, refl, c.before.before.before.before.before.before.before.before.before.before.before.before.before.before.requires.1.memo_holds, refl)
 
@@ -65,13 +65,13 @@ by-move-requires c κs = (
 )
 
 before-requires : tie.Need-before-requires invariant-loop decreases-loop
-before-requires c κs = (c.before.before.before.before.before.before.before.before.before.before.before.before.before.before.before.before.before.before.before.before.before.before.before.requires.0.moves_indexed.by_state_lem.long, omega (arith, c.before.before.before.before.before.before.before.before.loop.invariant.0, c.before.before.before.before.before.before.before.loop-test.true, c.before.before.before.before.before.before.before.before.before.before.before.before.before.before.before.before.before.before.before.before.before.before.before.requires.0.moves_indexed.by_state_lem.few))
+before-requires c κs = (c.before.before.before.before.before.before.before.before.before.before.before.before.before.before.before.before.before.before.before.before.before.before.before.requires.0.moves_indexed.by_state.long, omega (arith, c.before.before.before.before.before.before.before.before.loop.invariant.0, c.before.before.before.before.before.before.before.loop-test.true, c.before.before.before.before.before.before.before.before.before.before.before.before.before.before.before.before.before.before.before.before.before.before.before.requires.0.moves_indexed.by_state.few))
 
 loop-less : tie.Need-loop-smaller invariant-loop decreases-loop
 loop-less c =
     let some = c.before.before.before.before.before.before.before.before.loop-test.true in
     let within = let b = c.before.before.before.before.before.before.before.before.before.loop.invariant.0 in let l : c.before.before.before.before.before.before.before.before.before.loop.c - 1 < c.before.before.before.before.before.before.before.before.before.before.before.before.before.before.before.before.before.before.before.before.before.before.before.before.args.z.moves = omega (arith, b, some) in l in
-    let chain = chain_goes c.before.before.before.before.before.before.before.before.before.before.before.before.before.before.before.before.before.before.before.before.before.before.before.before.args.moves.now _ _ _ _ within (c.before.before.before.before.before.before.before.before.before.loop.invariant.1 (c.before.before.before.before.before.before.before.before.before.loop.c - 1) (omega (arith, some))) (c.before2.ensures _ _ c.before.before.before.before.before.before.before.before.before.before.before.before.before.before.before.before.before.before.before.before.before.before.before.before.requires.0.moves_indexed.by_state_lem within) in
+    let chain = chain_goes c.before.before.before.before.before.before.before.before.before.before.before.before.before.before.before.before.before.before.before.before.before.before.before.before.args.moves.now _ _ _ _ within (c.before.before.before.before.before.before.before.before.before.loop.invariant.1 (c.before.before.before.before.before.before.before.before.before.loop.c - 1) (omega (arith, some))) (c.before2.ensures _ _ c.before.before.before.before.before.before.before.before.before.before.before.before.before.before.before.before.before.before.before.before.before.before.before.before.requires.0.moves_indexed.by_state within) in
     omega (arith, chain.2, some)
 
 loop-again : tie.Need-loop-preserved invariant-loop decreases-loop
@@ -81,7 +81,7 @@ loop-again c =
     let some = c.before.before.before.before.before.before.before.before.loop-test.true in
     let within = let b = c.before.before.before.before.before.before.before.before.before.loop.invariant.0 in let l : c.before.before.before.before.before.before.before.before.before.loop.c - 1 < c.before.before.before.before.before.before.before.before.before.before.before.before.before.before.before.before.before.before.before.before.before.before.before.before.args.z.moves = omega (arith, b, some) in l in
     let key = c.before.before.before.before.before.before.before.before.before.loop.invariant.1 (c.before.before.before.before.before.before.before.before.before.loop.c - 1) (omega (arith, some)) in
-    let next = c.before2.ensures _ _ c.before.before.before.before.before.before.before.before.before.before.before.before.before.before.before.before.before.before.before.before.before.before.before.before.requires.0.moves_indexed.by_state_lem within in
+    let next = c.before2.ensures _ _ c.before.before.before.before.before.before.before.before.before.before.before.before.before.before.before.before.before.before.before.before.before.before.before.before.requires.0.moves_indexed.by_state within in
     let chain = chain_goes c.before.before.before.before.before.before.before.before.before.before.before.before.before.before.before.before.before.before.before.before.before.before.before.before.args.moves.now _ _ _ _ within key next in (
       chain.0,
       chain.1,

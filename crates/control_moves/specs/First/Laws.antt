@@ -68,7 +68,7 @@ source_held z inner entries moves to to' from s h none small e =
         moves_before = h.moves_before;
         entries_before = h.entries_before;
         states_before = h.states_before;
-        none_before_lem = h.none_before_lem;
+        none_before = h.none_before;
         held_before = h.held_before;
       };
       settles = record {

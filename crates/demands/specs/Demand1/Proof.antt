@@ -29,7 +29,7 @@ use Rattle.services.specs.Saturate.Laws.{SaturateCase, case_refused, size_exceed
 use Rattle.services.specs.Judge.{JudgeInput, JudgeDone, judge_files, judge_lent, mark, judge_left, judge_service, more_to_add}
 use Rattle.services.specs.Judge.Laws.{JudgeCase, start_refused, answers_short, judged, judge_cases}
 use Rattle.services.specs.Guide.{GuideInput, GuideDone, accepted, guide_files, guide_lent, start_named, guide_walk, guide_left, refused, guide_service, open_start}
-use Rattle.services.specs.Guide.Laws.{GuideCase, Started, start_missing, no_run_lem, cells_short, walked, guide_cases, walk_goes, walk_short, is_open}
+use Rattle.services.specs.Guide.Laws.{GuideCase, Started, start_missing, no_run_holds, cells_short, walked, guide_cases, walk_goes, walk_short, is_open}
 use Rattle.services.specs.Replay.{ReplayInput, ReplayDone, replay_files, replay_run, replay_service}
 use Rattle.services.specs.Replay.Laws.{Replays, replies, ReplayCase, trace_odd, start_short, replays, replay_cases}
 use Rattle.services.specs.Brackets.{BracketsInput, root_text, brackets_refusal, brackets_service}
@@ -95,7 +95,7 @@ module _ (x : Lent) where
         moves_length = length_zeros x.moves;
         entries_length = length_zeros x.entries;
         done = λ z. absurd (bad z);
-        refused = λ _. record { moves_zero = refl; entries_zero = refl; move_count_lem = refl; entry_count = refl };
+        refused = λ _. record { moves_zero = refl; entries_zero = refl; move_count_holds = refl; entry_count = refl };
       }
 
   pub demand1_saturate : SaturateStates x (saturate_service x)
@@ -116,7 +116,7 @@ module _ (x : Lent) where
               saturated = saturated_table_lem x s o;
               moves_are = refl;
               entries_are = refl;
-              move_count_lem = refl;
+              move_count_holds = refl;
               entry_count = refl;
             };
             refused = λ h. absurd (h refl);
@@ -243,7 +243,7 @@ module _ (x : GuideInput) where
       go d (start_missing s f h) = guide_refused 7 (eqb-false 7 0 refl) (past_files x (λ y. y.case) guide_files number_lines 7 s f (applies_here (refusal 7 (λ y. StartMissing y.start y.number)) _ x h))
       go d (GuideCase.size_exceeded s f h o) =
           guide_refused 9 (eqb-false 9 0 refl) (past_files x (λ y. y.case) guide_files number_lines 9 s f (there_guide 9 h (size_applies guide_lent (λ y. y.rounds) x o)))
-      go d (no_run_lem T s a m) = guide_none T s a m
+      go d (no_run_holds T s a m) = guide_none T s a m
       go d (is_open T s a m) = guide_open T s a m
       go d (cells_short T s a l) = guide_walks T s a (walk_short x T l)
       go d (walked T s a l) = guide_walks T s a (walk_goes x T l)

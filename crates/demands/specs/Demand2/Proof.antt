@@ -28,7 +28,7 @@ use Rattle.services.specs.Saturate.Laws.{SaturateCase, case_refused, size_exceed
 use Rattle.services.specs.Judge.{JudgeInput, JudgeDone, judge_lent, judge_left, judge_service, judge_files}
 use Rattle.services.specs.Judge.Laws.{JudgeCase, start_refused, answers_short, judged, judge_cases}
 use Rattle.services.specs.Guide.{GuideInput, GuideDone, accepted, guide_files, guide_lent, start_named, guide_walk, guide_left, refused, guide_service, open_start}
-use Rattle.services.specs.Guide.Laws.{GuideCase, Started, start_missing, no_run_lem, cells_short, walked, guide_cases, walk_goes, is_open}
+use Rattle.services.specs.Guide.Laws.{GuideCase, Started, start_missing, no_run_holds, cells_short, walked, guide_cases, walk_goes, is_open}
 use Rattle.demands.specs.Reach.{Runs, WonIn, Marks, round_table, accepted_in, AddsMove, AddsNothing, Yes}
 use Rattle.demands.specs.Reach.Laws.{nothing_is_closed, closed_is_nothing, adds_not}
 use Rattle.demands.specs.Size.{Exceeds, ExceedsIn}
@@ -121,7 +121,7 @@ guide_runs x r =
     record {
       no_left = (f, g);
       is_open = (h, k);
-      no_run_lem = answered_none x reply trace a;
+      no_run_holds = answered_none x reply trace a;
       exactly = λ still. (answered_none x reply trace a, answered_exactly x reply trace a r still);
       marked_no = λ answers c. let m = (word answers c).no_left in (λ z. m.1 (f z), λ z. g (m.0 z));
       marked_open = λ answers c. let m = (word answers c).is_open in (λ z. m.1 (h z), λ z. k (m.0 z));
@@ -339,7 +339,7 @@ guide_size x sound start there =
     to d (GuideCase.start_refused s bad) z = absurd (bad start)
     to d (start_missing s f h) z = absurd (lt_irrefl _ (lt_of_lt_of_le there h))
     to d (GuideCase.size_exceeded s f h o) z = none_exceeds_in (guide_lent x) x.rounds o
-    to d (no_run_lem T s a m) z = absurd (eqb-false 0 9 refl z)
+    to d (no_run_holds T s a m) z = absurd (eqb-false 0 9 refl z)
     to d (is_open T s a m) z = absurd (eqb-false 0 9 refl z)
     to d (cells_short T s a l) z = absurd (eqb-false 0 9 refl z)
     to d (walked T s a l) z = walks T s a (walk_goes x T l) z
@@ -352,7 +352,7 @@ guide_size x sound start there =
     from d (GuideCase.start_refused s bad) z = absurd (bad start)
     from d (start_missing s f h) z = absurd (lt_irrefl _ (lt_of_lt_of_le there h))
     from d (GuideCase.size_exceeded s f h o) z = refl
-    from d (no_run_lem T s a m) z = absurd (some_none s.table_is z)
+    from d (no_run_holds T s a m) z = absurd (some_none s.table_is z)
     from d (is_open T s a m) z = absurd (some_none s.table_is z)
     from d (cells_short T s a l) z = absurd (some_none s.table_is z)
     from d (walked T s a l) z = absurd (some_none s.table_is z)

@@ -114,7 +114,7 @@ module _ (x : GuideInput) (T : Saturated) (s : Started x T) (a : accepted T.tabl
           arrives = full_next_lem x.case x.rounds table_is arrival.last ∙ arrival.arrives.arrives;
         };
         run = subst (λ (z : Configuration). Run (rules_of x.case) z full_run (walk_configuration arrival.last)) start_is arrival.run;
-        in_target_lem = arrival.in_target_lem;
+        in_target_holds = arrival.in_target_holds;
       }
 
   -- the cells used after m steps, from the start file's cells

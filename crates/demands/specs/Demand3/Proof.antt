@@ -16,7 +16,7 @@ use Rattle.services.specs.Saturate.{saturated}
 use Rattle.services.specs.Judge.{JudgeInput, JudgeDone, judge_lent, judge_files, judge_left, judge_service}
 use Rattle.services.specs.Judge.Laws.{JudgeCase, case_refused, start_refused, answers_short, size_exceeded, judged, judge_cases}
 use Rattle.services.specs.Guide.{GuideInput, GuideDone, accepted, guide_files, guide_lent, start_named, guide_walk, guide_left, refused, guide_service, open_start}
-use Rattle.services.specs.Guide.Laws.{GuideCase, Started, start_missing, no_run_lem, cells_short, walked, guide_cases, walk_goes, walk_short, is_open}
+use Rattle.services.specs.Guide.Laws.{GuideCase, Started, start_missing, no_run_holds, cells_short, walked, guide_cases, walk_goes, walk_short, is_open}
 use Rattle.demands.specs.Reach.{accepted_in, Yes}
 use Rattle.demands.specs.Refusals.{Returned, guide_refusals}
 use Rattle.demands.specs.FullRun.{saturated_table}
@@ -110,7 +110,7 @@ module _ (x : JudgeInput) (n : ℕ) (b : Basis x n) where
         go d (GuideCase.start_refused s bad) z = absurd (bad z)
         go d (start_missing s f h) z = absurd (eqb-false 7 0 refl z)
         go d (GuideCase.size_exceeded s f h o) z = absurd (eqb-false 9 0 refl z)
-        go d (no_run_lem T s a m) z = absurd (not_rejected T s a)
+        go d (no_run_holds T s a m) z = absurd (not_rejected T s a)
         go d (is_open T s a m) z = absurd (not_rejected T s a)
         go d (cells_short T s a l) z = by_run T s a (ap (guide_left other) (walk_short other T l))
         go d (walked T s a l) z = by_run T s a (ap (guide_left other) (walk_goes other T l))
@@ -131,7 +131,7 @@ yes_unrefused x answers b = go (guide_service x) (guide_cases x)
     go d (GuideCase.start_refused s bad) = absurd (bad b.sound_start)
     go d (start_missing s f h) = absurd (lt_irrefl _ (lt_of_lt_of_le b.start_there h))
     go d (GuideCase.size_exceeded s f h o) = absurd (none-ne-some b.table (sym o ∙ b.table_is))
-    go d (no_run_lem T s a m) = refl
+    go d (no_run_holds T s a m) = refl
     go d (is_open T s a m) = refl
     go d (cells_short T s a l) = refl
     go d (walked T s a l) = ap (λ (o : Report). refusal_of o.reply) (sym (walk_goes x T l)) ∙ unrefused x T s a
@@ -174,7 +174,7 @@ accepts_marked x r t = go (guide_service x) (guide_cases x) (demand1_guide x).an
     go d (GuideCase.start_refused s bad) (n, _, _) = absurd (bad (returned_one guide_refusals x n r))
     go d (start_missing s f h) (n, bad, _) = absurd (bad (returned_one guide_refusals x n r))
     go d (GuideCase.size_exceeded s f h o) (n, bad, _) = absurd (bad (returned_one guide_refusals x n r))
-    go d (no_run_lem T s a m) (_, z, _, _, _) = absurd (false≢true (sym z ∙ t))
+    go d (no_run_holds T s a m) (_, z, _, _, _) = absurd (false≢true (sym z ∙ t))
     go d (is_open T s a m) (_, z, _, _) = absurd (false≢true (sym z ∙ t))
     go d (cells_short T s a l) _ = accepted_marked x T s a
     go d (walked T s a l) _ = accepted_marked x T s a

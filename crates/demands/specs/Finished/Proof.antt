@@ -141,7 +141,7 @@ finished_marks x d marks free n l h =
         (λ a.
         let r = reaches_published.1 (m.run (m.yes.1 a)) in
         let (_, e) = run_stays (rules_of x.case) h r.run in
-        absurd (false≢true (sym t ∙ ap (in_target (own_of x.case)) (sym e) ∙ r.in_target_lem)))
+        absurd (false≢true (sym t ∙ ap (in_target (own_of x.case)) (sym e) ∙ r.in_target_holds)))
         (λ a. a)
 
 -- a full run without steps has arrived

@@ -101,7 +101,7 @@ module _ (case start : List ℕ) (rounds n : ℕ) (to_run : accepted_in case sta
         is_open = (λ e. absurd (not-open e), λ (z, _). absurd (false≢true (sym z ∙ t)));
         round = λ _ k. (λ e. let q : r ≡ k = omega arith in subst (WonIn case start n) q w, λ v. ap suc (won_once w v));
         run = λ _. to_run t;
-        no_run_lem = λ e. absurd (not_zero e);
+        no_run_holds = λ e. absurd (not_zero e);
         exactly = λ _. (λ _. to_run t, λ _. (not_zero, not-open));
       }
 
@@ -114,7 +114,7 @@ module _ (case start : List ℕ) (rounds n : ℕ) (to_run : accepted_in case sta
         is_open = (λ _. (z, adds), λ _. refl);
         round = λ (_, h). absurd (h refl);
         run = λ (_, h). absurd (h refl);
-        no_run_lem = λ e. absurd (eqb-false open_word 0 refl e);
+        no_run_holds = λ e. absurd (eqb-false open_word 0 refl e);
         exactly = λ still. absurd (adds_not case rounds adds still);
       }
 
@@ -128,7 +128,7 @@ module _ (case start : List ℕ) (rounds n : ℕ) (to_run : accepted_in case sta
         is_open = (λ e. absurd (eqb-false 0 open_word refl e), λ (_, adds). absurd (adds_not case rounds adds still));
         round = λ (h, _). absurd (h refl);
         run = λ (h, _). absurd (h refl);
-        no_run_lem = λ _. none;
+        no_run_holds = λ _. none;
         exactly = λ _. (λ (h, _). absurd (h refl), λ r. absurd (none r));
       }
 

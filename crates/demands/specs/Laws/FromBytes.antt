@@ -27,7 +27,7 @@ module _ {P : ℕ} {own : Automaton} {rules : List Rule} (table : TableFacts P o
         table = table_facts s rule table;
         extends = table_extends s;
         rule_facts = rule;
-        own_moves_lem = own_moves_own s;
+        own_moves_holds = own_moves_own s;
         later_entry = later_entry s;
         derived = λ i l h. ((later s i l h).derivation, (later s i l h).is_first);
       }

@@ -22,8 +22,8 @@ use Rattle.demands.specs.Reach.{Reaches, PublishedReaches, round_table, AddsMove
 
 pub reaches_published : {rules : List Rule} {own : Automaton} {c : Configuration} → Reaches rules own c ↔ PublishedReaches rules own c
 reaches_published {rules} = (
-  λ x. record { end = x.end; transitions = run_transitions rules x.run; in_target_lem = x.in_target_lem },
-  λ x. let (ns, r) = transitions_run rules x.transitions in record { trace = ns; end = x.end; run = r; in_target_lem = x.in_target_lem },
+  λ x. record { end = x.end; transitions = run_transitions rules x.run; in_target_holds = x.in_target_holds },
+  λ x. let (ns, r) = transitions_run rules x.transitions in record { trace = ns; end = x.end; run = r; in_target_holds = x.in_target_holds },
 )
 
 module _ {P : ℕ} {own : Automaton} {rules : List Rule} (table : TableFacts P own) (inner : OwnFacts P own)
@@ -33,13 +33,13 @@ module _ {P : ℕ} {own : Automaton} {rules : List Rule} (table : TableFacts P o
       → accepts2 T.table c.stack c.control ≡ true → Reaches rules own c
   accepted_reaches s c h =
       let (ns, d, r, e) = sound (saturated_facts table inner rule s) c h in
-      record { trace = ns; end = d; run = r; in_target_lem = e }
+      record { trace = ns; end = d; run = r; in_target_holds = e }
 
   -- no means no run, where the table holds every result
   pub reaches_accepted : {T : Saturated} → AfterRounds rules own T → Closed rules T.table → (c : Configuration) → Reaches rules own c
       → accepts2 T.table c.stack c.control ≡ true
   reaches_accepted {T = T} s closed c x =
-      run_accepted rules T.table (saturated_facts table inner rule s).table rule closed (table_extends s) x.run x.in_target_lem
+      run_accepted rules T.table (saturated_facts table inner rule s).table rule closed (table_extends s) x.run x.in_target_holds
 
 -- ---- what there is to add to the table after m rounds
 

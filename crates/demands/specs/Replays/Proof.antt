@@ -92,7 +92,7 @@ replay_exactly = replay_answers
 pub accepted_runs : AcceptedRuns
 accepted_runs x e =
     let (_, f) = answered x e in
-    record { end = f.end; transitions = run_transitions (rules_of x.case) f.run; in_target_lem = f.in_target_lem }
+    record { end = f.end; transitions = run_transitions (rules_of x.case) f.run; in_target_holds = f.in_target_holds }
 
 -- ---- words as bytes
 
@@ -116,7 +116,7 @@ bytes_numbers ns =
 -- a trace of these rule numbers, which are a run that fits
 fault_by : (y : ReplayInput) {ns : List ℕ} {d : Configuration} → trace_of y ≡ ns → Run (rules_of y.case) (configuration_at y.start y.number) ns d
     → in_target (own_of y.case) d ≡ true → used (rules_of y.case) (length (cells_of y.start)) ns (length ns) ≤ replay_cells y → RealFault y
-fault_by y {ns} {d} e r t h = record { end = d; run = rw e r; in_target_lem = t; cells_suffice = rw e h }
+fault_by y {ns} {d} e r t h = record { end = d; run = rw e r; in_target_holds = t; cells_suffice = rw e h }
 
 -- ---- a walk that arrived
 
@@ -204,7 +204,7 @@ module _ (x : GuideInput) (c : Counts) (e : (guide_service x).reply ≡ Walked (
         let (t, k, u) = arrived_all r.trace a in
         let n : trace_of replay ≡ r.trace = ap (λ (l : List ℕ). rule_numbers (trace_bytes l)) t ∙ bytes_numbers r.trace in
         let h : c.cells ≤ replay_cells replay = cells_enough u in
-        let f : RealFault replay = fault_by replay n r.run r.in_target_lem (rw (← k) h) in
+        let f : RealFault replay = fault_by replay n r.run r.in_target_holds (rw (← k) h) in
         only_answer replay Accepted (ended_answered replay (replays_on (omega arith)) Accepted (accepts f))
 
 pub guide_accepted : GuideAccepted

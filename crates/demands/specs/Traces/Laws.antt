@@ -133,7 +133,7 @@ module _ (x : ReplayInput) where
   arrives {n} {d} e r t =
       let z : n ≡ length (trace_of x) = none_left (trace_of x) n r.steps_there e in
       let w : RunsTo x (length (trace_of x)) d = subst (λ (m : ℕ). RunsTo x m d) z r in
-      record { end = d; run = rw (take-length (trace_of x)) at w.run; in_target_lem = t; cells_suffice = w.cells_fit }
+      record { end = d; run = rw (take-length (trace_of x)) at w.run; in_target_holds = t; cells_suffice = w.cells_fit }
 
   misses : {n : ℕ} {d : Configuration} → drop n (trace_of x) ≡ [] → RunsTo x n d → in_target own d ≡ false → StepFails x n
   misses {n} {d} e r t = record { at = d; runs = r; fails = inr (none_left (trace_of x) n r.steps_there e, t) }
@@ -224,7 +224,7 @@ module _ (x : ReplayInput) where
       (λ p. p.1 (goes_on s.runs (fault_runs f) p.0))
       (λ p.
       let r : RunsTo x (length (trace_of x)) s.at = subst (λ (m : ℕ). RunsTo x m s.at) p.0 s.runs in
-      false≢true (sym p.1 ∙ ap (in_target own) (run_one rules r.run (fault_runs f).run) ∙ f.in_target_lem))
+      false≢true (sym p.1 ∙ ap (in_target own) (run_one rules r.run (fault_runs f).run) ∙ f.in_target_holds))
       s.fails
 
   -- ---- where cells are missing

@@ -91,7 +91,7 @@ choose-left-returns : (t : ℕ) → choose-left-lts.Need-returns (choose-left-cl
 choose-left-returns t c = nothing_collected _ _ _ _ _ _ c.before.before.before.before.before.before.before.before.before.requires.1.1 (collects_over _ _ _ c.before.before.before.before.before.before.before.before.before.requires.1.1.stands.number c.if1.true)
 
 choose-left-edges-state-requires : (t : ℕ) → choose-left-lts.Need-edges-state-requires (choose-left-claims t) (choose-left-at t) choose-left.Post
-choose-left-edges-state-requires t c κs = c.before.before.before.before.before.before.before.before.before.requires.1.0.moves_indexed.by_state_lem.few
+choose-left-edges-state-requires t c κs = c.before.before.before.before.before.before.before.before.before.requires.1.0.moves_indexed.by_state.few
 
 choose-left-place-requires : (t : ℕ) → choose-left-lts.Need-place-requires (choose-left-claims t) (choose-left-at t) choose-left.Post
 choose-left-place-requires t c κs = c.before.before.before.before.before.before.before.before.before.before.before.requires.1.1.memo_holds.up_to.some_row
@@ -167,7 +167,7 @@ read-choices-edge-of-requires : (t : ℕ) → read-choices-lts.Need-edge-of-requ
 read-choices-edge-of-requires t c κs = (c.before.before.before.before.before.before.before.before.before.before.requires.1.0.edges_stand, c.before.before.before.before.before.before.before.before.before.before.requires.1.0.moves_indexed.by_words.entries_stand, c.loop-test.true)
 
 read-choices-unchanged-requires : (t : ℕ) → read-choices-lts.Need-unchanged-requires (read-choices-claims t) (read-choices-at t) read-choices.Post read-choices-Inv-loop read-choices-μ-loop
-read-choices-unchanged-requires t c κs = (c.before.before.before.before.before.before.before.before.before.before.before.before.before.before.requires.1.0.moves_indexed.by_words.moves_stand, c.before.before.before.before.before.before.before.before.before.before.before.before.before.before.requires.1.0.moves_indexed.by_state_lem)
+read-choices-unchanged-requires t c κs = (c.before.before.before.before.before.before.before.before.before.before.before.before.before.before.requires.1.0.moves_indexed.by_words.moves_stand, c.before.before.before.before.before.before.before.before.before.before.before.before.before.before.requires.1.0.moves_indexed.by_state)
 
 read-choices-add-is-newer : (t : ℕ) → read-choices-lts.Need-overflow-add-is-newer (read-choices-claims t) (read-choices-at t) read-choices.Post read-choices-Inv-loop read-choices-μ-loop
 read-choices-add-is-newer t c = omega (arith, read-choices-add-count t c.before.before.before.before.before.before.before.before.before, c.before.before.before.before.before.before.before.before.before.before.before.before.before.before.before.before.before.requires.1.2.settles.entries_before, length_rows_in entry_row c.before.before.before.before.before.before.before.before.before.before.before.before.before.before.before.before.before.args.z.entries c.before.before.before.before.before.before.before.before.before.before.before.before.before.before.before.before.before.args.entries.now)
@@ -176,7 +176,7 @@ read-choices-is-newer-requires : (t : ℕ) → read-choices-lts.Need-is-newer-re
 read-choices-is-newer-requires t c κs = search rules
 
 read-choices-add-is-newer-2 : (t : ℕ) → read-choices-lts.Need-overflow-add-is-newer-2 (read-choices-claims t) (read-choices-at t) read-choices.Post read-choices-Inv-loop read-choices-μ-loop
-read-choices-add-is-newer-2 t c = omega (arith, c.before.before.before.before.before.before.before.before.before.before.before.before.before.before.before.before.before.before.before.requires.1.0.moves_indexed.by_state_lem.few, c.before.before.before.before.before.before.before.before.before.before.before.before.before.before.before.before.before.before.before.requires.1.2.settles.moves_before, length_rows_in move_row c.before.before.before.before.before.before.before.before.before.before.before.before.before.before.before.before.before.before.before.args.z.moves c.before.before.before.before.before.before.before.before.before.before.before.before.before.before.before.before.before.before.before.args.moves.now)
+read-choices-add-is-newer-2 t c = omega (arith, c.before.before.before.before.before.before.before.before.before.before.before.before.before.before.before.before.before.before.before.requires.1.0.moves_indexed.by_state.few, c.before.before.before.before.before.before.before.before.before.before.before.before.before.before.before.before.before.before.before.requires.1.2.settles.moves_before, length_rows_in move_row c.before.before.before.before.before.before.before.before.before.before.before.before.before.before.before.before.before.before.before.args.z.moves c.before.before.before.before.before.before.before.before.before.before.before.before.before.before.before.before.before.before.before.args.moves.now)
 
 read-choices-is-newer-requires-2 : (t : ℕ) → read-choices-lts.Need-is-newer-requires-2 (read-choices-claims t) (read-choices-at t) read-choices.Post read-choices-Inv-loop read-choices-μ-loop
 read-choices-is-newer-requires-2 t c κs = search rules

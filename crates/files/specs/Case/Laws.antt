@@ -264,7 +264,7 @@ module _ (file : List ℕ) (sound : case_refusal file ≡ 0) where
         final1_exists = case_finals;
         inner_facts = λ e j. case_inner_lem j;
         inner_rising = inner_edges_rising (head file) (edge_records file);
-        entry_control_lem = λ e j. let r = entries_out (head file) (edge_records file) j in rw r.3 r.2;
+        entry_control_holds = λ e j. let r = entries_out (head file) (edge_records file) j in rw r.3 r.2;
         entry_once = λ i j hi hj e. rising_once entry_key (entries_of (head file) (edge_records file)) no_entry i j case_entries_rising hi hj e;
         move_facts = λ m j.
             let b = case_bounds.move j in

@@ -12,7 +12,7 @@ order-fits-requires : tie.Need-order-fits-requires
 order-fits-requires c κs = search rules
 
 returns : tie.Need-returns
-returns c = answer_none _ (pushed_order _ _ _ _ _ _ _ (sym c.before.order_fits_lem.ensures ∙ not-true _ c.if1.true))
+returns c = answer_none _ (pushed_order _ _ _ _ _ _ _ (sym c.before.order_fits_holds.ensures ∙ not-true _ c.if1.true))
 
 returns-2 : tie.Need-returns-2
 returns-2 c = answer_none _ (pushed_set _ _ _ _ _ _ _ c.if2.true)
@@ -24,7 +24,7 @@ same_length : tie.Need-same-length
 same_length c = search rules
 
 returns-3 : tie.Need-returns-3
-returns-3 c = pushed_read _ _ _ _ _ _ _ (sym c.before.before.before.before.before.before.before.order_fits_lem.ensures ∙ not-false _ c.before.before.before.before.before.before.if1.false) c.before.before.before.before.if2.false c.before.before.first-reading.ensures
+returns-3 c = pushed_read _ _ _ _ _ _ _ (sym c.before.before.before.before.before.before.before.order_fits_holds.ensures ∙ not-false _ c.before.before.before.before.before.before.if1.false) c.before.before.before.before.if2.false c.before.before.first-reading.ensures
 
 pub by-push-spec : {M : Type 1} → statement M
 by-push-spec =

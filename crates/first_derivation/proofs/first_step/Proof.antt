@@ -4,8 +4,8 @@ use mathlib.Core.Path.{ap}
 use Rattle.case_records.specs.Values.{the_operation}
 use Rattle.first_derivation.specs.Premises.Rules.{step_rewrite, step_push1, step_push2, step_copy, step_pop1, step_pop2, step_collapse1, step_collapse2}
 use borrow.Author.Rules.{rules}
-use Rattle.first_derivation.proofs.first_step_lem.Statement.{statement}
-use Rattle.first_derivation.proofs.first_step_lem.Tie as tie
+use Rattle.first_derivation.proofs.first_step.Statement.{statement}
+use Rattle.first_derivation.proofs.first_step.Tie as tie
 
 enum-known-op : tie.Need-enum-known-op
 enum-known-op c = search rules

@@ -114,7 +114,7 @@ module _ (A : Automaton) (a : ℕ) (x : Result) (left : ℕ) (j : Joins) where
       let s = key_sets x k e in
       let c : candidate_of m.state a j m ≡ some (both j m) =
       candidate_yes j m m.state a (ap₂ ◌&&◌ (eq-eqb m.state m.state refl) (eq-eqb m.symbol a o.symbol_is))
-      ∙ join_move_both j m (fits_clash k.order f.order_fits_lem g.order_fits_lem) in
+      ∙ join_move_both j m (fits_clash k.order f.order_fits_holds g.order_fits_holds) in
       let w : within x (some (both j m)) ≡ some (both j m) =
       within_yes x (both j m)
       (subst (λ (t : ℕ). part_of (join j.B m.B) t ≡ true) s.0 (part_both j.B m.B k.B f.B-part g.B-part))

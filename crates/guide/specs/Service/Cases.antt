@@ -11,7 +11,7 @@ use Rattle.files.specs.Start.{start_refusal, starts_of}
 use Rattle.services.specs.Saturate.{saturated}
 use Rattle.services.specs.Judge.{more_to_add}
 use Rattle.services.specs.Guide.{GuideInput, GuideDone, guide_lent, guide_files, guide_run, guide_left, refused, guide_service, accepted, start_named, open_start}
-use Rattle.services.specs.Guide.Laws.{Started, GuideCase, guide_cases, case_refused, start_refused, start_missing, size_exceeded, no_run_lem, is_open, cells_short, walked}
+use Rattle.services.specs.Guide.Laws.{Started, GuideCase, guide_cases, case_refused, start_refused, start_missing, size_exceeded, no_run_holds, is_open, cells_short, walked}
 use Rattle.sound_files.specs.Refusal.{FilesSound, number_refusal}
 use Rattle.sound_files.specs.Refusal.Laws.{before_case, before_start, before_below, before_past}
 use Rattle.guided_start.specs.Run.{unaccepted}
@@ -26,11 +26,11 @@ module _ (x : GuideInput) where
   sound_files c s = record { sound_case = c; sound_start = s }
 
   -- with a start of this number there is no refusal
-  none_before_lem : FilesSound x.case x.start → x.number < length (starts_of x.start) → before ≡ 0
-  none_before_lem = before_below x.case x.start x.number 0 7
+  none_before : FilesSound x.case x.start → x.number < length (starts_of x.start) → before ≡ 0
+  none_before = before_below x.case x.start x.number 0 7
 
   none_started : {T : Saturated} → Started x T → before ≡ 0
-  none_started s = none_before_lem (sound_files s.sound_case s.sound_start) s.start_there
+  none_started s = none_before (sound_files s.sound_case s.sound_start) s.start_there
 
   refused_is : {d : GuideDone} → GuideCase x d → (before ≡ 0 → ⊥) → d ≡ guide_left x (refused before)
   unfolding guide_files
@@ -39,8 +39,8 @@ module _ (x : GuideInput) where
   refused_is (start_missing c s h) b =
       ap (λ (n : ℕ). guide_left x (refused n))
       (sym (before_past x.case x.start x.number 0 7 (sound_files c s) h))
-  refused_is (size_exceeded c s h e) b = absurd (b (none_before_lem (sound_files c s) h))
-  refused_is (no_run_lem T s a m) b = absurd (b (none_started s))
+  refused_is (size_exceeded c s h e) b = absurd (b (none_before (sound_files c s) h))
+  refused_is (no_run_holds T s a m) b = absurd (b (none_started s))
   refused_is (is_open T s a m) b = absurd (b (none_started s))
   refused_is (cells_short T s a l) b = absurd (b (none_started s))
   refused_is (walked T s a l) b = absurd (b (none_started s))
@@ -65,7 +65,7 @@ module _ (x : GuideInput) where
     exceeded_is (start_refused c h) e = absurd (h sound.sound_start)
     exceeded_is (start_missing c s h) e = absurd (omega (arith, there))
     exceeded_is (size_exceeded c s h f) e = refl
-    exceeded_is (no_run_lem T s a m) e = absurd (none-ne-some T (sym e ∙ s.table_is))
+    exceeded_is (no_run_holds T s a m) e = absurd (none-ne-some T (sym e ∙ s.table_is))
     exceeded_is (is_open T s a m) e = absurd (none-ne-some T (sym e ∙ s.table_is))
     exceeded_is (cells_short T s a l) e = absurd (none-ne-some T (sym e ∙ s.table_is))
     exceeded_is (walked T s a l) e = absurd (none-ne-some T (sym e ∙ s.table_is))
@@ -79,7 +79,7 @@ module _ (x : GuideInput) where
     guided_is (start_refused c h) e = absurd (h sound.sound_start)
     guided_is (start_missing c s h) e = absurd (omega (arith, there))
     guided_is (size_exceeded c s h f) {T} e = absurd (none-ne-some T (sym f ∙ e))
-    guided_is (no_run_lem U s a m) e = same_run e s.table_is (not_accepted U a m)
+    guided_is (no_run_holds U s a m) e = same_run e s.table_is (not_accepted U a m)
     guided_is (is_open U s a m) e = same_run e s.table_is (not_accepted U a m)
     guided_is (cells_short U s a l) e = same_run e s.table_is (run_short x U a l)
     guided_is (walked U s a l) e = same_run e s.table_is (run_goes x U a l)

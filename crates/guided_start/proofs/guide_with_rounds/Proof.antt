@@ -41,7 +41,7 @@ returns-2 c =
     let p = c.before.before.before.before.before.before.before.before.before.before.before.before.before.before.before.before.requires in
     let is = tested _ p.1 (saturated_in c.before.before.before.before.before.before.before.before.before.before.before.before.before.before.before.before.args.z _ _ _ _ _) (states_below p.0.tables.stands) p.0.start_is p.0.start_rounds.rounds_stand c.before.before.before.before.before.before.start_accepted.ensures.0
     c.before.before.before.before.before.is-won.ensures in
-    leaves_short _ _ is (not-false c.before.before.before.before.before.is-won.result c.before.before.before.before.if1.false) c.before.before.before.cells_lent_lem.ensures
+    leaves_short _ _ is (not-false c.before.before.before.before.before.is-won.result c.before.before.before.before.if1.false) c.before.before.before.cells_lent_holds.ensures
     (c.before.before.count_of.ensures.0 ∙ sym (cells_count _)) c.before.if2.true c.short-at-start.ensures p.2
 
 start-body-requires : tie.Need-start-body-requires
@@ -55,7 +55,7 @@ walk-from-requires c κs =
     let p = c.before.before.before.before.before.before.before.before.before.before.before.before.before.before.before.before.before.before.before.requires in
     let count = c.before.before.before.before.before.count_of.ensures.0 ∙ sym (cells_count _) in
     let fits = c.before.before.before.before.if2.false in
-    let lent = lent_fit _ c.before.before.before.before.before.before.cells_lent_lem.ensures in (
+    let lent = lent_fit _ c.before.before.before.before.before.before.cells_lent_holds.ensures in (
       p.0,
       (start_names _ p.0.start_is p.1 c.before.before.before.start-body.ensures {words = 256} (omega arith) c.before.before.start-at.ensures).0,
       p.2,
@@ -76,7 +76,7 @@ returns-3 c =
     let is = tested _ p.1 (saturated_in c.before.before.before.before.before.before.before.before.before.before.before.before.before.before.before.before.before.before.before.before.before.before.before.before.args.z _ _ _ _ _) (states_below p.0.tables.stands) p.0.start_is p.0.start_rounds.rounds_stand c.before.before.before.before.before.before.before.before.before.before.before.before.before.before.start_accepted.ensures.0
     c.before.before.before.before.before.before.before.before.before.before.before.before.before.is-won.ensures in
     let x = named _ p.1 c.before.before.before.before.before.before.before.before.start-body.ensures c.before.before.before.before.before.before.before.start-at.ensures in
-    leaves_walk _ _ is (not-false c.before.before.before.before.before.before.before.before.before.before.before.before.before.is-won.result c.before.before.before.before.before.before.before.before.before.before.before.before.if1.false) c.before.before.before.before.before.before.before.before.before.before.before.cells_lent_lem.ensures
+    leaves_walk _ _ is (not-false c.before.before.before.before.before.before.before.before.before.before.before.before.before.is-won.result c.before.before.before.before.before.before.before.before.before.before.before.before.if1.false) c.before.before.before.before.before.before.before.before.before.before.before.cells_lent_holds.ensures
     (c.before.before.before.before.before.before.before.before.before.before.count_of.ensures.0 ∙ sym (cells_count _)) c.before.before.before.before.before.before.before.before.before.if2.false x c.before.before.before.before.walk_from.ensures
 
 pub guide-with-rounds-spec : {M : Type 1} → statement M

@@ -29,7 +29,7 @@ use Rattle.least_choices.specs.Starts.{Prepared, start_cells}
 use Rattle.guided_step.specs.declared.Walk.{Walk}
 use Rattle.guided_step.specs.Walks.{walk_in}
 use Rattle.guided_walk.specs.Turns.{RunStands, Leaves}
-use Rattle.sound_files.specs.Sound.Laws.{cells_count, cells_few, cells_lent_lem}
+use Rattle.sound_files.specs.Sound.Laws.{cells_count, cells_few, cells_lent_holds}
 use Rattle.sound_files.specs.Sound.Rounds.{cells_are}
 use Rattle.guided_start.specs.Tables.{TablesStand}
 use Rattle.guided_start.specs.Tables.Laws.{reading_stands}
@@ -53,10 +53,10 @@ module _ (file : List ℕ) {body : List ℕ} {n : ℕ} (b : body ≡ body_of fil
       record {
         stands = r.tables.stands;
         few = r.tables.few;
-        body_lent = (cells_lent_lem file r.start_is.in_place {words = 256} count b (omega arith)).0;
+        body_lent = (cells_lent_holds file r.start_is.in_place {words = 256} count b (omega arith)).0;
         formed = subst Formed (sym (cells_are file b count)) r.start_is.formed;
         rounds_lent = omega arith;
-        accepted_in_lem = record {
+        accepted_in_holds = record {
           won_is = λ i l q. cell_won T (states_below r.tables.stands) (cells_of file) r.start_rounds.rounds_stand i (omega arith) q
               ∙ ap (λ (cells : List Cell). accepts_stack T.table (stack_at (stacks cells) i) q) (sym (cells_are file b count));
         };
@@ -87,7 +87,7 @@ module _ (case : List ℕ) (sound : case_refusal case ≡ 0) {body : List ℕ} {
         rules_stand = rules_stand case sound body count h;
         rules_few = omega arith;
         sizes_lent = t.sizes_lent;
-        cells_lent_lem = l;
+        cells_lent_holds = l;
         cells_few = m;
       }
 

@@ -28,7 +28,7 @@ same-length-2 : tie.Need-same-length-2
 same-length-2 c = search rules
 
 returns : tie.Need-returns
-returns c = (finds_before c.before.before.before.before.before.before.before.before.before.before.before.before.before.before.before.before.before.args.z _ _ _ _ _ _ c.before.before.before.before.before.before.before.before.before.table_before.ensures c.before.before.before.before.before.before.before.before.move_of_lem.ensures c.before.before.before.before.before.before.before.result-of.ensures c.before.before.before.before.first-derivation.ensures.0, before_small c.before.before.before.before.before.before.before.before.before.before.before.before.before.before.before.before.before.args.z _ _ _ _ _ _ c.before.before.before.before.before.before.before.before.before.table_before.ensures c.before.before.before.before.first-derivation.ensures.1)
+returns c = (finds_before c.before.before.before.before.before.before.before.before.before.before.before.before.before.before.before.before.before.args.z _ _ _ _ _ _ c.before.before.before.before.before.before.before.before.before.table_before.ensures c.before.before.before.before.before.before.before.before.move_of_holds.ensures c.before.before.before.before.before.before.before.result-of.ensures c.before.before.before.before.first-derivation.ensures.0, before_small c.before.before.before.before.before.before.before.before.before.before.before.before.before.before.before.before.before.args.z _ _ _ _ _ _ c.before.before.before.before.before.before.before.before.before.table_before.ensures c.before.before.before.before.first-derivation.ensures.1)
 
 pub first-before-spec : {M : Type 1} → statement M
 first-before-spec =

@@ -18,7 +18,7 @@ slice-aggregate-next-step-2 c = search rules
 next-step-requires : tie.Need-next-step-requires
 next-step-requires c κs =
     let pre = c.before.before.before.before.before.before.before.before.before.before.requires in
-    ((pre.0.tables_stand, pre.0.rules_stand.rules_lent, pre.0.sizes_lent, omega (arith, pre.0.cells_lent_lem, pre.1.cells_lent_lem)), (refl, refl))
+    ((pre.0.tables_stand, pre.0.rules_stand.rules_lent, pre.0.sizes_lent, omega (arith, pre.0.cells_lent_holds, pre.1.cells_lent_holds)), (refl, refl))
 
 enum_told : tie.Need-enum-told
 enum_told c = search rules
@@ -52,7 +52,7 @@ go-on-requires c κs =
       (
         step_stands _ _ _ _ _ _ _ _ pre.tables_stand pre.rules_stand (λ i. omega (arith, bytes i)) t c.before.before.before.before.rule-at.ensures top.0.1 top.1.1.0.1,
         omega (arith, (rule_numbered _ _ _ t.numbered).0, pre.rules_few),
-        pre.cells_lent_lem,
+        pre.cells_lent_holds,
         pre.cells_few,
         c.before.before.before.before.before.before.before.before.before.before.before.before.before.before.before.before.before.before.before.before.before.requires.1,
       ),

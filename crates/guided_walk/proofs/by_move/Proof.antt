@@ -19,12 +19,12 @@ entry-of-state-requires c κs = search rules
 
 entry-edge-requires : tie.Need-entry-edge-requires
 entry-edge-requires c κs =
-    let state : c.before.move_of_lem.result.state ≡ (move_at (moves_only c.before.before.before.args.z c.before.before.before.args.moves.now) c.before.before.before.args.premise).state =
-    move_state c.before.before.before.args.z c.before.before.before.args.moves.now c.before.before.before.args.premise c.before.move_of_lem.ensures in
+    let state : c.before.move_of_holds.result.state ≡ (move_at (moves_only c.before.before.before.args.z c.before.before.before.args.moves.now) c.before.before.before.args.premise).state =
+    move_state c.before.before.before.args.z c.before.before.before.args.moves.now c.before.before.before.args.premise c.before.move_of_holds.ensures in
     search rules
 
 returns : tie.Need-returns
-returns c = move_choice_lem _ _ (move_state c.before.before.before.before.args.z c.before.before.before.before.args.moves.now c.before.before.before.before.args.premise c.before.before.move_of_lem.ensures) c.before.entry-of-state.ensures c.entry-edge.ensures
+returns c = move_choice_lem _ _ (move_state c.before.before.before.before.args.z c.before.before.before.before.args.moves.now c.before.before.before.before.args.premise c.before.before.move_of_holds.ensures) c.before.entry-of-state.ensures c.entry-edge.ensures
 
 pub by-move-spec : {M : Type 1} → statement M
 by-move-spec =

@@ -170,7 +170,7 @@ module _ (rules : List Rule) (T : Saturated) (most : ℕ) (w : Walk) (cells trac
               (h.steps.walk_is ∙ stepped_moved rules T z inner entries moves is w cells t) more h.written;
           walking =
               record {
-                cells_lent_lem = omega (arith, h.cells_left, h.steps.cells_more);
+                cells_lent_holds = omega (arith, h.cells_left, h.steps.cells_more);
                 steps_lent = omega (arith, h.words_left);
                 rest_zero = ap₂ drop more h.written ∙ rest_more trace w.steps n h.words_left in-room.rest_zero
                     ∙ (λ i. zeros (length (sym h.written i) - sym more i));

@@ -26,7 +26,7 @@ run_stands h e =
       rules_stand = h.rules_stand;
       rules_few = h.rules_few;
       sizes_lent = h.sizes_lent;
-      cells_lent_lem = omega (arith, h.cells_lent_lem);
+      cells_lent_holds = omega (arith, h.cells_lent_holds);
       cells_few = h.cells_few;
     }
 
@@ -34,7 +34,7 @@ run_stands h e =
 pub walking_start : {most : ℕ} {w : Walk} {trace : List ℕ} → w.cells ≤ most → w.steps ≡ 0 → trace ≡ zeros (length trace) → Walking most w trace
 walking_start {w = w} {trace} l e z =
     let n : length trace ≡ length trace - w.steps = omega arith in
-    record { cells_lent_lem = l; steps_lent = omega arith; rest_zero = ap (λ (i : ℕ). drop i trace) e ∙ z ∙ ap zeros n }
+    record { cells_lent_holds = l; steps_lent = omega arith; rest_zero = ap (λ (i : ℕ). drop i trace) e ∙ z ∙ ap zeros n }
 
 -- what is written, and zeros
 walking_padded : {most : ℕ} {w : Walk} {trace : List ℕ} → Walking most w trace → trace ≡ padded (length trace) (take w.steps trace)

@@ -22,8 +22,8 @@ module _ (x : JudgeInput) where
   sound_files c s = record { sound_case = c; sound_start = s }
 
   -- with an answer for each start there is no refusal
-  none_before_lem : FilesSound x.case x.start → length (starts_of x.start) ≤ x.answers → before ≡ 0
-  none_before_lem = before_past x.case x.start x.answers 8 0
+  none_before : FilesSound x.case x.start → length (starts_of x.start) ≤ x.answers → before ≡ 0
+  none_before = before_past x.case x.start x.answers 8 0
 
   refused_is : {d : JudgeDone} → JudgeCase x d → (before ≡ 0 → ⊥) → d ≡ judge_left x before 0 []
   unfolding judge_files
@@ -31,8 +31,8 @@ module _ (x : JudgeInput) where
   refused_is (start_refused c h) b = ap (λ (n : ℕ). judge_left x n 0 []) (sym (before_start x.case x.start x.answers 8 0 c h))
   refused_is (answers_short c s h) b =
       ap (λ (n : ℕ). judge_left x n 0 []) (sym (before_below x.case x.start x.answers 8 0 (sound_files c s) h))
-  refused_is (size_exceeded c s h e) b = absurd (b (none_before_lem (sound_files c s) h))
-  refused_is (judged T c s h e) b = absurd (b (none_before_lem (sound_files c s) h))
+  refused_is (size_exceeded c s h e) b = absurd (b (none_before (sound_files c s) h))
+  refused_is (judged T c s h e) b = absurd (b (none_before (sound_files c s) h))
 
   pub answers_refused : (before ≡ 0 → ⊥) → judge_service x ≡ judge_left x before 0 []
   answers_refused b = refused_is (judge_cases x) b

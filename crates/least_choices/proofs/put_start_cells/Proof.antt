@@ -36,7 +36,7 @@ loop-again c =
     let a = c.before.before.before.before.before.before.before.before.before.before.before.before.args in
     let p = c.before.before.before.before.before.before.before.before.before.before.before.before.requires.0 in (
       search rules,
-      taken_more c.before.before.before.before.before.loop.invariant.1 p.formed (states_below p.stands) p.accepted_in_lem (length_cells_in a.n a.body.now) (search rules) (search rules)
+      taken_more c.before.before.before.before.before.loop.invariant.1 p.formed (states_below p.stands) p.accepted_in_holds (length_cells_in a.n a.body.now) (search rules) (search rules)
           c.before.before.put-start-cell.ensures,
     )
 

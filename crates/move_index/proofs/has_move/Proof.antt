@@ -43,7 +43,7 @@ returns : tie.Need-returns invariant-loop decreases-loop
 returns c =
     let entry = c.before.before.before.before.before.before.before.before.before in
     let w = c.before.before.before.before.loop.invariant _ entry.requires.1 in
-    search_found _ _ _ _ (omega (arith, w.within)) (sym (ap (same_move _) c.before.before.move_at.ensures) ∙ sym c.before.same_move_lem.ensures ∙ c.if1.true)
+    search_found _ _ _ _ (omega (arith, w.within)) (sym (ap (same_move _) c.before.before.move_at.ensures) ∙ sym c.before.same_move.ensures ∙ c.if1.true)
 
 before-requires : tie.Need-before-requires invariant-loop decreases-loop
 before-requires c κs =
@@ -62,7 +62,7 @@ loop-again : tie.Need-loop-preserved invariant-loop decreases-loop
 loop-again c = λ n h.
     let loop = c.before.before.before.before.before.loop in
     let w = loop.invariant n h in
-    missed_more _ n _ loop.c _ w (omega arith) (sym (ap (same_move _) c.before.before.before.move_at.ensures) ∙ sym c.before.before.same_move_lem.ensures ∙ c.before.if1.false) (c.before2.ensures _ n h (omega (arith, w.within)))
+    missed_more _ n _ loop.c _ w (omega arith) (sym (ap (same_move _) c.before.before.before.move_at.ensures) ∙ sym c.before.before.same_move.ensures ∙ c.before.if1.false) (c.before2.ensures _ n h (omega (arith, w.within)))
 
 returns-2 : tie.Need-returns-2 invariant-loop decreases-loop
 returns-2 c = search_none _ _ _ _ (c.before.loop.invariant _ c.before.before.before.before.before.before.requires.1) c.loop-test.false

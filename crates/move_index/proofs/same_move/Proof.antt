@@ -2,8 +2,8 @@
 -- Assumes nothing.
 use Rattle.automata.specs.Automaton.{Move}
 use Rattle.move_index.specs.Keys.Laws.{moves_differ, moves_last}
-use Rattle.move_index.proofs.same_move_lem.Statement.{statement}
-use Rattle.move_index.proofs.same_move_lem.Tie as tie
+use Rattle.move_index.proofs.same_move.Statement.{statement}
+use Rattle.move_index.proofs.same_move.Tie as tie
 
 returns : tie.Need-returns
 returns c = moves_differ (λ (m : Move). m.state) _ _ c.if1.true

@@ -66,7 +66,7 @@ module _ (file : List ℕ) (sound : case_refusal file ≡ 0) where
       record {
         states_few = states;
         inner_small = λ e j. let l : e.first < (own_of file).J = (facts.inner_facts e j).to_inner in (inner_exists e j, omega arith);
-        controls_small = λ e j. let l : e.control < (head file).P = facts.entry_control_lem e j in omega arith;
+        controls_small = λ e j. let l : e.control < (head file).P = facts.entry_control_holds e j in omega arith;
         states_small = λ m j. let l : m.state < (own_of file).J + length (own_of file).entries = (facts.move_facts m j).state_exists in omega arith;
         final1_small = λ r i. let l : r < (own_of file).J + length (own_of file).entries = facts.final1_exists r i in omega arith;
         final2_small = λ q i.

@@ -70,10 +70,10 @@ module _ (A : Automaton) (t : Before) {xs : List Result} (s : SettledBy A t xs) 
 
   -- in round 1 there is no old move
   pub old_known : (i : ℕ) → i < t.moves → t.new ≡ false
-  old_known i b = by_test t.new (λ e. let z = (s.none_before_lem e).0 in absurd (omega arith)) (λ e. e)
+  old_known i b = by_test t.new (λ e. let z = (s.none_before e).0 in absurd (omega arith)) (λ e. e)
 
   pub old_entry_known : (i : ℕ) → i < t.entries → t.new ≡ false
-  old_entry_known i b = by_test t.new (λ e. let z = (s.none_before_lem e).1 in absurd (omega arith)) (λ e. e)
+  old_entry_known i b = by_test t.new (λ e. let z = (s.none_before e).1 in absurd (omega arith)) (λ e. e)
 
   -- the entry of an old move's state
   entry_before : (i : ℕ) → i < t.moves → entry_at A (move_at A i).state ≡ entry_at (table_before t A) (move_at A i).state
@@ -108,6 +108,6 @@ settled_within A t xs ys h s =
       moves_before = s.moves_before;
       entries_before = s.entries_before;
       states_before = s.states_before;
-      none_before_lem = s.none_before_lem;
+      none_before = s.none_before;
       held_before = λ e. record { all_held = λ x m. (s.held_before e).all_held x (h x m) };
     }

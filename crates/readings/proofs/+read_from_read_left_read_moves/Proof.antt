@@ -142,7 +142,7 @@ read-left-claims t = (
 )
 
 read-left-read-state-requires : (t : ℕ) → read-left-lts.Need-read-state-requires (read-left-claims t) (read-left-at t) read_left.Post
-read-left-read-state-requires t c κs = c.before.before.before.before.before.before.requires.1.0.by_state_lem.few
+read-left-read-state-requires t c κs = c.before.before.before.before.before.before.requires.1.0.by_state.few
 
 read-left-place-requires : (t : ℕ) → read-left-lts.Need-place-requires (read-left-claims t) (read-left-at t) read_left.Post
 read-left-place-requires t c κs = c.before.before.before.before.before.before.before.before.requires.1.1.memo_holds.up_to.some_row
@@ -157,7 +157,7 @@ read-left-returns : (t : ℕ) → read-left-lts.Need-returns (read-left-claims t
 read-left-returns t c = read_found c.before.before.before.before.before.before.before.before.before.before.before.before.args.z _ _ _ _ _ _ c.before.before.before.before.before.before.before.before.before.before.before.before.args.to _ _ _ _ _ _ _ _ (length_rows_in move_row c.before.before.before.before.before.before.before.before.before.before.before.before.args.z.moves c.before.before.before.before.before.before.before.before.before.before.before.before.args.moves.now) c.before.before.before.before.before.read-state.ensures _ c.before.before.before.before.before.before.before.before.before.before.before.before.requires.1.1 c.before.before.before.place.ensures c.before.holds.ensures c.if1.true
 
 read-left-fewest-requires : (t : ℕ) → read-left-lts.Need-fewest-requires (read-left-claims t) (read-left-at t) read_left.Post
-read-left-fewest-requires t c κs = (c.before.before.before.before.before.before.before.before.before.before.before.before.requires.1.0.by_words.moves_stand, c.before.before.before.before.before.before.before.before.before.before.before.before.requires.1.0.by_state_lem, c.before.before.before.before.before.before.before.before.before.before.before.before.requires.1.2)
+read-left-fewest-requires t c κs = (c.before.before.before.before.before.before.before.before.before.before.before.before.requires.1.0.by_words.moves_stand, c.before.before.before.before.before.before.before.before.before.before.before.before.requires.1.0.by_state, c.before.before.before.before.before.before.before.before.before.before.before.before.requires.1.2)
 
 read-left-without-requires : (t : ℕ) → read-left-lts.Need-without-requires (read-left-claims t) (read-left-at t) read_left.Post
 read-left-without-requires t c κs = (c.fewest.ensures.1, c.fewest.ensures.0)
@@ -214,11 +214,11 @@ read-moves-state-key-requires : (t : ℕ) → read-moves-lts.Need-state-key-requ
 read-moves-state-key-requires t c κs = search rules
 
 read-moves-last-requires : (t : ℕ) → read-moves-lts.Need-last-requires (read-moves-claims t) (read-moves-at t) read-moves.Post read-moves-Inv-loop read-moves-μ-loop
-read-moves-last-requires t c κs = (c.before.before.before.before.before.before.before.requires.1.0.by_state_lem.long, c.state-key.ensures.1)
+read-moves-last-requires t c κs = (c.before.before.before.before.before.before.before.requires.1.0.by_state.long, c.state-key.ensures.1)
 
 read-moves-loop-holds : (t : ℕ) → read-moves-lts.Need-loop-init (read-moves-claims t) (read-moves-at t) read-moves.Post read-moves-Inv-loop read-moves-μ-loop
 read-moves-loop-holds t c =
-    let first = c.last.ensures _ _ c.before.before.before.before.before.before.before.before.requires.1.0.by_state_lem ∙ ap (λ key. last_below (state_key_at c.before.before.before.before.before.before.before.before.args.moves.now) key c.before.before.before.before.before.before.before.before.args.z.moves) c.before.state-key.ensures.0 in
+    let first = c.last.ensures _ _ c.before.before.before.before.before.before.before.before.requires.1.0.by_state ∙ ap (λ key. last_below (state_key_at c.before.before.before.before.before.before.before.before.args.moves.now) key c.before.before.before.before.before.before.before.before.args.z.moves) c.before.state-key.ensures.0 in
     let chain = chain_starts c.before.before.before.before.before.before.before.before.args.moves.now _ _ _ first in
     (chain.0, chain.1, down_none c.before.before.before.before.before.before.before.before.args.z _ _ _ _ _ _ _ _ _ _ _ _ c.before.before.before.before.before.before.before.before.requires.1.1.stands.number first, refl, (λ inner h. h), refl)
 
@@ -257,14 +257,14 @@ read-moves-enum-told : (t : ℕ) → read-moves-lts.Need-enum-told (read-moves-c
 read-moves-enum-told t c = search rules
 
 read-moves-before-requires : (t : ℕ) → read-moves-lts.Need-before-requires (read-moves-claims t) (read-moves-at t) read-moves.Post read-moves-Inv-loop read-moves-μ-loop
-read-moves-before-requires t c κs = (c.before.before.before.before.before.before.before.before.before.before.before.before.before.requires.1.0.by_state_lem.long, omega (arith, c.before.before.before.before.loop.invariant.0, c.before.before.before.loop-test.true, c.before.before.before.before.before.before.before.before.before.before.before.before.before.requires.1.0.by_state_lem.few))
+read-moves-before-requires t c κs = (c.before.before.before.before.before.before.before.before.before.before.before.before.before.requires.1.0.by_state.long, omega (arith, c.before.before.before.before.loop.invariant.0, c.before.before.before.loop-test.true, c.before.before.before.before.before.before.before.before.before.before.before.before.before.requires.1.0.by_state.few))
 
 read-moves-loop-less : (t : ℕ) → read-moves-lts.Need-loop-smaller (read-moves-claims t) (read-moves-at t) read-moves.Post read-moves-Inv-loop read-moves-μ-loop
 read-moves-loop-less t c =
     let some = c.before.before.before.before.loop-test.true in
     let within = let b = c.before.before.before.before.before.loop.invariant.0 in let l : c.before.before.before.before.before.loop.c - 1 < c.before.before.before.before.before.before.before.before.before.before.before.before.before.before.args.z.moves = omega (arith, b, some) in l in
     let key = c.before.before.before.before.before.loop.invariant.1 (c.before.before.before.before.before.loop.c - 1) (omega (arith, some)) in
-    let next = c.before2.ensures _ _ c.before.before.before.before.before.before.before.before.before.before.before.before.before.before.requires.1.0.by_state_lem within in
+    let next = c.before2.ensures _ _ c.before.before.before.before.before.before.before.before.before.before.before.before.before.before.requires.1.0.by_state within in
     let chain = chain_goes c.before.before.before.before.before.before.before.before.before.before.before.before.before.before.args.moves.now _ _ _ _ within key next in
     omega (arith, chain.2, some)
 
@@ -273,7 +273,7 @@ read-moves-loop-again t c =
     let some = c.before.before.before.before.loop-test.true in
     let within = let b = c.before.before.before.before.before.loop.invariant.0 in let l : c.before.before.before.before.before.loop.c - 1 < c.before.before.before.before.before.before.before.before.before.before.before.before.before.before.args.z.moves = omega (arith, b, some) in l in
     let key = c.before.before.before.before.before.loop.invariant.1 (c.before.before.before.before.before.loop.c - 1) (omega (arith, some)) in
-    let next = c.before2.ensures _ _ c.before.before.before.before.before.before.before.before.before.before.before.before.before.before.requires.1.0.by_state_lem within in
+    let next = c.before2.ensures _ _ c.before.before.before.before.before.before.before.before.before.before.before.before.before.before.requires.1.0.by_state within in
     let chain = chain_goes c.before.before.before.before.before.before.before.before.before.before.before.before.before.before.args.moves.now _ _ _ _ within key next in
     let row = c.before.before.before.move_at.ensures in
     let joined = c.before.before.candidate.ensures in ⊎_elim

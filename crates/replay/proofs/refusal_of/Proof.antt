@@ -27,10 +27,10 @@ count-of-requires c κs =
     omega (arith, start_long _ (start_sound (sound_before _ _ _ _ _ none)).in_place)
 
 returns-3 : tie.Need-returns-3
-returns-3 c = refusal_11 _ _ _ _ _ c.before.before.before.before.before.number-refusal.ensures c.before.before.before.before.if1.false c.before.before.before.if2.false c.before.before.cells_lent_lem.ensures c.before.count_of.ensures.0 c.if3.true
+returns-3 c = refusal_11 _ _ _ _ _ c.before.before.before.before.before.number-refusal.ensures c.before.before.before.before.if1.false c.before.before.before.if2.false c.before.before.cells_lent_holds.ensures c.before.count_of.ensures.0 c.if3.true
 
 returns-4 : tie.Need-returns-4
-returns-4 c = refusal_0 _ _ _ _ _ c.before.before.before.before.before.number-refusal.ensures c.before.before.before.before.if1.false c.before.before.before.if2.false c.before.before.cells_lent_lem.ensures c.before.count_of.ensures.0 c.if3.false
+returns-4 c = refusal_0 _ _ _ _ _ c.before.before.before.before.before.number-refusal.ensures c.before.before.before.before.if1.false c.before.before.before.if2.false c.before.before.cells_lent_holds.ensures c.before.count_of.ensures.0 c.if3.false
 
 pub refusal-of-spec : {M : Type 1} → statement M
 refusal-of-spec =

@@ -23,7 +23,7 @@ cells-lent-requires : tie.Need-cells-lent-requires
 cells-lent-requires c κs = search rules
 
 replay-sound-requires : tie.Need-replay-sound-requires
-replay-sound-requires c κs = run_ready _ _ _ _ _ c.before.before.before.refusal-of.ensures c.before.before.if1.false c.before.cells_lent_lem.ensures
+replay-sound-requires c κs = run_ready _ _ _ _ _ c.before.before.before.refusal-of.ensures c.before.before.if1.false c.before.cells_lent_holds.ensures
 
 zero-u8-requires-2 : tie.Need-zero-u8-requires-2
 zero-u8-requires-2 c κs = search rules
@@ -32,7 +32,7 @@ same-length-2 : tie.Need-same-length-2
 same-length-2 c = search rules
 
 returns-2 : tie.Need-returns-2
-returns-2 c = meets _ _ (left_run _ _ _ _ _ (c.before.before.zero-u82.ensures ∙ ap zeros (search rules)) c.before.before.before.before.before.before.before.before.before.before.refusal-of.ensures c.before.before.before.before.before.before.before.before.before.if1.false c.before.before.before.before.before.before.before.before.cells_lent_lem.ensures c.before.before.before.before.before.before.replay-sound.ensures)
+returns-2 c = meets _ _ (left_run _ _ _ _ _ (c.before.before.zero-u82.ensures ∙ ap zeros (search rules)) c.before.before.before.before.before.before.before.before.before.before.refusal-of.ensures c.before.before.before.before.before.before.before.before.before.if1.false c.before.before.before.before.before.before.before.before.cells_lent_holds.ensures c.before.before.before.before.before.before.replay-sound.ensures)
 
 pub replay-spec : {M : Type 1} → statement M
 replay-spec =

@@ -57,7 +57,7 @@ same-length-2 c = search rules
 returns-2 : tie.Need-returns-2
 returns-2 c =
     let F = ended_as _ _ _ _ _ _ c.before.before.before.before.before.before.before.replay-trace.ensures c.before.before.before.ended2.given.1 in
-    from_start _ _ _ _ _ (rules_are _ c.before.before.before.before.before.before.before.before.before.before.before.before.before.before.before.before.before.before.before.before.before.before.requires.0.sound_case _ _ (holds_rules _ (case_in_place _ c.before.before.before.before.before.before.before.before.before.before.before.before.before.before.before.before.before.before.before.before.before.before.requires.0.sound_case) c.before.before.before.before.before.before.before.before.before.before.count_of.ensures.0 c.before.before.before.before.before.before.before.before.before.before.before.before.put-rules.ensures)) c.before.before.before.before.before.before.before.before.before.before.before.before.before.before.before.before.start-place.ensures (answer_is _ F (sym (length_numbers _)) c.answer_at_lem.ensures)
+    from_start _ _ _ _ _ (rules_are _ c.before.before.before.before.before.before.before.before.before.before.before.before.before.before.before.before.before.before.before.before.before.before.requires.0.sound_case _ _ (holds_rules _ (case_in_place _ c.before.before.before.before.before.before.before.before.before.before.before.before.before.before.before.before.before.before.before.before.before.before.requires.0.sound_case) c.before.before.before.before.before.before.before.before.before.before.count_of.ensures.0 c.before.before.before.before.before.before.before.before.before.before.before.before.put-rules.ensures)) c.before.before.before.before.before.before.before.before.before.before.before.before.before.before.before.before.start-place.ensures (answer_is _ F (sym (length_numbers _)) c.answer_at.ensures)
 
 pub replay-sound-spec : {M : Type 1} → statement M
 replay-sound-spec = tie.close (tie.spec start-place-requires slice-aggregate-put-rules put-rules-requires count-of-requires slice-aggregate-replay-trace replay-trace-requires enum-known-ended enum-known-ended-2 answer-at-requires same_length returns same-length-2 returns-2)

@@ -6,8 +6,8 @@ use native.Mathlib.Omega.{arith}
 use lib.ListN.{length}
 use Rattle.results.specs.Entries.Laws.{EntriesUpTo, entries_past, entries_more, entries_all}
 use borrow.Author.Rules.{rules}
-use Rattle.results.proofs.by_entries_lem.Statement.{statement}
-use Rattle.results.proofs.by_entries_lem.Tie as tie
+use Rattle.results.proofs.by_entries.Statement.{statement}
+use Rattle.results.proofs.by_entries.Tie as tie
 
 abbrev invariant-loop : tie.invariant-loop
 invariant-loop z entries moves words to kind q first out₀ n count k₀ i₀ out k i =

@@ -39,7 +39,7 @@ same-length-3 : tie.Need-same-length-3
 same-length-3 c = search rules
 
 returns-2 : tie.Need-returns-2
-returns-2 c = offer_collected c.before.before.before.before.before.before.before.before.before.before.before.before.before.before.args.z _ _ _ _ _ _ _ c.before.before.before.before.before.before.before.before.before.before.before.before.before.before.requires.1 (use_gives c.before.before.before.before.before.before.before.before.before.before.before.before.before.before.args.to _ _) _ _ _ (uses_entries _ _ _ _ c.before.before.before.before.before.before.before.before.before.before.before.before.before.before.args.z _ _ _ _ c.before.before.before.before.before.used2.given.1) c.before.before.by_entries_lem.ensures
+returns-2 c = offer_collected c.before.before.before.before.before.before.before.before.before.before.before.before.before.before.args.z _ _ _ _ _ _ _ c.before.before.before.before.before.before.before.before.before.before.before.before.before.before.requires.1 (use_gives c.before.before.before.before.before.before.before.before.before.before.before.before.before.before.args.to _ _) _ _ _ (uses_entries _ _ _ _ c.before.before.before.before.before.before.before.before.before.before.before.before.before.before.args.z _ _ _ _ c.before.before.before.before.before.used2.given.1) c.before.before.by_entries.ensures
 
 same-length-4 : tie.Need-same-length-4
 same-length-4 c = search rules

@@ -103,7 +103,7 @@ contains_kept {A} {C} {D} y c =
       final2_in = λ q h. rw y.same_final2 (c.final2_in q h);
       inner_in = λ e j. rw y.same_inner (c.inner_in e j);
       entries_in = λ e j. entry_kept y (c.entries_in e j);
-      moves_in_lem = λ m j. let (n, k, s) = c.moves_in_lem m j in (n, move_kept y k, same_move_kept x y s);
+      moves_in_holds = λ m j. let (n, k, s) = c.moves_in_holds m j in (n, move_kept y k, same_move_kept x y s);
     }
 
 -- ---- an own automaton contains itself
@@ -135,7 +135,7 @@ module _ (A : Automaton) where
         final2_in = λ q h. h;
         inner_in = λ e j. j;
         entries_in = λ e j. j;
-        moves_in_lem = λ m j. (
+        moves_in_holds = λ m j. (
           m,
           j,
           record {

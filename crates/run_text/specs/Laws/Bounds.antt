@@ -13,7 +13,7 @@ use Rattle.walks.specs.Guide.{Walk, counts, walked_by, no_run, guided}
 use Rattle.guidance.specs.Run.{by_next}
 use Rattle.files.specs.Start.{starts_of}
 use Rattle.services.specs.Guide.{GuideInput, GuideDone, guide_files, open_start, guide_left, refused, guide_service}
-use Rattle.services.specs.Guide.Laws.{Started, GuideCase, case_refused, start_refused, start_missing, size_exceeded, no_run_lem, is_open, cells_short, walked, guide_cases}
+use Rattle.services.specs.Guide.Laws.{Started, GuideCase, case_refused, start_refused, start_missing, size_exceeded, no_run_holds, is_open, cells_short, walked, guide_cases}
 use Rattle.sound_files.specs.Sound.Laws.{starts_few}
 use Rattle.answer_text.specs.Bounds.{Bounded}
 
@@ -46,7 +46,7 @@ module _ (x : GuideInput) where
   case_bounded (start_refused c h) = tt
   case_bounded (start_missing c s h) = tt
   case_bounded (size_exceeded c s h e) = tt
-  case_bounded (no_run_lem T s a m) = number_few s
+  case_bounded (no_run_holds T s a m) = number_few s
   case_bounded (is_open T s a m) = number_few s
   case_bounded (cells_short T s a l) = (number_few s, omega arith)
   case_bounded (walked T s a l) = guided_bounded x.number (number_few s) _ T _ x.trace [] _ x.trace (omega arith)

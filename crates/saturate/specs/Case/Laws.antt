@@ -140,9 +140,9 @@ module _ (file : List ℕ) (sound : case_refusal file ≡ 0) where
 
   module _ (m e : ℕ) where
     -- too many moves, or too many entries
-    own_moves_lem : length (own_of file).moves ≡ count_of file 3
+    own_moves_holds : length (own_of file).moves ≡ count_of file 3
     unfolding own_of move_records
-    own_moves_lem = length-map (records_of file 3 19) move_of ∙ length_records_of file 3 19
+    own_moves_holds = length-map (records_of file 3 19) move_of ∙ length_records_of file 3 19
 
     pub moves_over : m / 5 < count_of file 3 → false ≡ within (lent m e) (own_of file)
     unfolding lent
@@ -152,7 +152,7 @@ module _ (file : List ℕ) (sound : case_refusal file ≡ 0) where
         no w =
             let a : length (own_of file).moves ≤ min (m / 5) 1024 = (within_keeps (lent m e) (own_of file) w).moves_fit in
             let b : min (m / 5) 1024 ≤ m / 5 = min-le_left (m / 5) 1024 in
-            let c : length (own_of file).moves ≡ count_of file 3 = own_moves_lem in
+            let c : length (own_of file).moves ≡ count_of file 3 = own_moves_holds in
             omega arith
 
     pub entries_tell : (n : ℕ) → count_of file 3 ≤ m / 5 → n ≡ length (own_of file).entries → leb n (e / entry_width) ≡ within (lent m e) (own_of file)
@@ -162,7 +162,7 @@ module _ (file : List ℕ) (sound : case_refusal file ≡ 0) where
       where
         keeps : n ≤ e / entry_width → KeepsLimits (lent m e) (own_of file)
         keeps b =
-            let c : length (own_of file).moves ≡ count_of file 3 = own_moves_lem in
+            let c : length (own_of file).moves ≡ count_of file 3 = own_moves_holds in
             record {
               moves_fit = le-min (omega arith) (case_moves_few file sound);
               entries_fit = omega arith;
@@ -184,7 +184,7 @@ module _ (file : List ℕ) (sound : case_refusal file ≡ 0) where
         let a : length (own_of file).moves ≤ min (m / 5) 1024 = k.moves_fit in
         let b : length (own_of file).entries ≤ e / entry_width = k.entries_fit in
         let c : min (m / 5) 1024 ≤ m / 5 = min-le_left (m / 5) 1024 in
-        let d : length (own_of file).moves ≡ count_of file 3 = own_moves_lem in
+        let d : length (own_of file).moves ≡ count_of file 3 = own_moves_holds in
         let f : count_of file 2 ≤ 64 = (case_placed_lem file sound).edges_count in
         record { inner_room = omega arith; entry_room = omega arith; move_room = omega arith; states_few = k.states_fit }
 

@@ -22,7 +22,7 @@ extend-requires c κs =
       omega (arith, asked.1.settled.moves_before, rows),
       omega (arith, moves_small _ _ z _ _ _ asked.0),
       omega (arith, asked.0.standing.moves_few, asked.0.standing.moves_lent),
-      asked.1.by_state_lem,
+      asked.1.by_state,
       asked.1.by_words,
     )
 

@@ -43,10 +43,10 @@ prepared_first rules inner z entries moves states words memo h bs bw m =
         moves_before = omega arith;
         entries_before = omega arith;
         states_before = λ i b. absurd (omega arith);
-        none_before_lem = λ e. (refl, refl);
+        none_before = λ e. (refl, refl);
         held_before = λ e. absurd (false≢true (sym e));
       };
-      by_state_lem = bs;
+      by_state = bs;
       by_words = bw;
       memo_before = m;
       none_settled = refl;
@@ -91,7 +91,7 @@ module _ (rules : List Rule) (inner : List ℕ) (z : Table) (entries moves : Lis
             let same = move_at_kept grown i (omega arith) in
             let J : A'.J ≡ A.J = grown.same_J in
             subst (λ (m : Move). m.state < A'.J + z.entries) (sym same) (omega (arith, old, J, ne));
-        none_before_lem = λ e. absurd (false≢true e);
+        none_before = λ e. absurd (false≢true e);
         held_before = λ e.
             record {
               all_held = λ x m.
@@ -106,7 +106,7 @@ module _ (rules : List Rule) (inner : List ℕ) (z : Table) (entries moves : Lis
       record {
         states_exist = subst StatesExist (sym (g.table_is inner)) (add_all_exist (automaton_of z inner entries moves) (new_results rules (automaton_of z inner entries moves)) h);
         settled = settled_next h;
-        by_state_lem = by_state_same z.moves moves moves' states same_rows bs;
+        by_state = by_state_same z.moves moves moves' states same_rows bs;
         by_words = by_words_same z.moves moves moves' words same_rows bw;
         memo_before = memo_next m l;
         none_settled = refl;
@@ -131,7 +131,7 @@ ready z inner entries moves t states words states' words' count body memo {m} {e
             moves_stand = standing_moves z m e inner entries moves stands;
             by_words = bw;
           };
-          by_state_lem = bs;
+          by_state = bs;
         };
       };
       rules_stand = rules;

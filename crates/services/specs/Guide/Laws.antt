@@ -39,7 +39,7 @@ pub data GuideCase (x : GuideInput) : GuideDone → Type 0 where
       → GuideCase x (guide_left x (refused 7))
   size_exceeded : case_refusal x.case ≡ 0 → start_refusal (guide_files x) ≡ 0 → x.number < length (starts_of x.start) → saturated (guide_lent x) x.rounds ≡ none
       → GuideCase x (guide_left x (refused 9))
-  no_run_lem : (T : Saturated) → Started x T → accepted T.table x.start (start_named x) ≡ false → more_to_add x.case T ≡ false
+  no_run_holds : (T : Saturated) → Started x T → accepted T.table x.start (start_named x) ≡ false → more_to_add x.case T ≡ false
       → GuideCase x (guide_left x no_run)
   is_open : (T : Saturated) → Started x T → accepted T.table x.start (start_named x) ≡ false → more_to_add x.case T ≡ true
       → GuideCase x (guide_left x open_start)
@@ -117,7 +117,7 @@ module _ (x : GuideInput) where
       (λ a.
       by_test (more_to_add x.case T)
       (λ m. subst (λ (o : Report). GuideCase x (guide_left x o)) (sym (run_open T a m)) (is_open T s a m))
-      (λ m. subst (λ (o : Report). GuideCase x (guide_left x o)) (sym (run_no T a m)) (no_run_lem T s a m)))
+      (λ m. subst (λ (o : Report). GuideCase x (guide_left x o)) (sym (run_no T a m)) (no_run_holds T s a m)))
 
   sized : case_refusal x.case ≡ 0 → start_refusal (guide_files x) ≡ 0 → x.number < length (starts_of x.start) → GuideCase x (guide_service x)
   sized sound s h =

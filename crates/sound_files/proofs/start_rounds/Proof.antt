@@ -1,7 +1,7 @@
 -- `sound_files::start_rounds` meets its contract.
 -- Assumes nothing.
 use native.Mathlib.Omega.{arith}
-use Rattle.sound_files.specs.Sound.Laws.{start_long, cells_lent_lem}
+use Rattle.sound_files.specs.Sound.Laws.{start_long, cells_lent_holds}
 use Rattle.sound_files.specs.Sound.Rounds.{cells_formed, rounds_filled}
 use borrow.Author.Rules.{rules}
 use Rattle.sound_files.proofs.start_rounds.Statement.{statement}
@@ -18,7 +18,7 @@ fill-rounds-requires c κs =
     let p = c.before.before.before.before.before.before.before.before.before.requires in
     let n = c.before.count_of.ensures.0 in
     let b = c.before.before.cell-body.ensures in
-    let l = cells_lent_lem _ p.3.in_place {words = 256} n b (omega arith) in
+    let l = cells_lent_holds _ p.3.in_place {words = 256} n b (omega arith) in
     let few = l.1 in
     let room = p.4 in
     (p.0, p.1, p.2, l.0, cells_formed _ b n p.3, omega arith, p.5)

@@ -61,8 +61,8 @@ module _ (file : List ℕ) (in_place : start_placed file ≡ true) where
   cells_few = let n = cells_count file in let k = (start_places file in_place).cells_few in omega arith
 
   -- the cells are in their body, and at most 256
-  pub cells_lent_lem : {n words : ℕ} {body : List ℕ} → n ≡ count_of file 1 → body ≡ body_of file 1 6 → 256 ≤ words → (n * 6 ≤ length body) × (n ≤ words)
-  cells_lent_lem e b w =
+  pub cells_lent_holds : {n words : ℕ} {body : List ℕ} → n ≡ count_of file 1 → body ≡ body_of file 1 6 → 256 ≤ words → (n * 6 ≤ length body) × (n ≤ words)
+  cells_lent_holds e b w =
       let p = start_places file in_place in
       let o = p.cells_offset in
       let all = p.whole in

@@ -9,8 +9,8 @@ use Rattle.start_records.specs.Cells.Laws.{right_all}
 use Rattle.start_file.specs.Checks.{CellsFrom}
 use Rattle.start_file.specs.Checks.Laws.{cells_first, cells_next, cells_wrong, cells_last}
 use borrow.Author.Rules.{rules}
-use Rattle.start_file.proofs.cells_right_lem.Statement.{statement}
-use Rattle.start_file.proofs.cells_right_lem.Tie as tie
+use Rattle.start_file.proofs.cells_right.Statement.{statement}
+use Rattle.start_file.proofs.cells_right.Tie as tie
 
 abbrev invariant-loop : tie.invariant-loop
 invariant-loop symbols cells n i₀ i = (i ≤ n) × CellsFrom symbols cells n i

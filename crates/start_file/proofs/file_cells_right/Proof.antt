@@ -27,7 +27,7 @@ cells-right-requires c κs =
 returns : tie.Need-returns
 unfolding cell_records
 returns c =
-    c.cells_right_lem.ensures
+    c.cells_right.ensures
     ∙ ap (λ (cs : List (List ℕ)). cells_right c.before.before.before.before.args.symbols (map cell_bytes cs) 0 (map cell_bytes cs))
     (records_here _ _ _ _ _ c.before.before.cell-body.ensures c.before.count_of.ensures.0)
 

@@ -30,7 +30,7 @@ start-right-requires : tie.Need-start-right-requires invariant-loop decreases-lo
 start-right-requires c κs = search rules
 
 returns : tie.Need-returns invariant-loop decreases-loop
-returns c = sym (every_not start_of 3 _ _ _ _ c.before.before.before.loop-test.true (ap (start_right _ _) (sym c.before.before.start-at.ensures) ∙ sym c.before.start_right_lem.ensures ∙ not-true _ c.if1.true))
+returns c = sym (every_not start_of 3 _ _ _ _ c.before.before.before.loop-test.true (ap (start_right _ _) (sym c.before.before.start-at.ensures) ∙ sym c.before.start_right.ensures ∙ not-true _ c.if1.true))
 
 add-i : tie.Need-overflow-add-i invariant-loop decreases-loop
 add-i c = search rules
@@ -39,7 +39,7 @@ loop-less : tie.Need-loop-smaller invariant-loop decreases-loop
 loop-less c = search rules
 
 loop-again : tie.Need-loop-preserved invariant-loop decreases-loop
-loop-again c = (search rules, every_more start_of 3 _ _ _ c.before.before.before.before.loop.invariant.1 (ap (start_right _ _) (sym c.before.before.start-at.ensures) ∙ sym c.before.start_right_lem.ensures ∙ not-false _ c.if1.false))
+loop-again c = (search rules, every_more start_of 3 _ _ _ c.before.before.before.before.loop.invariant.1 (ap (start_right _ _) (sym c.before.before.start-at.ensures) ∙ sym c.before.start_right.ensures ∙ not-false _ c.if1.false))
 
 returns-2 : tie.Need-returns-2 invariant-loop decreases-loop
 returns-2 c =

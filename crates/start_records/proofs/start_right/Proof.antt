@@ -4,8 +4,8 @@ use borrow.Author.Tests.{lt-ltb, le-ltb}
 use Rattle.files.specs.Start.{start_right}
 use Rattle.start_records.specs.Cells.Laws.{length_cells}
 use borrow.Author.Rules.{rules}
-use Rattle.start_records.proofs.start_right_lem.Statement.{statement}
-use Rattle.start_records.proofs.start_right_lem.Tie as tie
+use Rattle.start_records.proofs.start_right.Statement.{statement}
+use Rattle.start_records.proofs.start_right.Tie as tie
 
 returns : tie.Need-returns
 unfolding start_right

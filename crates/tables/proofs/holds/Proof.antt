@@ -17,10 +17,10 @@ row-words-requires c κs =
 words-before-requires : tie.Need-words-before-requires
 words-before-requires c κs =
     let entry = c.before.before.before.before in
-    sym (ap length c.row_words_lem.ensures ∙ length_row entry.args.x.now entry.args.t.now _ _ c.before.if1.false entry.requires.0)
+    sym (ap length c.row_words.ensures ∙ length_row entry.args.x.now entry.args.t.now _ _ c.before.if1.false entry.requires.0)
 
 returns-2 : tie.Need-returns-2
-returns-2 c = holds_row _ _ _ _ c.before.before.before.before.before.requires.1 _ _ c.before.before.if1.false c.before.row_words_lem.ensures c.words-before.ensures
+returns-2 c = holds_row _ _ _ _ c.before.before.before.before.before.requires.1 _ _ c.before.before.if1.false c.before.row_words.ensures c.words-before.ensures
 
 pub holds-spec : {M : Type 1} → statement M
 holds-spec = tie.close (tie.spec returns row-words-requires words-before-requires returns-2)

@@ -32,11 +32,11 @@ row-words-requires c κs =
 words-before-requires : tie.Need-words-before-requires invariant-loop decreases-loop
 words-before-requires c κs =
     let entry = c.before.before.before.before.before in
-    ap length c.row_words_lem.ensures ∙ length_row entry.args.x.now entry.args.t.now _ _ c.before.loop-test.true entry.requires
+    ap length c.row_words.ensures ∙ length_row entry.args.x.now entry.args.t.now _ _ c.before.loop-test.true entry.requires
 
 returns : tie.Need-returns invariant-loop decreases-loop
 returns c =
-    let compared = sym (ap (λ (y : List ℕ). less y c.before.before.before.before.before.before.before.args.x.now) c.before.before.row_words_lem.ensures) ∙ sym c.before.words-before.ensures in
+    let compared = sym (ap (λ (y : List ℕ). less y c.before.before.before.before.before.before.before.args.x.now) c.before.before.row_words.ensures) ∙ sym c.before.words-before.ensures in
     let inv = c.before.before.before.before.loop.invariant in
     placed_at _ _ _ _ inv.0 inv.1 (λ h. compared ∙ not-true _ c.if1.true)
 
@@ -48,7 +48,7 @@ loop-less c = search rules
 
 loop-again : tie.Need-loop-preserved invariant-loop decreases-loop
 loop-again c =
-    let compared = sym (ap (λ (y : List ℕ). less y c.before.before.before.before.before.before.before.args.x.now) c.before.before.row_words_lem.ensures) ∙ sym c.before.words-before.ensures in
+    let compared = sym (ap (λ (y : List ℕ). less y c.before.before.before.before.before.before.before.args.x.now) c.before.before.row_words.ensures) ∙ sym c.before.words-before.ensures in
     (search rules, below_more _ _ c.before.before.before.before.loop.invariant.1 (compared ∙ not-false _ c.if1.false))
 
 returns-2 : tie.Need-returns-2 invariant-loop decreases-loop

@@ -5,8 +5,8 @@ use mathlib.Core.Path.{◌≡◌, ap}
 use native.Mathlib.Omega.{arith}
 use lib.ListN.{take, drop}
 use borrow.Author.Rules.{rules}
-use Rattle.tables.proofs.row_words_lem.Statement.{statement}
-use Rattle.tables.proofs.row_words_lem.Tie as tie
+use Rattle.tables.proofs.row_words.Statement.{statement}
+use Rattle.tables.proofs.row_words.Tie as tie
 
 mul_at : tie.Need-overflow-mul-at
 mul_at c = search rules
