@@ -34,7 +34,7 @@ module _ {X : Type 0} where
       (λ q. false≢true (sym z ∙ eq-eqb t.refusal 0 q), and_right (not (eqb t.refusal 0)) _ e)
 
   -- without a refusal every test passes
-  pub unrefused : {ts : List (Test X)} (x : X) → numbered ts ≡ true → first_hit ts x ≡ 0 → {t : Test X} → Memᴰ t ts → t.fails x ≡ false
+  pub unrefused : {t : Test X} {ts : List (Test X)} (x : X) → numbered ts ≡ true → first_hit ts x ≡ 0 → Memᴰ t ts → t.fails x ≡ false
   unrefused x n h (Memᴰ.head {x = u} {xs = us} e) =
       ap (λ (z : Test X). z.fails x) e ∙ by_test (u.fails x) (λ f. absurd ((numbered_cons u us n).0 (sym (first_hit_fails u us x f) ∙ h))) (λ f. f)
   unrefused x n h (Memᴰ.tail {x = u} {xs = us} i) = by_test (u.fails x)

@@ -34,9 +34,9 @@ our_code_few codes x = let l : number_from 1 codes x < 1 + length codes = number
 
 -- ---- codes that are there, and codes that are not
 
-number_there : (n : ℕ) {codes : List ℕ} {x : ℕ} → 1 ≤ n → Memᴰ x codes → number_from n codes x ≡ 0 → ⊥
-number_there n {x = x} l (Memᴰ.head {x = c} {xs = cs} e) z = let z' : n ≡ 0 = sym (number_here n c cs x (sym e)) ∙ z in omega arith
-number_there n {x = x} l (Memᴰ.tail {x = c} {xs = cs} j) z = by_test (eqb c x)
+number_there : {x : ℕ} (n : ℕ) {codes : List ℕ} → 1 ≤ n → Memᴰ x codes → number_from n codes x ≡ 0 → ⊥
+number_there {x = x} n l (Memᴰ.head {x = c} {xs = cs} e) z = let z' : n ≡ 0 = sym (number_here n c cs x (sym e)) ∙ z in omega arith
+number_there {x = x} n l (Memᴰ.tail {x = c} {xs = cs} j) z = by_test (eqb c x)
     (λ e. let z' : n ≡ 0 = sym (number_here n c cs x (eqb-true c x e)) ∙ z in omega arith)
     (λ e. number_there (suc n) (omega arith) j (sym (number_later n c cs x (eqb-false c x e)) ∙ z))
 

@@ -107,7 +107,7 @@ length_contents offset (x ∷ xs) =
     let r : List ℕ = contents (offset + length x.records * x.body.size) xs in
     let a : length (line offset x ++ r) ≡ length (line offset x) + length r = length-append (line offset x) r in
     let b : length (line offset x) ≡ 8 = length_line offset x in
-    let d : length r ≡ 8 * length xs = length_contents _ xs in
+    let d : length r ≡ 8 * length xs = length_contents (offset + length x.records * x.body.size) xs in
     omega arith
 
 -- the bytes that the parts' records take

@@ -124,7 +124,7 @@ step_applied ρ c d e = step_on_applied ρ c.control c.stack d e
 pub applied_step : (ρ : Rule) (c d : Configuration) → Applied ρ c d → step ρ c ≡ some d
 unfolding step step_on entered
 applied_step ρ c d x =
-    rw (x.from_control, x.stack_is, step_on, eq-eqb ρ.control ρ.control refl, eq-eqb ρ.symbol ρ.symbol refl, x.leaves, ← x.to_control) refl
+    rw (x.from_control, x.stack_is) (rw (step_on, eq-eqb ρ.control ρ.control refl, eq-eqb ρ.symbol ρ.symbol refl, x.leaves, ← x.to_control) refl)
 
 top_shape : (w : Stack2) {a : ℕ} → top₁ w ≡ some a → (u : Annotation) × (s : Stack1) × (t : Stack2) × (w ≡ cons2 (cons1 a u s) t)
 top_shape nil2 {a} e = absurd (none-ne-some a e)
@@ -162,7 +162,7 @@ step_published ρ c d = (step_transition ρ c d, transition_step ρ c d)
 
 -- ---- runs
 
-in_get_elem? : {A : Type 0} {l : List A} {x : A} → Memᴰ x l → (n : ℕ) × (get_elem? l n ≡ some x)
+in_get_elem? : {A : Type 0} {x : A} {l : List A} → Memᴰ x l → (n : ℕ) × (get_elem? l n ≡ some x)
 in_get_elem? {A} (Memᴰ.head e) = (0, ap {B = Option A} some (sym e))
 in_get_elem? (Memᴰ.tail i) = let r = in_get_elem? i in (suc r.0, r.1)
 
