@@ -16,6 +16,7 @@ import sys
 TOKEN = re.compile(r"[^\s(){}.;,\"`]+")
 DECLARED = re.compile(r"^(\s*)(?:(?:pub|abbrev|unfoldable|private)\s+)*([^\s:(){}.;,]+)\s*:\s")
 USE = re.compile(r"(?:ghost )?(?:pub )?use ([\w.+◌-]+?)\.\{([^}]*)\}")
+ALIAS = re.compile(r"^use (\S+) as ([\w-]+)$", re.M)
 LOWER = re.compile(r"[a-z?][A-Z]")
 
 
@@ -109,6 +110,7 @@ def turn(path, text, turned, fields, own):
             ours |= words
         else:
             theirs |= words
+    aliases = {m.group(2) for m in ALIAS.finditer(text) if m.group(1).split(".")[1:2] == [] or m.group(1).split(".")[0] != "Rattle" or m.group(1).split(".")[1] not in own}
     local = set()
     if path.endswith(".antt") and not in_specs(path):
         local = declared(text)[0] - ours
@@ -129,6 +131,9 @@ def turn(path, text, turned, fields, own):
             if dotted and "-" in word and in_proofs and word not in fields:
                 return word
             if dotted and re.search(r"\btie\.$", piece[:start]):
+                return word
+            qualifier = re.search(r"([\w-]+)\.$", piece[:start]) if dotted else None
+            if qualifier and qualifier.group(1) in aliases:
                 return word
             olds.add(word)
             return turned[word]

@@ -121,7 +121,7 @@ add_held A x = stands_held (add A x) (add_stands A x)
 
 pub add_all_held : {x : Result} (A : Automaton) {xs : List Result} → Memᴰ x xs → held (add_all A xs) x ≡ true
 unfolding add_all
-add_all_held A {x = x} (Memᴰ.head {x = y} {xs = xs} e) = held_kept x (add_all_extends (add A y) xs) (rw e (add_held A y))
+add_all_held {x = x} A (Memᴰ.head {x = y} {xs = xs} e) = held_kept x (add_all_extends (add A y) xs) (rw e (add_held A y))
 add_all_held A (Memᴰ.tail {x = y} j) = add_all_held (add A y) j
 
 -- after `extend` every one of the results is held

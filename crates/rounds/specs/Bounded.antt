@@ -166,7 +166,7 @@ add_all_bounded : {Q K n : ℕ} {A : Automaton} → Bounded Q K A → n ≤ stat
 unfolding add_all
 add_all_bounded F l [] f = F
 add_all_bounded {A = A} F l (x ∷ xs) f =
-    add_all_bounded (add_bounded F x l (f x (Memᴰ.head refl))) (le_trans l (states_grow (add_extends A x))) xs (λ y j. f y (Memᴰ.tail j))
+    add_all_bounded {A = add A x} (add_bounded F x l (f x (Memᴰ.head refl))) (le_trans l (states_grow (add_extends A x))) xs (λ y j. f y (Memᴰ.tail j))
 
 module _ {Q K : ℕ} (rules : List Rule) (rule-bounded : (ρ : Rule) → Memᴰ ρ rules → RuleBounded Q K ρ) where
   round_bounded : {A : Automaton} → Bounded Q K A → Bounded Q K (round rules A)

@@ -94,7 +94,7 @@ module _ {P : ℕ} {A : Automaton} (F : TableFacts P A) where
 pub add_all_facts : {P : ℕ} {A : Automaton} → TableFacts P A → (xs : List Result) → ((x : Result) → Memᴰ x xs → ResultFacts P x) → TableFacts P (add_all A xs)
 unfolding add_all
 add_all_facts F [] f = F
-add_all_facts F (x ∷ xs) f = add_all_facts (add_facts F x (f x (Memᴰ.head refl))) xs (λ y j. f y (Memᴰ.tail j))
+add_all_facts {A = A} F (x ∷ xs) f = add_all_facts {A = add A x} (add_facts F x (f x (Memᴰ.head refl))) xs (λ y j. f y (Memᴰ.tail j))
 
 pub extend_facts : {P : ℕ} {A : Automaton} → TableFacts P A → (xs : List Result) → ((x : Result) → Memᴰ x xs → ResultFacts P x) → TableFacts P (extend A xs)
 unfolding extend

@@ -86,7 +86,7 @@ module _ {A D : Automaton} (c : Contains A D) (x : Result) (l : LikeHeld A D x) 
 pub add_all_contains : {A D : Automaton} → Contains A D → (xs : List Result) → ((x : Result) → Memᴰ x xs → LikeHeld A D x) → Contains (add_all A xs) D
 unfolding add_all
 add_all_contains c [] f = c
-add_all_contains {A} {D} c (x ∷ xs) f = add_all_contains (add_contains c x (f x (Memᴰ.head refl))) xs (λ y j.
+add_all_contains {A} {D} c (x ∷ xs) f = add_all_contains {A = add A x} (add_contains c x (f x (Memᴰ.head refl))) xs (λ y j.
     let l = f y (Memᴰ.tail j) in
     record { result = l.result; same = same_result_kept (add_extends A x) (extends_refl D) l.same; number = l.number; stands = l.stands })
 

@@ -69,7 +69,7 @@ module _ {X : Type 0} where
   unfolding unlisted
   unlisted_cons k r rs u =
       let t : Bool = not (eqb k r.number) in
-      (eqb-false k r.number (tests.not_true (eqb k r.number) (and_left t _ u)), and_right t _ u)
+      (eqb-false k r.number (tests.not-true (eqb k r.number) (and_left t _ u)), and_right t _ u)
 
   -- where no number is returned, none of the first lines is
   pub returned_before : (rs more : List (Refusal X)) (x : X) → Returned (rs ++ more) x 0 → Returned rs x 0

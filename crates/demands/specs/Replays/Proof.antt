@@ -140,7 +140,7 @@ module _ (x : GuideInput) (c : Counts) (e : (guide_service x).reply ≡ Walked (
       go d (GuideCase.start_refused s bad) z = absurd (false≢true (ap is_arrival z))
       go d (GuideCase.start_missing s f h) z = absurd (false≢true (ap is_arrival z))
       go d (GuideCase.size_exceeded s f h o) z = absurd (false≢true (ap is_arrival z))
-      go d (GuideCase.no_run T s a m) z = (T, s)
+      go d (GuideCase.no_run_holds T s a m) z = (T, s)
       go d (GuideCase.is_open T s a m) z = (T, s)
       go d (GuideCase.cells_short T s a l) z = (T, s)
       go d (GuideCase.walked T s a l) z = (T, s)
