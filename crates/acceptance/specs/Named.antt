@@ -2,7 +2,7 @@
 -- Assumes nothing.
 pub mod Laws
 use Rattle.std.specs.Prelude.{ℕ, ◌*◌, ◌≤◌, ◌<◌, List, length}
-use Rattle.words.specs.Sets.Laws.{All}
+use Rattle.words.proofs.Sets.Laws.{All}
 use Rattle.tables.specs.declared.Table.{Table}
 use Rattle.tables.specs.Rows.{row_at}
 use Rattle.tables.specs.Layouts.{move_row, entry_row, edge_row}

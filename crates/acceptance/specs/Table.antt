@@ -3,7 +3,7 @@
 pub mod Laws
 use Rattle.std.specs.Prelude.{ℕ, ◌+◌, ◌*◌, ◌≤◌, ◌<◌, ◌≡◌, length}
 use mathlib.Core.List.{List, Memᴰ}
-use Rattle.words.specs.Sets.Laws.{All}
+use Rattle.words.proofs.Sets.Laws.{All}
 use Rattle.automata.specs.Automaton.{Automaton, Move, Edge, Entry}
 use Rattle.services.specs.Memory.{entry_width}
 use Rattle.tables.specs.declared.Table.{Table}

@@ -1,6 +1,5 @@
 -- Acceptance of stacks from states and from sets, and the target.
 -- Assumes nothing.
-pub mod Laws
 use Rattle.std.specs.Prelude.{ℕ, zero, suc, Bool, true, false, ◌&&◌, eqb}
 use Rattle.words.specs.Sets.{member, members}
 use Rattle.words.specs.Lists.{only, every, some_of}

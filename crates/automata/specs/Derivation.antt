@@ -3,8 +3,6 @@
 -- Assumes nothing.
 pub mod Numbers
 pub mod Joining
-pub mod Laws
-pub mod Kept
 use Rattle.std.specs.Prelude.{ℕ, suc, ◌+◌, max, Bool, true, false, not, ◌&&◌, ◌||◌, List, [], ◌∷◌, ◌++◌, map, eqb}
 use Rattle.std.proofs.Math.Option.{Option, none, some}
 use Rattle.words.specs.Sets.{join, single, members}

@@ -4,7 +4,7 @@
 pub mod Laws
 use Rattle.std.specs.Prelude.{ℕ, zero, suc, ◌+◌, ◌≤◌, ◌<◌, true, ◌≡◌, length, get_or}
 use mathlib.Core.List.{List, ◌++◌, Memᴰ}
-use Rattle.words.specs.Sets.Laws.{All}
+use Rattle.words.proofs.Sets.Laws.{All}
 use Rattle.words.specs.Order.{rising}
 use Rattle.stacks.specs.System.{Rule}
 use Rattle.automata.specs.Automaton.{Automaton, Move, Edge, Entry, no_entry, choice_key, entry_key}

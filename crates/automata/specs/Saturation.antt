@@ -1,6 +1,5 @@
 -- Saturation: one round, the table after n rounds, the table of at most n rounds within limits, a move's round and the table before it.
 -- Assumes nothing.
-pub mod Laws
 use Rattle.std.specs.Prelude.{ℕ, zero, suc, ◌+◌, ◌-◌, min, Bool, true, false, not, ◌&&◌, List, [], ◌∷◌, ◌++◌, map, length, take, eqb, leb}
 use Rattle.std.proofs.Math.Option.{Option, none, some}
 use Rattle.words.specs.Lists.{only, some_of}

@@ -4,19 +4,19 @@ use Rattle.std.specs.Prelude.{ℕ, ◌+◌, true, ◌≡◌}
 use Rattle.std.proofs.Common.{ap, sym, ◌∙◌, subst, subst₂}
 use Rattle.std.proofs.Math.Option.{Option, some}
 use mathlib.Core.List.{List, Memᴰ}
-use Rattle.words.specs.Sets.Laws.{All}
+use Rattle.words.proofs.Sets.Laws.{All}
 use Rattle.words.specs.Lists.Laws.{in_get_or, get_elem?_below, get_elem?_in}
 use Rattle.stacks.specs.Stack.{Stack1, cons1, Stack2, cons2, Annotation}
 use Rattle.stacks.specs.System.{Configuration, Rule, step, Run, stay, go}
-use Rattle.stacks.specs.Published.Laws.{step_applied}
+use Rattle.stacks.proofs.Published.Laws.{step_applied}
 use Rattle.automata.specs.Automaton.{Automaton, entry_edge}
 use Rattle.automata.specs.Automaton.Laws.{entry_move_of, entry_edge_lem}
 use Rattle.automata.specs.Acceptance.{accepts2, in_target}
-use Rattle.automata.specs.Acceptance.Laws.{Accepts1, Accepts2, accepts2_in, accepts2_out, accepts2_kept}
+use Rattle.automata.proofs.Acceptance.Laws.{Accepts1, Accepts2, accepts2_in, accepts2_out, accepts2_kept}
 use Rattle.automata.specs.Derivation.{Result, Derivation, derivations}
-use Rattle.automata.specs.Derivation.Laws.{conclusion, derivations_in}
+use Rattle.automata.proofs.Derivation.Laws.{conclusion, derivations_in}
 use Rattle.automata.specs.Saturation.{held}
-use Rattle.automata.specs.Saturation.Laws.{held_stands}
+use Rattle.automata.proofs.Saturation.Laws.{held_stands}
 use Rattle.automata.specs.Facts.{TableFacts, RuleFacts, Extends, Closed}
 use Rattle.completeness.specs.Reading.{Meets, annotation_in}
 use Rattle.completeness.specs.Turn.{LeavesAccepted, turn}

@@ -8,11 +8,11 @@ use Rattle.std.proofs.Common.{inl, inr, arith}
 use Rattle.std.proofs.Math.Option.{some}
 use mathlib.Core.List.{List, Memᴰ}
 use Rattle.words.specs.Sets.{members}
-use Rattle.words.specs.Sets.Laws.{All, in_has, all_empty}
+use Rattle.words.proofs.Sets.Laws.{All, in_has, all_empty}
 use Rattle.stacks.specs.Stack.{Stack1, cons1, Stack2, cons2, Annotation, of1, of2, annotation_order}
 use Rattle.automata.specs.Automaton.{Automaton, move_at, edge_at}
 use Rattle.automata.specs.Automaton.Laws.{MoveOf, EdgeOf}
-use Rattle.automata.specs.Acceptance.Laws.{Accepts1, Accepts2, AcceptsAnnotation, annotation_any}
+use Rattle.automata.proofs.Acceptance.Laws.{Accepts1, Accepts2, AcceptsAnnotation, annotation_any}
 use Rattle.automata.specs.Derivation.{Joins, joins_of, join_all, named, edge_sets}
 use Rattle.automata.specs.Derivation.Numbers.{Paired, paired_map, paired_of, paired_state}
 use Rattle.automata.specs.Derivation.Joining.{Fits, join_all_some, join_all_all, named_all, edge_sets_all}

@@ -5,15 +5,15 @@ use Rattle.std.specs.Prelude.{ℕ, ◌+◌, ◌<◌, refl, List, [], ◌∷◌}
 use Rattle.std.proofs.Math.Path.{subst}
 use Rattle.std.proofs.Math.Logic.{inl, inr}
 use Rattle.std.proofs.Math.Option.{Option, none, some}
-use Rattle.words.specs.Sets.Laws.{All, all_empty, all_join, all_single}
+use Rattle.words.proofs.Sets.Laws.{All, all_empty, all_join, all_single}
 use Rattle.stacks.specs.Stack.{Stack1, cons1, Stack2, cons2, Annotation, of1, of2, annotation_order}
 use Rattle.stacks.specs.Stack.{Operation, rewrite, push1, push2, copy, pop1, pop2, collapse1, collapse2, after}
 use Rattle.stacks.specs.System.{Rule}
 use Rattle.automata.specs.Automaton.{Automaton, Move, move_at, edge_at}
 use Rattle.automata.specs.Automaton.Laws.{EntryIs, EntryMove}
-use Rattle.automata.specs.Acceptance.Laws.{Accepts1, Accepts2}
+use Rattle.automata.proofs.Acceptance.Laws.{Accepts1, Accepts2}
 use Rattle.automata.specs.Derivation.{Joins, joins_of, Derivation, named, edge_sets}
-use Rattle.automata.specs.Derivation.Laws.{conclusion, Concludes, concludes, ByPush, ByEntry, Says}
+use Rattle.automata.proofs.Derivation.Laws.{conclusion, Concludes, concludes, ByPush, ByEntry, Says}
 use Rattle.automata.specs.Facts.{TableFacts}
 use Rattle.automata.specs.Facts.Laws.{control_edge}
 use Rattle.completeness.specs.Reading.{Meets, move_meets, read, choose}

@@ -5,7 +5,7 @@ pub mod Proof
 use Rattle.std.specs.Prelude.{ℕ, ◌+◌, ◌<◌, ◌≤◌, Bool, true, false, ◌≡◌, ◌↔◌, length, get_or}
 use mathlib.Core.List.{List, [], Memᴰ}
 use Rattle.words.specs.Sets.{member}
-use Rattle.words.specs.Sets.Laws.{All}
+use Rattle.words.proofs.Sets.Laws.{All}
 use Rattle.words.specs.Lists.{zeros}
 use Rattle.stacks.specs.Stack.{nil1, cons1, Stack2, nil2, cons2}
 use Rattle.stacks.specs.System.{Configuration, Rule, Run}

@@ -1,7 +1,6 @@
 -- Case files.
 -- Assumes nothing.
 pub mod Records
-pub mod Laws
 pub mod Refusal
 use Rattle.std.specs.Prelude.{ℕ, zero, suc, ◌+◌, Bool, true, false, not, ◌&&◌, ◌||◌, List, [], ◌∷◌, ◌++◌, map, length, get_or, eqb, ltb, leb}
 use Rattle.std.proofs.Math.Option.{Option, none, some}

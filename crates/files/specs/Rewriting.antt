@@ -1,6 +1,5 @@
 -- A case rewritten to our codes.
 -- Assumes nothing.
-pub mod Laws
 use Rattle.std.specs.Prelude.{ℕ, true, false, ◌≡◌, List, map, eqb}
 use Rattle.files.specs.Codes.{in_our_codes}
 use Rattle.files.specs.Writing.{Part, encode, decode}

@@ -2,7 +2,7 @@
 -- Assumes nothing.
 pub mod Laws
 use Rattle.std.specs.Prelude.{ℕ, ◌≤◌, ◌<◌, Bool, false, ◌≡◌, List, length}
-use Rattle.words.specs.Sets.Laws.{Has}
+use Rattle.words.proofs.Sets.Laws.{Has}
 use Rattle.automata.specs.Automaton.{Automaton, move_at}
 use Rattle.automata.specs.Derivation.{Result}
 use Rattle.automata.specs.Saturation.{up_to}

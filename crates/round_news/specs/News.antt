@@ -3,7 +3,7 @@
 pub mod Laws
 use Rattle.std.specs.Prelude.{ℕ, ◌%◌, ◌≤◌, ◌<◌, true, false, ◌≡◌, List, eqb}
 use Rattle.words.specs.Sets.{member}
-use Rattle.words.specs.Sets.Laws.{Has}
+use Rattle.words.proofs.Sets.Laws.{Has}
 use Rattle.sets.specs.Without.{without}
 use Rattle.automata.specs.Automaton.{Move}
 use Rattle.tables.specs.Rows.{row_at}

@@ -15,9 +15,9 @@ use Rattle.words.specs.Order.Laws.{sorted_out, sorted_keeps}
 use Rattle.automata.specs.Automaton.{Automaton, Move, no_move, move_at, entry_at}
 use Rattle.automata.specs.Automaton.Laws.{entry, EntryIs, get_entry_is, entry_is_at}
 use Rattle.automata.specs.Derivation.{Result, result_key}
-use Rattle.automata.specs.Derivation.Laws.{result_key_eq}
+use Rattle.automata.proofs.Derivation.Laws.{result_key_eq}
 use Rattle.automata.specs.Saturation.{held, entry_number, add, add_all, extend}
-use Rattle.automata.specs.Saturation.Laws.{StandsFor, stands_held, stands_kept, held_kept}
+use Rattle.automata.proofs.Saturation.Laws.{StandsFor, stands_held, stands_kept, held_kept}
 use Rattle.automata.specs.Facts.{Extends}
 use Rattle.automata.specs.Facts.Laws.{extends_refl, extends_trans}
 use Rattle.rounds.specs.Entries.{with_entry_appends, entry_number_at}

@@ -11,17 +11,17 @@ use mathlib.Core.List.{List, [], ◌∷◌, map, Memᴰ}
 use Rattle.std.proofs.Math.ListN.{get_or-eq_default}
 use Rattle.words.specs.Laws.Tests.{by_test}
 use Rattle.words.specs.Lists.Laws.{get_or_in, get_elem?_in}
-use Rattle.words.specs.Sets.Laws.{All, all_empty, all_join, all_single}
+use Rattle.words.proofs.Sets.Laws.{All, all_empty, all_join, all_single}
 use Rattle.stacks.specs.Stack.{Operation, rewrite, push1, push2, copy, pop1, pop2, collapse1, collapse2}
 use Rattle.stacks.specs.System.{Rule}
 use Rattle.automata.specs.Automaton.{Automaton, Move, Edge, no_move, no_edge, no_entry, edges, edge_at, move_at}
 use Rattle.automata.specs.Automaton.Laws.{EntryIs, move_at_in, edge_at_inner, edge_cases, entry_edge_lem}
 use Rattle.automata.specs.Derivation.{Result, Derivation, derivations, Joins, joins_of, clash, join_all}
 use Rattle.automata.specs.Derivation.Joining.{Fits, both, clash_fits, join_moves_keeps, at_numbers, edge_sets_all}
-use Rattle.automata.specs.Derivation.Laws.{Concludes, Says, Derives, derivations_out}
+use Rattle.automata.proofs.Derivation.Laws.{Concludes, Says, Derives, derivations_out}
 use Rattle.automata.specs.Derivation.Numbers.{paired_state}
 use Rattle.automata.specs.Saturation.{add, add_all, extend, results, round, table_after}
-use Rattle.automata.specs.Saturation.Laws.{results_out}
+use Rattle.automata.proofs.Saturation.Laws.{results_out}
 use Rattle.automata.specs.Facts.{RuleBounded, MoveBounded, Bounded, of_order, states}
 use Rattle.automata.specs.Facts.Laws.{states_grow}
 use Rattle.rounds.specs.Added.{new_move, added, added_out, add_extends}

@@ -5,7 +5,7 @@ pub mod Laws
 use Rattle.std.specs.Prelude.{ℕ, zero, suc, ◌<◌, ◌≡◌}
 use Rattle.std.proofs.Math.Option.{some}
 use mathlib.Core.List.{Memᴰ}
-use Rattle.words.specs.Sets.Laws.{Has, All}
+use Rattle.words.proofs.Sets.Laws.{Has, All}
 use Rattle.automata.specs.Automaton.{Automaton, Move, Edge, Entry, entry_at}
 
 -- ---- the same state, set and move

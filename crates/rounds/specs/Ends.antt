@@ -6,7 +6,7 @@ use Rattle.std.proofs.Common.{ap, sym, ◌∙◌, subst, le_trans, zero-add, add
 use mathlib.Core.List.{List, Memᴰ}
 use Rattle.words.specs.Laws.Numbers.{paired_below, paired_parts, stops, below_suc}
 use Rattle.words.specs.Lists.Once.{once_shorter, below, length_below, below_in}
-use Rattle.words.specs.Sets.Laws.{all_below}
+use Rattle.words.proofs.Sets.Laws.{all_below}
 use Rattle.words.specs.Laws.Tests.{by_test}
 use Rattle.stacks.specs.System.{Rule}
 use Rattle.automata.specs.Automaton.{Automaton, Move, Entry, no_move, no_entry, entry_key, move_at}

@@ -12,9 +12,9 @@ use Rattle.words.specs.Laws.Tests.{by_test}
 use Rattle.stacks.specs.System.{Rule}
 use Rattle.automata.specs.Automaton.{Automaton, move_at}
 use Rattle.automata.specs.Derivation.{result_of, Derivation, derivations, first_derivation}
-use Rattle.automata.specs.Derivation.Laws.{first_derivation_in}
+use Rattle.automata.proofs.Derivation.Laws.{first_derivation_in}
 use Rattle.automata.specs.Saturation.{held, table_after}
-use Rattle.automata.specs.Saturation.Laws.{StandsFor, stands_result, stands_kept}
+use Rattle.automata.proofs.Saturation.Laws.{StandsFor, stands_result, stands_kept}
 use Rattle.rounds.specs.Rounds.{round_new, after_extends}
 
 module _ (rules : List Rule) (own : Automaton) where

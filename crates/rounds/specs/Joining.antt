@@ -4,7 +4,7 @@ use Rattle.std.specs.Prelude.{ℕ, zero, suc, ◌≡◌}
 use Rattle.std.proofs.Common.{sym, ◌∙◌, subst, inl, inr, ⊎_elim, arith}
 use Rattle.std.proofs.Math.Option.{some}
 use mathlib.Core.List.{List, Memᴰ}
-use Rattle.words.specs.Sets.Laws.{Has, All, part_has}
+use Rattle.words.proofs.Sets.Laws.{Has, All, part_has}
 use Rattle.automata.specs.Automaton.{Automaton, Move}
 use Rattle.automata.specs.Derivation.{Joins, joins_of, join_moves}
 use Rattle.automata.specs.Derivation.Joining.{Fits, Into, join_moves_into, join_moves_some, join_moves_order, join_moves_all}

@@ -17,9 +17,9 @@ use Rattle.stacks.specs.System.{Rule}
 use Rattle.automata.specs.Automaton.{Automaton, Move}
 use Rattle.automata.specs.Derivation.{Result, Derivation, derivations, Joins, join_all}
 use Rattle.automata.specs.Derivation.Joining.{AnnotationFacts, annotation_none, annotation_single, join_all_facts}
-use Rattle.automata.specs.Derivation.Laws.{Concludes, Says, Derives, derivations_out}
+use Rattle.automata.proofs.Derivation.Laws.{Concludes, Says, Derives, derivations_out}
 use Rattle.automata.specs.Saturation.{with_entry, entry_number, add, add_all, extend, results, round, table_after}
-use Rattle.automata.specs.Saturation.Laws.{results_out}
+use Rattle.automata.proofs.Saturation.Laws.{results_out}
 use Rattle.automata.specs.Facts.{RuleFacts, MoveFacts, TableFacts}
 use Rattle.automata.specs.Facts.Laws.{move_at_annotation}
 use Rattle.rounds.specs.Added.{new_move, added, added_out}

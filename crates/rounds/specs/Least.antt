@@ -15,7 +15,7 @@ use Rattle.automata.specs.Automaton.{Automaton, Move, move_at, entry_at}
 use Rattle.automata.specs.Automaton.Laws.{entry, move_at_in, entry_at_some, entry_move_at}
 use Rattle.automata.specs.Derivation.{Result, Derivation, derivations}
 use Rattle.automata.specs.Saturation.{held, add, add_all, extend, results, round, table_after}
-use Rattle.automata.specs.Saturation.Laws.{StandsFor, held_stands, results_out}
+use Rattle.automata.proofs.Saturation.Laws.{StandsFor, held_stands, results_out}
 use Rattle.automata.specs.Facts.{RuleFacts, TableFacts, OwnFacts, Extends, Closed, Once}
 use Rattle.automata.specs.Facts.Laws.{extends_refl}
 use Rattle.rounds.specs.Entries.{with_entry_out}

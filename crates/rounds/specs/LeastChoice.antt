@@ -22,7 +22,7 @@ use Rattle.stacks.specs.Stack.{Operation, rewrite, push1, push2, copy, pop1, pop
 use Rattle.stacks.specs.System.{Rule}
 use Rattle.automata.specs.Automaton.{Automaton, Edge, no_edge, choice_key, edges, entry_edge, edge_at, move_at, moves_of, edges_of, entry_set}
 use Rattle.automata.specs.Derivation.{Result, result_key, Derivation, Joins, joins_of, readings, edge_choices, named, edge_sets, join_all, control_moves, control_entries, conclude, by_rewrite, by_push1, by_push2, by_copy, by_pop1, by_pop2, by_collapse1, by_collapse2, derivations_by, derivations_from, derivations, first_derivation}
-use Rattle.automata.specs.Derivation.Laws.{derivations_by_out}
+use Rattle.automata.proofs.Derivation.Laws.{derivations_by_out}
 use Rattle.automata.specs.Automaton.Laws.{edges_of_out, edge_at_inner, entry_edge_lem, edge_cases}
 use Rattle.automata.specs.Facts.{TableFacts}
 

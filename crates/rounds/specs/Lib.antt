@@ -6,7 +6,6 @@ pub mod Bounded
 pub mod First
 pub mod Sizes
 pub mod RoundOf
-pub mod Before
 pub mod Limits
 pub mod Contains
 pub mod Joining

@@ -12,7 +12,7 @@ use Rattle.stacks.specs.System.{Rule}
 use Rattle.automata.specs.Automaton.{Automaton, Move, move_at}
 use Rattle.automata.specs.Derivation.{Result, Derivation, derivations, Joins, joins_of, join_all, edge_sets}
 use Rattle.automata.specs.Derivation.Joining.{Fits}
-use Rattle.automata.specs.Derivation.Laws.{conclusion, Concludes, concludes, ByRewrite, ByPush, ByCopy, ByEntry, Says, derivations_out, derivations_in}
+use Rattle.automata.proofs.Derivation.Laws.{conclusion, Concludes, concludes, ByRewrite, ByPush, ByCopy, ByEntry, Says, derivations_out, derivations_in}
 use Rattle.automata.specs.Facts.{TableFacts, Once}
 use Rattle.rounds.specs.Contains.{Matched, Same, SameIn, SameMove, Contains}
 use Rattle.rounds.specs.Contains.Laws.{matched_empty, matched_single, matched_map, matched_equal, equal_matched}

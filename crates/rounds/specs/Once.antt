@@ -4,7 +4,7 @@ use Rattle.std.specs.Prelude.{ℕ, zero, suc, ◌+◌, ◌-◌, ◌≤◌, ◌<�
 use Rattle.std.proofs.lemmas.Bool.{false≢true}
 use Rattle.std.proofs.Common.{ap, sym, ◌∙◌, subst, add-zero, le_of_suc-le-suc, arith, ltb-true, ltb-false}
 use mathlib.Core.List.{List, [], ◌∷◌, Memᴰ}
-use Rattle.words.specs.Sets.Laws.{Has, has_part, part_antisym}
+use Rattle.words.proofs.Sets.Laws.{Has, has_part, part_antisym}
 use Rattle.words.specs.Laws.Tests.{by_test}
 use Rattle.words.specs.Lists.{only}
 use Rattle.words.specs.Lists.Laws.{get_or_in}
@@ -16,7 +16,7 @@ use Rattle.stacks.specs.System.{Rule}
 use Rattle.automata.specs.Automaton.{Automaton, Move, Entry, no_move, no_entry, entry_key, move_at}
 use Rattle.automata.specs.Derivation.{Result, result_key, result_of}
 use Rattle.automata.specs.Saturation.{held, add, add_all, extend, results, round, table_after, Size, within}
-use Rattle.automata.specs.Saturation.Laws.{StandsFor, stands_result, stands_held, stands_kept}
+use Rattle.automata.proofs.Saturation.Laws.{StandsFor, stands_result, stands_held, stands_kept}
 use Rattle.automata.specs.Facts.{RuleFacts, TableFacts, Extends, Once, states}
 use Rattle.automata.specs.Facts.Laws.{move_at_facts, move_at_kept, entry_is_own}
 use Rattle.rounds.specs.Added.{added, added_out, add_length, add_stands, add_all_extends, add_all_length}

@@ -5,7 +5,7 @@ use Rattle.std.proofs.Common.{ap, sym, ◌∙◌, subst, ⊎_elim, arith}
 use Rattle.std.proofs.Math.Path.{ap₂}
 use mathlib.Core.List.{List, [], ◌∷◌, map, Memᴰ}
 use Rattle.words.specs.Sets.{join, members}
-use Rattle.words.specs.Sets.Laws.{has_in, in_has, members_rising}
+use Rattle.words.proofs.Sets.Laws.{has_in, in_has, members_rising}
 use Rattle.words.specs.Lists.Laws.{get_or_in, in_get_or}
 use Rattle.automata.specs.Automaton.{Automaton, Move, Edge, no_edge, no_entry, edges, move_at, edge_at, entry_edge}
 use Rattle.automata.specs.Automaton.Laws.{MoveOf, EdgeOf, EntryIs, EntryMove, move_at_in, in_move_at, entry_is_at, at_entry_is, length_edges, edge_at_inner, entry_edge_lem, edge_cases}

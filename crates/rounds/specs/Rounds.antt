@@ -13,7 +13,7 @@ use Rattle.automata.specs.Derivation.{Result, Derivation, derivations}
 use Rattle.automata.specs.Saturation.{held, results, round, table_after}
 use Rattle.automata.specs.Facts.{Extends, Closed}
 use Rattle.automata.specs.Facts.Laws.{extends_refl, extends_trans, moves_grow}
-use Rattle.automata.specs.Saturation.Laws.{StandsFor, results_in, results_out}
+use Rattle.automata.proofs.Saturation.Laws.{StandsFor, results_in, results_out}
 use Rattle.rounds.specs.Added.{extend_extends, extend_holds, extend_nothing, extend_held, extend_new}
 
 module _ (rules : List Rule) where

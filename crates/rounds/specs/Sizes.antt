@@ -15,7 +15,7 @@ use Rattle.std.proofs.Math.Seq.{append_snoc}
 use Rattle.stacks.specs.System.{Rule}
 use Rattle.automata.specs.Automaton.{Automaton}
 use Rattle.automata.specs.Saturation.{Size, size_of, table_after, Saturated, rounds_added, up_to, last_up_to, own_moves}
-use Rattle.automata.specs.Saturation.Laws.{extends_up_to, last_up_to_past, last_up_to_no}
+use Rattle.automata.proofs.Saturation.Laws.{extends_up_to, last_up_to_past, last_up_to_no}
 use Rattle.automata.specs.Facts.Laws.{moves_grow}
 use Rattle.rounds.specs.Rounds.{after_extends}
 use Rattle.rounds.specs.First.{AddedAfter}

@@ -1,7 +1,6 @@
 -- A start as brackets: the text of a stack, the service that prints the stack of a start, and the text that the program `show` prints.
 -- Assumes nothing.
 pub mod Laws
-pub mod Told
 use Rattle.std.specs.Prelude.{ℕ, true, false, List, [], ◌∷◌, ◌++◌, length, take, eqb, ltb}
 use Rattle.words.specs.Lists.{zeros}
 use Rattle.stacks.specs.Stack.{Stack1, nil1, cons1, Stack2, nil2, cons2, Annotation, of1, of2}

@@ -1,6 +1,5 @@
 -- The service guide.
 -- Assumes nothing.
-pub mod Laws
 use Rattle.std.specs.Prelude.{ℕ, ◌/◌, min, Bool, true, false, List, [], ◌∷◌, ◌++◌, length, eqb, leb}
 use Rattle.std.proofs.Math.Option.{none, some}
 use Rattle.automata.specs.Automaton.{Automaton}

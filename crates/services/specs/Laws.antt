@@ -1,3 +1,2 @@
 -- Laws about every service.
 -- Assumes nothing.
-pub mod SameCase

@@ -1,6 +1,5 @@
 -- The service saturate.
 -- Assumes nothing.
-pub mod Laws
 use Rattle.std.specs.Prelude.{ℕ, Bool, true, false, List, [], ◌∷◌, ◌++◌, length, eqb}
 use Rattle.std.proofs.Math.Option.{Option, none, some}
 use Rattle.automata.specs.Saturation.{Saturated, saturate, all_rounds}

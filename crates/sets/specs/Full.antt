@@ -4,7 +4,7 @@ use Rattle.std.specs.Prelude.{ℕ, zero, suc, ◌*◌, ◌/◌, ◌%◌, ◌-◌
 use Rattle.std.proofs.Common.{ap, ◌∙◌, arith, pow_pos, eq-eqb}
 use Rattle.std.proofs.Math.Nat.{pow-succ'}
 use Rattle.words.specs.Sets.{member}
-use Rattle.words.specs.Sets.Laws.{member_zero, member_suc}
+use Rattle.words.proofs.Sets.Laws.{member_zero, member_suc}
 
 pub full_has : (w n : ℕ) → n < w → member (2 ^ w - 1) n ≡ true
 full_has zero n h = absurd (omega arith)

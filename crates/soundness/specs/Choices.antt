@@ -8,13 +8,13 @@ use mathlib.Core.List.{List, [], ◌∷◌, Memᴰ}
 use native.Mathlib.Omega.{arith}
 use Rattle.std.proofs.lemmas.Bool.{eqb-false}
 use Rattle.words.specs.Laws.Tests.{by_test}
-use Rattle.words.specs.Sets.Laws.{All}
+use Rattle.words.proofs.Sets.Laws.{All}
 use Rattle.words.specs.Lists.Laws.{only_in, only_out}
 use Rattle.stacks.specs.Stack.{Stack1, cons1, Stack2, cons2, Annotation, of1, of2}
 use Rattle.automata.specs.Automaton.{Automaton, move_at, edge_at, moves_of, edges_of, entry_edge}
 use Rattle.automata.specs.Automaton.Laws.{MoveOf, EdgeOf, moves_of_in, moves_of_out, edges_of_in, edges_of_out}
 use Rattle.automata.specs.Acceptance.{move_fits, edge_fits}
-use Rattle.automata.specs.Acceptance.Laws.{Accepts1, Accepts2, AcceptsAnnotation, move_fits_in, move_fits_out, edge_fits_in, edge_fits_out}
+use Rattle.automata.proofs.Acceptance.Laws.{Accepts1, Accepts2, AcceptsAnnotation, move_fits_in, move_fits_out, edge_fits_in, edge_fits_out}
 use Rattle.automata.specs.Derivation.{Derivation}
 use Rattle.automata.specs.Derivation.Numbers.{Paired, empty, also}
 use Rattle.walks.specs.Guide.{first_or_zero, least_choice, chooses, chooses_all, premise, top_choice, root_choice}

@@ -10,7 +10,7 @@ use Rattle.std.proofs.Math.Option.{some}
 use mathlib.Core.List.Memᴰ
 use mathlib.Core.List.{List, [], ◌∷◌, ◌++◌, Memᴰ}
 use Rattle.words.specs.Sets.{members}
-use Rattle.words.specs.Sets.Laws.{All, has_in, all_part, all_left, all_right, all_one}
+use Rattle.words.proofs.Sets.Laws.{All, has_in, all_part, all_left, all_right, all_one}
 use Rattle.stacks.specs.Stack.{Operation, rewrite, push1, push2, copy, pop1, pop2, collapse1, collapse2}
 use Rattle.stacks.specs.System.{Rule}
 use Rattle.automata.specs.Automaton.{Automaton, Move, move_at, edge_at, entry_edge, entry_set}
@@ -18,7 +18,7 @@ use Rattle.automata.specs.Automaton.Laws.{MoveOf, EntryIs, EntryMove, entry_move
 use Rattle.automata.specs.Derivation.{Derivation, Joins, joins_of, named, edge_sets}
 use Rattle.automata.specs.Derivation.Numbers.{Paired}
 use Rattle.automata.specs.Derivation.Joining.{Into, join_all_into, named_in, edge_sets_part}
-use Rattle.automata.specs.Derivation.Laws.{Says, ByRewrite, ByPush, ByCopy, Concludes}
+use Rattle.automata.proofs.Derivation.Laws.{Says, ByRewrite, ByPush, ByCopy, Concludes}
 use Rattle.automata.specs.Saturation.{Saturated}
 use Rattle.walks.specs.Guide.{chooses_all, chooses, premise, top_choice, root_choice, choices_after}
 use Rattle.soundness.specs.Decorated.{Decorated1, cons1', Decorated2, cons2', DecoratedAnnotation, of1', of2', after_decorated, Arrives}

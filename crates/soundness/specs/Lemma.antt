@@ -10,17 +10,17 @@ use mathlib.Core.List.{List, Memᴰ}
 use native.Mathlib.Omega.{arith}
 use Rattle.std.proofs.Math.ListN.{get_elem?}
 use Rattle.words.specs.Laws.Tests.{by_test}
-use Rattle.words.specs.Sets.Laws.{All}
+use Rattle.words.proofs.Sets.Laws.{All}
 use Rattle.words.specs.Lists.Laws.{get_elem?_in}
 use Rattle.stacks.specs.Stack.{Operation}
 use Rattle.stacks.specs.System.{Rule}
 use Rattle.automata.specs.Automaton.{Automaton, move_at, edge_at, entry_edge, entry_control, entry_set}
 use Rattle.automata.specs.Automaton.Laws.{MoveOf, EntryIs, entry_control_is, entry_set_is, entry_edge_lem}
 use Rattle.automata.specs.Derivation.{Result, Derivation, result_of, first_derivation}
-use Rattle.automata.specs.Derivation.Laws.{Says, says_goes, derivations_out, first_derivation_out}
-use Rattle.automata.specs.Derivation.Kept.{says_kept}
+use Rattle.automata.proofs.Derivation.Laws.{Says, says_goes, derivations_out, first_derivation_out}
+use Rattle.automata.proofs.Derivation.Kept.{says_kept}
 use Rattle.automata.specs.Saturation.{Saturated, before, own_moves}
-use Rattle.automata.specs.Saturation.Laws.{before_extends, before_small}
+use Rattle.automata.proofs.Saturation.Laws.{before_extends, before_small}
 use Rattle.walks.specs.Guide.{choices_after}
 use Rattle.soundness.specs.Decorated.{Decorated1, cons1', Decorated2, cons2', DecoratedAnnotation, erase1, after_decorated, Arrives}
 use Rattle.soundness.specs.Facts.{SaturatedFacts}

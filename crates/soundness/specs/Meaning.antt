@@ -4,11 +4,11 @@
 use Rattle.std.specs.Prelude.{ℕ, ◌+◌, ◌<◌, ◌≤◌, true, ◌≡◌, refl, List}
 use Rattle.std.proofs.Common.{◌∙◌, inl, inr, arith}
 use Rattle.words.specs.Sets.{part_of}
-use Rattle.words.specs.Sets.Laws.{All, all_part}
+use Rattle.words.proofs.Sets.Laws.{All, all_part}
 use Rattle.stacks.specs.System.{Rule}
 use Rattle.automata.specs.Automaton.{Automaton, entry_edge}
 use Rattle.automata.specs.Automaton.Laws.{EntryIs}
-use Rattle.automata.specs.Acceptance.Laws.{Accepts1, Accepts2}
+use Rattle.automata.proofs.Acceptance.Laws.{Accepts1, Accepts2}
 use Rattle.automata.specs.Derivation.Joining.{Fits}
 use Rattle.automata.specs.Saturation.{Saturated}
 use Rattle.soundness.specs.Facts.{SaturatedFacts}

@@ -8,14 +8,14 @@ use Rattle.std.proofs.Math.Logic.{⊎_elim}
 use mathlib.Core.List.{List, Memᴰ}
 use native.Mathlib.Omega.{arith}
 use Rattle.std.proofs.Math.ListN.{length, get_or}
-use Rattle.words.specs.Sets.Laws.{Has, All}
+use Rattle.words.proofs.Sets.Laws.{Has, All}
 use Rattle.words.specs.Lists.Laws.{get_or_in}
 use Rattle.stacks.specs.Stack.{Stack1, nil1, cons1, nil2, cons2}
 use Rattle.stacks.specs.System.{Rule}
 use Rattle.automata.specs.Automaton.{Automaton, Move, Edge, no_edge, no_entry, edges, move_at, edge_at, entry_edge}
 use Rattle.automata.specs.Automaton.Laws.{MoveOf, EdgeOf, EntryIs, move_at_in, entry_edge_lem, edge_cases, edge_at_inner, length_edges}
 use Rattle.automata.specs.Acceptance.{in_target}
-use Rattle.automata.specs.Acceptance.Laws.{Accepts1, Accepts2, AcceptsAnnotation, accepts2_in, annotation_any}
+use Rattle.automata.proofs.Acceptance.Laws.{Accepts1, Accepts2, AcceptsAnnotation, accepts2_in, annotation_any}
 use Rattle.automata.specs.Facts.{states}
 use Rattle.automata.specs.Facts.Laws.{control_edge, move_at_kept, edge_at_kept, entry_is_own}
 use Rattle.automata.specs.Saturation.{Saturated}

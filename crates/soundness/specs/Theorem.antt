@@ -7,13 +7,13 @@ use Rattle.std.proofs.Common.{ap, ap₂, arith, ltb-true, ltb-false}
 use Rattle.std.proofs.Math.Path.{subst}
 use Rattle.std.proofs.Math.Option.{some}
 use mathlib.Core.List.{List, []}
-use Rattle.words.specs.Sets.Laws.{Has}
+use Rattle.words.proofs.Sets.Laws.{Has}
 use Rattle.words.specs.Laws.Tests.{by_test}
 use Rattle.stacks.specs.Stack.{Stack1, nil1, cons1, Stack2, nil2, cons2, Annotation, of1, of2}
 use Rattle.stacks.specs.System.{Rule, Configuration, Run, stay, go}
 use Rattle.automata.specs.Automaton.{Automaton, move_at, edge_at}
 use Rattle.automata.specs.Acceptance.{accepts2, in_target}
-use Rattle.automata.specs.Acceptance.Laws.{Accepts1, Accepts2, AcceptsAnnotation, accepts2_in, accepts2_out}
+use Rattle.automata.proofs.Acceptance.Laws.{Accepts1, Accepts2, AcceptsAnnotation, accepts2_in, accepts2_out}
 use Rattle.automata.specs.Saturation.{Saturated}
 use Rattle.automata.specs.Facts.Laws.{move_at_facts}
 use Rattle.walks.specs.Guide.{least_choice}

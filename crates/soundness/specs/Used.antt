@@ -10,7 +10,7 @@ use Rattle.automata.specs.Automaton.{Automaton}
 use Rattle.automata.specs.Automaton.Laws.{MoveOf, EntryMove}
 use Rattle.automata.specs.Derivation.{Derivation}
 use Rattle.automata.specs.Derivation.Numbers.{Paired, paired_state}
-use Rattle.automata.specs.Derivation.Laws.{Says}
+use Rattle.automata.proofs.Derivation.Laws.{Says}
 
 -- the numbers of the moves that a derivation by the operation uses
 unfoldable pub used_moves : Operation → Derivation → List ℕ

@@ -1,7 +1,6 @@
 -- Definitions 1 and 2 of source document 001 at n = 2, in its own notation, without its rules p → P. Its collapse is defined from order 1
 -- upward. That document 01's table and steps are these is in Published/Laws.antt.
 -- Assumes nothing.
-pub mod Laws
 use Rattle.std.specs.Prelude.{ℕ, ◌≡◌}
 use Rattle.std.proofs.Math.Option.{Option, none, some}
 use mathlib.Core.List.{List, Memᴰ}

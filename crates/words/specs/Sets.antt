@@ -1,7 +1,5 @@
 -- Sets of states as words: state n is a member exactly if bit n of the word is 1. The definitions hold for every width.
 -- Assumes nothing.
-pub mod Laws
-pub mod Listed
 use Rattle.std.specs.Prelude.{ℕ, zero, suc, ◌+◌, ◌*◌, ◌/◌, ◌%◌, ◌^◌, max, Bool, true, false, List, [], ◌∷◌, eqb}
 
 -- n is a member of s

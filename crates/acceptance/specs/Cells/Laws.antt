@@ -8,7 +8,7 @@ use mathlib.Core.List.{List, [], ◌∷◌, Memᴰ}
 use borrow.Author.Tests.{eqb-true, eqb-false, ltb-true, ltb-false}
 use Rattle.words.specs.Laws.Tests.{by_test, and_left}
 use Rattle.words.specs.Sets.{member}
-use Rattle.words.specs.Sets.Laws.{All}
+use Rattle.words.proofs.Sets.Laws.{All}
 use Rattle.words.specs.Lists.{zeros}
 use Rattle.words.specs.Lists.Laws.{places_out}
 use Rattle.stacks.specs.Stack.{nil1, cons1, nil2, cons2, Annotation, of1, of2, annotation_order}

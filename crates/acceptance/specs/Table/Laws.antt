@@ -5,16 +5,16 @@ use Rattle.std.proofs.Common.{ap, sym, ◌∙◌, subst, arith}
 use Rattle.std.proofs.Math.Option.{some}
 use mathlib.Core.List.{List, Memᴰ}
 use Rattle.std.proofs.Math.ListN.{length}
-use Rattle.words.specs.Sets.Laws.{All, Has}
+use Rattle.words.proofs.Sets.Laws.{All, Has}
 use Rattle.words.specs.Lists.Laws.{get_or_in}
 use Rattle.automata.specs.Automaton.{Automaton, Edge, no_move, no_edge, no_entry}
 use Rattle.automata.specs.Facts.{TableFacts}
 use Rattle.automata.specs.Saturation.{Saturated}
 use Rattle.rounds.specs.Kept.{after_facts}
 use Rattle.rounds.specs.Limits.{IsSaturated, saturate_some, within_keeps}
-use Rattle.rounds.specs.Before.{table_extends}
+use Rattle.rounds.proofs.Before.{table_extends}
 use Rattle.files.specs.Case.{head, own_of, rules_of, edge_records, case_refusal}
-use Rattle.files.specs.Case.Laws.{case_rules, case_table, case_head, case_bounds}
+use Rattle.files.proofs.Case.Laws.{case_rules, case_table, case_head, case_bounds}
 use Rattle.files.specs.Case.Records.{inner_out}
 use Rattle.services.specs.Memory.{lent}
 use Rattle.services.specs.Saturate.{Lent, saturated}

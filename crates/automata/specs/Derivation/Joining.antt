@@ -9,7 +9,7 @@ use Rattle.std.proofs.Math.Option.{Option, none, some, some-injective, none-ne-s
 use mathlib.Core.List.Memᴰ
 use mathlib.Core.List.{List, [], ◌∷◌, map, Memᴰ}
 use Rattle.words.specs.Sets.{join, single, part_of}
-use Rattle.words.specs.Sets.Laws.{Has, All, all_empty, all_join, has_empty, has_join_left, has_join_right, has_single, all_single, join_empty_left, join_zero, part_refl, part_trans, part_join_left, part_join_right}
+use Rattle.words.proofs.Sets.Laws.{Has, All, all_empty, all_join, has_empty, has_join_left, has_join_right, has_single, all_single, join_empty_left, join_zero, part_refl, part_trans, part_join_left, part_join_right}
 use Rattle.words.specs.Laws.Tests.{by_test}
 use Rattle.automata.specs.Automaton.{Automaton, Move, move_at, edge_at}
 use Rattle.automata.specs.Derivation.{Joins, joins_of, clash, join_move, join_moves, join_all, named, edge_sets}

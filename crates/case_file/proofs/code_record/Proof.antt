@@ -1,7 +1,7 @@
 -- `case_file::code_record` meets its contract.
 -- Assumes nothing.
 use native.Mathlib.Omega.{arith}
-use Rattle.files.specs.Case.Laws.{CodesPlaces}
+use Rattle.files.proofs.Case.Laws.{CodesPlaces}
 use Rattle.case_file.specs.Forms.Laws.{record_there, record_is}
 use Rattle.case_file.proofs.code_record.Statement.{statement}
 use Rattle.case_file.proofs.code_record.Tie as tie

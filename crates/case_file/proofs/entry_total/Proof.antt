@@ -6,7 +6,7 @@ use mathlib.Core.List.{List, map}
 use lib.ListN.{length}
 use native.Mathlib.Omega.{arith}
 use Rattle.files.specs.Case.{edge_bytes, edge_records, entries_of}
-use Rattle.files.specs.Case.Laws.{CasePlaces, case_places}
+use Rattle.files.proofs.Case.Laws.{CasePlaces, case_places}
 use Rattle.case_records.specs.Values.{the_head}
 use Rattle.bytes_in.specs.Records.Laws.{body_fits, records_here}
 use borrow.Author.Rules.{rules}

@@ -4,7 +4,7 @@ use mathlib.Core.Path.{ap, ◌∙◌}
 use native.Mathlib.Omega.{arith}
 use Rattle.words.specs.Lists.{every}
 use Rattle.files.specs.Case.{rule_right}
-use Rattle.files.specs.Case.Laws.{CasePlaces, case_places}
+use Rattle.files.proofs.Case.Laws.{CasePlaces, case_places}
 use Rattle.case_records.specs.Values.{the_head}
 use Rattle.case_file.specs.Forms.{HoldsRules}
 use Rattle.case_file.specs.Forms.Laws.{holds_rules}

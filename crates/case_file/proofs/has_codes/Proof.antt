@@ -1,7 +1,7 @@
 -- `case_file::has_codes` meets its contract.
 -- Assumes nothing.
 use native.Mathlib.Omega.{arith}
-use Rattle.files.specs.Case.Laws.{CasePlaces, case_places}
+use Rattle.files.proofs.Case.Laws.{CasePlaces, case_places}
 use Rattle.case_file.specs.Forms.Laws.{codes_tell}
 use borrow.Author.Rules.{rules}
 use Rattle.case_file.proofs.has_codes.Statement.{statement}

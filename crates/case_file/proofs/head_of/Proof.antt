@@ -2,7 +2,7 @@
 -- Assumes nothing.
 use mathlib.Core.Path.{◌∙◌}
 use native.Mathlib.Omega.{arith}
-use Rattle.files.specs.Case.Laws.{CasePlaces, case_places}
+use Rattle.files.proofs.Case.Laws.{CasePlaces, case_places}
 use Rattle.case_file.specs.Laws.Bodies.{head_length, head_here}
 use Rattle.case_file.proofs.head_of.Statement.{statement}
 use Rattle.case_file.proofs.head_of.Tie as tie

@@ -1,7 +1,7 @@
 -- `case_file::move_body` meets its contract.
 -- Assumes nothing.
 use native.Mathlib.Omega.{arith}
-use Rattle.files.specs.Case.Laws.{CasePlaces, case_places}
+use Rattle.files.proofs.Case.Laws.{CasePlaces, case_places}
 use borrow.Author.Rules.{rules}
 use Rattle.case_file.proofs.move_body.Statement.{statement}
 use Rattle.case_file.proofs.move_body.Tie as tie

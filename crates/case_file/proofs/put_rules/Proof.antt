@@ -3,7 +3,7 @@
 use mathlib.Core.Path.{◌≡◌, ap, sym, ◌∙◌}
 use lib.ListN.{length}
 use native.Mathlib.Omega.{arith}
-use Rattle.files.specs.Case.Laws.{CasePlaces, case_places, length_codes}
+use Rattle.files.proofs.Case.Laws.{CasePlaces, case_places, length_codes}
 use Rattle.files.specs.Codes.{our_codes}
 use Rattle.bytes_in.specs.Records.Laws.{body_fits}
 use Rattle.case_file.specs.Forms.Laws.{no_record, rules_ours}

@@ -6,7 +6,7 @@ use mathlib.Core.List.{List, map}
 use Rattle.words.specs.Order.{rising}
 use Rattle.files.specs.Case.{increasing, edge_records, move_of, move_key, move_records}
 use native.Mathlib.Omega.{arith}
-use Rattle.files.specs.Case.Laws.{CasePlaces, case_places}
+use Rattle.files.proofs.Case.Laws.{CasePlaces, case_places}
 use Rattle.bytes_in.specs.Records.Laws.{body_fits, records_here}
 use Rattle.case_file.specs.Laws.Increasing.{edges_are}
 use borrow.Author.Rules.{rules}

@@ -18,7 +18,7 @@ use Rattle.files.specs.Codes.{our_codes, codes_right, in_our_codes}
 use Rattle.files.specs.Codes.Laws.{ours_right}
 use Rattle.files.specs.Writing.{flat}
 use Rattle.files.specs.Case.{case_bodies, code_body, form_of, form, case_placed, codes_of, rule_bytes, rule_records}
-use Rattle.files.specs.Case.Laws.{without_codes, with_codes, case_form, CodesPlaces, case_places, codes_places}
+use Rattle.files.proofs.Case.Laws.{without_codes, with_codes, case_form, CodesPlaces, case_places, codes_places}
 use Rattle.bytes_in.specs.Contents.{bodies_in, bodies_from}
 use Rattle.bytes_in.specs.Records.{body_of}
 use Rattle.bytes_in.specs.Records.Laws.{records_here}

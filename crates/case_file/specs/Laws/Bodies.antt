@@ -7,7 +7,7 @@ use Rattle.words.specs.Lists.{only}
 use Rattle.words.specs.Lists.Laws.{only_append}
 use Rattle.files.specs.Bytes.{count_of, offset_of, records}
 use Rattle.files.specs.Case.{Head, head_of, head, EdgeBytes, edge_bytes, entries_of}
-use Rattle.files.specs.Case.Laws.{CasePlaces}
+use Rattle.files.proofs.Case.Laws.{CasePlaces}
 use Rattle.bytes_in.specs.Records.{record_at, body_of}
 use Rattle.bytes_in.specs.Records.Laws.{length_body, records_here, map_more}
 

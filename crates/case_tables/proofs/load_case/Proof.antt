@@ -3,7 +3,7 @@
 use mathlib.Core.Path.{refl}
 use native.Mathlib.Omega.{arith}
 use Rattle.files.specs.Case.{own_of}
-use Rattle.files.specs.Case.Laws.{CasePlaces, case_places}
+use Rattle.files.proofs.Case.Laws.{CasePlaces, case_places}
 use Rattle.services.specs.Memory.{counted}
 use Rattle.tables.specs.Layouts.{edge_row, entry_row, counted_row, move_row}
 use Rattle.bytes_in.specs.Records.Laws.{body_fits}

@@ -6,8 +6,8 @@ use Rattle.std.proofs.lemmas.List.{map-append, length-map}
 use Rattle.words.specs.Lists.{only, places_from}
 use Rattle.words.specs.Lists.Laws.{only_append, places_from_append}
 use Rattle.words.specs.Sets.{single, join, set_of}
-use Rattle.words.specs.Sets.Laws.{join_empty_right}
-use Rattle.words.specs.Sets.Listed.{set_of_append}
+use Rattle.words.proofs.Sets.Laws.{join_empty_right}
+use Rattle.words.proofs.Sets.Listed.{set_of_append}
 use Rattle.words.specs.Laws.Tests.{by_test}
 use Rattle.words.specs.Order.{insert, sorted}
 use Rattle.automata.specs.Automaton.{Move, Edge, Entry, choice_key}

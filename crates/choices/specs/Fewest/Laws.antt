@@ -4,7 +4,7 @@ use Rattle.std.specs.Prelude.{ℕ, suc, ◌<◌, true, ◌≡◌, refl, length}
 use Rattle.std.proofs.Common.{ap, sym, subst, arith}
 use mathlib.Core.List.{List, ◌∷◌, Memᴰ}
 use Rattle.words.specs.Sets.{member, members}
-use Rattle.words.specs.Sets.Laws.{has_in, in_has}
+use Rattle.words.proofs.Sets.Laws.{has_in, in_has}
 use Rattle.choices.specs.Fewest.{Among}
 
 module _ (s q others : ℕ) (e : members s ≡ q ∷ members others) where

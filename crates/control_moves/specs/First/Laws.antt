@@ -10,14 +10,14 @@ use Rattle.std.proofs.Math.ListN.{length}
 use Rattle.std.proofs.Math.Dec.{eqb}
 use borrow.Author.Tests.{eqb-true, leb-true, leb-false, ltb-false}
 use Rattle.words.specs.Sets.{member}
-use Rattle.words.specs.Sets.Laws.{Has, has_empty, has_below}
+use Rattle.words.proofs.Sets.Laws.{Has, has_empty, has_below}
 use Rattle.words.specs.Lists.Laws.{places_out}
 use Rattle.words.specs.Laws.Tests.{by_test, and_left}
 use Rattle.automata.specs.Automaton.{Automaton, Move, no_move, move_at, entry_of, entry_set}
 use Rattle.automata.specs.Automaton.Laws.{length_edges}
 use Rattle.automata.specs.Derivation.{control_moves}
 use Rattle.automata.specs.Saturation.{up_to}
-use Rattle.automata.specs.Saturation.Laws.{up_to_extends}
+use Rattle.automata.proofs.Saturation.Laws.{up_to_extends}
 use Rattle.tables.specs.declared.Table.{Table}
 use Rattle.tables.specs.Rows.{row_at, rows_in}
 use Rattle.tables.specs.Rows.Laws.{length_rows_in}

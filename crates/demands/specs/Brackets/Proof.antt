@@ -12,7 +12,7 @@ use Rattle.replies.specs.declared.Brackets.TheVariants.{Printed}
 use Rattle.files.specs.Start.{configuration_at}
 use Rattle.services.specs.Memory.{padded}
 use Rattle.services.specs.Brackets.{stack_text, BracketsInput, root_text, BracketsDone, brackets_service}
-use Rattle.services.specs.Brackets.Told.{stack_told}
+use Rattle.services.proofs.Told.{stack_told}
 use Rattle.demands.specs.Refusals.{Refusal, refusal, Returned, TextLonger, brackets_early, brackets_refusals}
 use Rattle.demands.specs.Refusals.Laws.{unlisted, returned_before, returned_then, returned_last, applies_here, applies_not, none_applies}
 use Rattle.demands.specs.Refusals.Brackets.{text_fits}

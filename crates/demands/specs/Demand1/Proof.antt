@@ -25,13 +25,13 @@ use Rattle.files.specs.Start.{starts_of}
 use Rattle.services.specs.Memory.{padded, move_table, entry_table, lent}
 use Rattle.services.specs.Memory.Laws.{padded_none, length_padded, length_move_table, length_entry_table}
 use Rattle.services.specs.Saturate.{Lent, saturated, SaturateDone, saturate_refused, saturate_filled, saturate_service}
-use Rattle.services.specs.Saturate.Laws.{SaturateCase, case_refused, size_exceeded, filled, saturate_cases}
+use Rattle.services.proofs.Saturate.Laws.{SaturateCase, case_refused, size_exceeded, filled, saturate_cases}
 use Rattle.services.specs.Judge.{JudgeInput, JudgeDone, judge_files, judge_lent, mark, judge_left, judge_service, more_to_add}
-use Rattle.services.specs.Judge.Laws.{JudgeCase, start_refused, answers_short, judged, judge_cases}
+use Rattle.services.proofs.Judge.Laws.{JudgeCase, start_refused, answers_short, judged, judge_cases}
 use Rattle.services.specs.Guide.{GuideInput, GuideDone, accepted, guide_files, guide_lent, start_named, guide_walk, guide_left, refused, guide_service, open_start}
-use Rattle.services.specs.Guide.Laws.{GuideCase, Started, start_missing, no_run_holds, cells_short, walked, guide_cases, walk_goes, walk_short, is_open}
+use Rattle.services.proofs.Guide.Laws.{GuideCase, Started, start_missing, no_run_holds, cells_short, walked, guide_cases, walk_goes, walk_short, is_open}
 use Rattle.services.specs.Replay.{ReplayInput, ReplayDone, replay_files, replay_run, replay_service}
-use Rattle.services.specs.Replay.Laws.{Replays, replies, ReplayCase, trace_odd, start_short, replays, replay_cases}
+use Rattle.services.proofs.Replay.Laws.{Replays, replies, ReplayCase, trace_odd, start_short, replays, replay_cases}
 use Rattle.services.specs.Brackets.{BracketsInput, root_text, brackets_refusal, brackets_service}
 use Rattle.services.specs.Brackets.Laws.{answer_refused, answer_printed}
 use Rattle.demands.specs.Size.{Exceeds, ExceedsIn}

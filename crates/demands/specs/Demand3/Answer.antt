@@ -29,7 +29,7 @@ use Rattle.services.specs.Memory.{lent}
 use Rattle.services.specs.Memory.Laws.{padded_none}
 use Rattle.services.specs.Saturate.{saturated}
 use Rattle.services.specs.Guide.{GuideInput, GuideDone, accepted, guide_files, guide_lent, cells_lent, start_named, guide_walk, guide_left}
-use Rattle.services.specs.Guide.Laws.{Started, walk_goes, walk_short}
+use Rattle.services.proofs.Guide.Laws.{Started, walk_goes, walk_short}
 use Rattle.guidance.specs.Run.{trace_take}
 use Rattle.guidance.specs.Halt
 use Rattle.guidance.specs.Halt.{Reason, trace-full, cells_short, halt_by, is_arrival}

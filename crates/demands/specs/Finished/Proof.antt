@@ -7,14 +7,14 @@ use Rattle.std.proofs.Math.Option.{some, none-ne-some}
 use Rattle.std.proofs.lemmas.List.{length-map}
 use Rattle.words.specs.Laws.Tests.{by_test}
 use Rattle.words.specs.Sets.{member}
-use Rattle.words.specs.Sets.Laws.{Has}
+use Rattle.words.proofs.Sets.Laws.{Has}
 use Rattle.words.specs.Lists.Laws.{get_or_in, in_get_or, only_in, only_out}
 use Rattle.stacks.specs.Stack.{nil1, cons1, Stack2, nil2, cons2}
 use Rattle.stacks.specs.System.{Configuration, Rule, step, step_on, Run, stay, go}
 use Rattle.automata.specs.Automaton.{Entry, no_entry, edge_at, entry_edge}
 use Rattle.automata.specs.Automaton.Laws.{EntryIs, entry_edge_lem}
 use Rattle.automata.specs.Acceptance.{accepts2, in_target}
-use Rattle.automata.specs.Acceptance.Laws.{Accepts1, accepts2_in, accepts2_out}
+use Rattle.automata.proofs.Acceptance.Laws.{Accepts1, accepts2_in, accepts2_out}
 use Rattle.automata.specs.Facts.Laws.{control_edge}
 use Rattle.automata.specs.Saturation.{table_after}
 use Rattle.rounds.specs.Rounds.{own_extends}
@@ -23,7 +23,7 @@ use Rattle.replies.specs.declared.Halt.TheVariants.{Arrived}
 use Rattle.replies.specs.declared.Reply.TheVariants.{Walked}
 use Rattle.walks.specs.Cell.Values.{get_or_map_below}
 use Rattle.files.specs.Case.{head, EdgeBytes, edge_records, entries_of, own_of, rules_of}
-use Rattle.files.specs.Case.Laws.{no_edge_bytes, entries_written, final_written, written_final, case_table}
+use Rattle.files.proofs.Case.Laws.{no_edge_bytes, entries_written, final_written, written_final, case_table}
 use Rattle.files.specs.Start.{cells_of, configuration_at}
 use Rattle.services.specs.Memory.{padded}
 use Rattle.services.specs.Memory.Laws.{padded_none}

@@ -24,16 +24,16 @@ use Rattle.rounds.specs.Limits.{IsSaturated, saturate_some, saturated_after, rou
 use Rattle.rounds.specs.Sizes.{rounds_are}
 use Rattle.rounds.specs.Won.Few.{word_few, after_accepts}
 use Rattle.walks.specs.Cell.Values.{get_or_map_below}
-use Rattle.files.specs.Case.Laws.{case_rules, case_table, case_own}
+use Rattle.files.proofs.Case.Laws.{case_rules, case_table, case_own}
 use Rattle.files.specs.Case.{own_of, rules_of, case_refusal}
 use Rattle.files.specs.Start.{Files, Start, start_refusal, starts_of, configuration_of, start_at, configuration_at}
 use Rattle.services.specs.Memory.{lent, padded}
 use Rattle.services.specs.Memory.Laws.{get_or_padded}
 use Rattle.services.specs.Saturate.{Lent, saturated}
 use Rattle.services.specs.Judge.{JudgeInput, JudgeDone, judge_files, judge_lent, won, mark, judge_left, judge_service, more_to_add}
-use Rattle.services.specs.Judge.Laws.{JudgeCase, case_refused, start_refused, answers_short, size_exceeded, judged, judge_cases}
+use Rattle.services.proofs.Judge.Laws.{JudgeCase, case_refused, start_refused, answers_short, size_exceeded, judged, judge_cases}
 use Rattle.services.specs.Guide.{GuideInput, accepted, guide_lent, start_named}
-use Rattle.services.specs.Guide.Laws.{Started}
+use Rattle.services.proofs.Guide.Laws.{Started}
 use Rattle.services.specs.Listing.{listing_judge, round_won}
 use Rattle.demands.specs.Reach.{Runs, round_table, WonIn, Marks, accepted_in, AddsMove, AddsNothing}
 use Rattle.demands.specs.Reach.Laws.{reaches_published, accepted_reaches, reaches_accepted, nothing_is_closed, adds_not, tested_adds, tested_nothing}

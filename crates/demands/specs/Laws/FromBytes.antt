@@ -9,10 +9,10 @@ use Rattle.automata.specs.Automaton.{Automaton}
 use Rattle.automata.specs.Facts.{RuleFacts, TableFacts, OwnFacts}
 use Rattle.automata.specs.Saturation.{Size, Saturated, saturate}
 use Rattle.rounds.specs.Sizes.{AfterRounds}
-use Rattle.rounds.specs.Before.{table_extends, table_facts, own_moves_own, later, later_entry}
+use Rattle.rounds.proofs.Before.{table_extends, table_facts, own_moves_own, later, later_entry}
 use Rattle.rounds.specs.Limits.{saturate_some}
 use Rattle.files.specs.Case.{head, own_of, rules_of, case_refusal}
-use Rattle.files.specs.Case.Laws.{case_rules, case_table, case_own}
+use Rattle.files.proofs.Case.Laws.{case_rules, case_table, case_own}
 use Rattle.soundness.specs.Facts.{SaturatedFacts}
 
 -- any own automaton with the facts of a sound case

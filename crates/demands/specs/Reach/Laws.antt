@@ -5,7 +5,7 @@ use Rattle.std.specs.Prelude.{ℕ, true, false, ◌≡◌, ◌↔◌, length}
 use Rattle.std.proofs.Common.{ap, ◌∙◌, arith}
 use mathlib.Core.List.{List, Memᴰ}
 use Rattle.stacks.specs.System.{Configuration, Rule}
-use Rattle.stacks.specs.Published.Laws.{run_transitions, transitions_run}
+use Rattle.stacks.proofs.Published.Laws.{run_transitions, transitions_run}
 use Rattle.automata.specs.Automaton.{Automaton}
 use Rattle.automata.specs.Acceptance.{accepts2}
 use Rattle.automata.specs.Facts.{RuleFacts, TableFacts, OwnFacts, Closed}
@@ -13,7 +13,7 @@ use Rattle.automata.specs.Saturation.{Saturated, adds_move}
 use Rattle.rounds.specs.Rounds.{after_suc, still_closed, closed_same}
 use Rattle.rounds.specs.Sizes.{AfterRounds}
 use Rattle.rounds.specs.Limits.{adds_some, nothing_closed}
-use Rattle.rounds.specs.Before.{table_extends}
+use Rattle.rounds.proofs.Before.{table_extends}
 use Rattle.completeness.specs.Complete.{run_accepted}
 use Rattle.soundness.specs.Theorem.{sound}
 use Rattle.files.specs.Case.{own_of, rules_of}

@@ -11,7 +11,7 @@ use Rattle.std.proofs.Math.Seq.{take-length, take-append_seam}
 use borrow.Author.Tests.{eqb-false}
 use Rattle.words.specs.Lists.{each}
 use Rattle.stacks.specs.System.{Configuration, Rule, Run}
-use Rattle.stacks.specs.Published.Laws.{run_transitions}
+use Rattle.stacks.proofs.Published.Laws.{run_transitions}
 use Rattle.automata.specs.Acceptance.{in_target}
 use Rattle.automata.specs.Saturation.{Saturated}
 use Rattle.replies.specs.declared.Counts.{Counts}
@@ -25,9 +25,9 @@ use Rattle.files.specs.Case.{own_of, rules_of}
 use Rattle.files.specs.Start.{starts_of, cells_of, configuration_at}
 use Rattle.services.specs.Memory.{padded}
 use Rattle.services.specs.Guide.{GuideInput, GuideDone, guide_files, cells_lent, guide_left, refused, guide_service}
-use Rattle.services.specs.Guide.Laws.{GuideCase, Started, guide_cases}
+use Rattle.services.proofs.Guide.Laws.{GuideCase, Started, guide_cases}
 use Rattle.services.specs.Replay.{ReplayInput, ReplayDone, replay_files, rule_numbers, replay_cells, replay_service}
-use Rattle.services.specs.Replay.Laws.{Replays, replies}
+use Rattle.services.proofs.Replay.Laws.{Replays, replies}
 use Rattle.guidance.specs.Halt.{Reason, arrival, trace-full, cells_short, halt_by, is_arrival}
 use Rattle.demands.specs.Refusals.{Refusal, refusal, Returned, early_refusals, replay_refusals}
 use Rattle.demands.specs.Refusals.Laws.{unlisted, returned_before, returned_then, returned_last, applies_here, applies_not, none_applies}

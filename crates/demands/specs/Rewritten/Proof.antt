@@ -9,12 +9,12 @@ use Rattle.files.specs.Bytes.{records_of}
 use Rattle.files.specs.Codes.{our_code, in_our_codes}
 use Rattle.files.specs.Codes.Laws.{code_missing}
 use Rattle.files.specs.Case.{codes_of, rule_bytes, rule_records, records_right}
-use Rattle.files.specs.Case.Laws.{case_places, records_bounds}
+use Rattle.files.proofs.Case.Laws.{case_places, records_bounds}
 use Rattle.files.specs.Case.Refusal.{refusal_by, refusal_is}
 use Rattle.files.specs.Rewriting.{SameCase}
-use Rattle.files.specs.Rewriting.Laws.{same_heads, rules_rewritten, same_edges, same_moves, rewriting_first, rewriting_placed}
-use Rattle.files.specs.Rewriting.Laws.{is_placed, head_in_range, codes_differ, same_case}
-use Rattle.services.specs.Laws.SameCase.{saturate_alike, judge_alike, guide_alike, replay_alike, brackets_alike, listing_alike, run_text_alike, show_alike}
+use Rattle.files.proofs.Rewriting.Laws.{same_heads, rules_rewritten, same_edges, same_moves, rewriting_first, rewriting_placed}
+use Rattle.files.proofs.Rewriting.Laws.{is_placed, head_in_range, codes_differ, same_case}
+use Rattle.services.proofs.Laws.SameCase.{saturate_alike, judge_alike, guide_alike, replay_alike, brackets_alike, listing_alike, run_text_alike, show_alike}
 use Rattle.demands.specs.Refusals.Codes.{codes_wrong}
 use Rattle.demands.specs.Determined.{saturate_only, judge_only, guide_only, replay_only, brackets_only}
 use Rattle.demands.specs.Rewritten.{RewritingIs, AnswersAs, Rewritten, SharesAnswers, Shared, UnlistedCode, CodesRefused}

@@ -16,7 +16,7 @@ use Rattle.rounds.specs.Limits.{saturate_some, saturate_none, all_closed}
 use Rattle.rounds.specs.Ends.{work_ends}
 use Rattle.rounds.specs.LeastClosed.Laws.{closed_least, closed_exceeds, saturated_least, least_within}
 use Rattle.files.specs.Case.{case_refusal, own_of, rules_of}
-use Rattle.files.specs.Case.Laws.{case_rules, case_table, case_own, case_moves_once, case_rules_bounded, case_bounded}
+use Rattle.files.proofs.Case.Laws.{case_rules, case_table, case_own, case_moves_once, case_rules_bounded, case_bounded}
 use Rattle.services.specs.Memory.{lent}
 use Rattle.services.specs.Saturate.{Lent, saturated}
 use Rattle.demands.specs.Size.{SaturatedTable, Exceeds, ExceedsIn}

@@ -24,7 +24,7 @@ use Rattle.replies.specs.declared.Replayed.TheVariants.{Refused, Accepted, Fails
 use Rattle.files.specs.Case.{own_of, rules_of}
 use Rattle.files.specs.Start.{cells_of, configuration_at}
 use Rattle.services.specs.Replay.{ReplayInput, replay_cells, Taken, taken, replayed, replay_run}
-use Rattle.services.specs.Replay.Laws.{taken_is, taken_by, replayed_arrived, replayed_missed, replayed_fails, replayed_short, replayed_goes}
+use Rattle.services.proofs.Replay.Laws.{taken_is, taken_by, replayed_arrived, replayed_missed, replayed_fails, replayed_short, replayed_goes}
 use Rattle.guidance.specs.Halt.{cells_of_steps}
 use Rattle.demands.specs.FullRun.{used}
 use Rattle.demands.specs.Traces.{trace_of, cells_used, RunsTo, Applies, RealFault, StepFails, StepShort, CellsMissing}

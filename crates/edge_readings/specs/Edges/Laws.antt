@@ -6,7 +6,7 @@ use Rattle.std.proofs.Common.{ap₂, sym, ◌∙◌, arith, eq-eqb, ne_eqb}
 use mathlib.Core.List.{List, ◌∷◌, Memᴰ}
 use Rattle.std.proofs.Math.ListN.{length}
 use Rattle.words.specs.Sets.{join, single, members}
-use Rattle.words.specs.Sets.Laws.{members_empty}
+use Rattle.words.proofs.Sets.Laws.{members_empty}
 use Rattle.words.specs.Lists.{when}
 use Rattle.automata.specs.Automaton.{Automaton, Edge, no_edge, edges, edge_at, edges_of}
 use Rattle.automata.specs.Automaton.Laws.{edges_of_in}

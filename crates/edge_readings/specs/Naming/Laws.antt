@@ -7,7 +7,7 @@ use Rattle.std.proofs.Math.Path.{subst}
 use mathlib.Core.List.Memᴰ
 use mathlib.Core.List.{List, [], ◌∷◌, Memᴰ}
 use Rattle.words.specs.Sets.{join, single, member, members}
-use Rattle.words.specs.Sets.Laws.{Has, has_in, in_has, has_single, single_has, has_join_left, has_join_right, join_cases, join_comm, join_assoc, ext_all}
+use Rattle.words.proofs.Sets.Laws.{Has, has_in, in_has, has_single, single_has, has_join_left, has_join_right, join_cases, join_comm, join_assoc, ext_all}
 use Rattle.words.specs.Laws.Tests.{by_test, equal_tests}
 use Rattle.sets.specs.Without.{without}
 use Rattle.sets.specs.Without.Laws.{without_has, members_taken}
@@ -15,7 +15,7 @@ use Rattle.automata.specs.Automaton.{Automaton, edge_at, edges_of}
 use Rattle.automata.specs.Automaton.Laws.{moves_of_out, moves_of_in, edges_of_out}
 use Rattle.automata.specs.Derivation.{Result, Joins, join_move}
 use Rattle.automata.specs.Facts.Laws.{move_at_kept, move_of_kept}
-use Rattle.automata.specs.Saturation.Laws.{up_to_extends}
+use Rattle.automata.proofs.Saturation.Laws.{up_to_extends}
 use Rattle.choices.specs.Unchanged.{Unchanged}
 use Rattle.readings.specs.declared.Before.{Before}
 use Rattle.readings.specs.Readings.{read_results, edge_results}

@@ -6,7 +6,7 @@ use Rattle.std.proofs.Common.{ap, sym, arith, eqb-true, ltb-true, ltb-false, leb
 use Rattle.std.proofs.Math.Logic.{⊎_map}
 use mathlib.Core.List.Memᴰ
 use mathlib.Core.List.{List, map, Memᴰ}
-use Rattle.words.specs.Sets.Laws.{All, has_in}
+use Rattle.words.proofs.Sets.Laws.{All, has_in}
 use Rattle.words.specs.Lists.{only}
 use Rattle.words.specs.Lists.Laws.{every_in, only_out}
 use Rattle.words.specs.Laws.Tests.{and_left, and_right, or_cases}

@@ -12,7 +12,7 @@ use borrow.Author.Tests.{ltb-true, ltb-false}
 use Rattle.words.specs.Laws.Tests.{by_test}
 use Rattle.words.specs.Laws.Options.{by_option}
 use Rattle.words.specs.Sets.{single, members}
-use Rattle.words.specs.Sets.Laws.{Has, has_below, has_empty, single_has, join_cases, in_has}
+use Rattle.words.proofs.Sets.Laws.{Has, has_below, has_empty, single_has, join_cases, in_has}
 use Rattle.words.specs.Lists.Laws.{get_elem?_some}
 use Rattle.stacks.specs.Stack.{Operation, rewrite, push1, push2, copy, pop1, pop2, collapse1, collapse2}
 use Rattle.automata.specs.Automaton.{Automaton, Move, Edge, Entry, no_move, no_edge, no_entry, edges, move_at, edge_at, entry_at, entry_set, entry_edge}

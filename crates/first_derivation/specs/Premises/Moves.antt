@@ -6,7 +6,7 @@ use Rattle.std.proofs.Common.{◌∙◌}
 use Rattle.std.proofs.Math.Option.{Option, none, some, map}
 use Rattle.std.proofs.Math.Dec.{eqb}
 use Rattle.words.specs.Sets.{join, members}
-use Rattle.words.specs.Sets.Laws.{join_empty_left}
+use Rattle.words.proofs.Sets.Laws.{join_empty_left}
 use Rattle.words.specs.Order.{same}
 use Rattle.stacks.specs.Stack.{Operation, rewrite, push1, push2, copy, pop1, pop2, collapse1, collapse2}
 use Rattle.automata.specs.Automaton.{Automaton, Move, move_at, entry_at, entry_set}

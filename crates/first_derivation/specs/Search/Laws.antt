@@ -9,7 +9,7 @@ use Rattle.std.proofs.Math.Option.{Option, none, some, map, map-map}
 use mathlib.Core.List.{List, [], ◌∷◌}
 use Rattle.std.proofs.Math.Dec.{eqb}
 use Rattle.words.specs.Sets.{join, single, members}
-use Rattle.words.specs.Sets.Laws.{join_empty_left}
+use Rattle.words.proofs.Sets.Laws.{join_empty_left}
 use Rattle.words.specs.Lists.{each, when, first}
 use Rattle.words.specs.Lists.Laws.{none_first}
 use Rattle.words.specs.Laws.Tests.{by_test, and_left, and_right}
@@ -19,7 +19,7 @@ use Rattle.stacks.specs.Stack.{Operation, rewrite, push1, push2, copy, pop1, pop
 use Rattle.stacks.specs.System.{Rule}
 use Rattle.automata.specs.Automaton.{Automaton, move_at, entry_set}
 use Rattle.automata.specs.Derivation.{Result, result_key, Derivation, Joins, no_joins, joins_of, join_all, readings, edge_choices, named, edge_sets, control_moves, control_entries, conclude, by_rewrite, by_push1, by_push2, by_copy, by_pop1, by_pop2, by_collapse1, by_collapse2, derivations_by, derivations_from, derivations, first_derivation}
-use Rattle.automata.specs.Derivation.Laws.{conclusion, result_key_eq, says_goes, derivations_by_out}
+use Rattle.automata.proofs.Derivation.Laws.{conclusion, result_key_eq, says_goes, derivations_by_out}
 use Rattle.first_reading.specs.First.{or_else, only_if, first_of}
 use Rattle.first_reading.specs.First.Laws.{only_if_yes, only_if_no, first_one, first_when, only_if_none, map_only_if, first_append_else, first_of_same, first_of_only_if, first_of_first, first_each, map_first_of}
 use Rattle.first_reading.specs.Search.{joins_key, wanted, Numbers, no_numbers, only_moves, first_reading, first_edges}

@@ -10,7 +10,7 @@ use Rattle.std.proofs.Math.Option.{Option, none, some}
 use mathlib.Core.List.Memᴰ
 use mathlib.Core.List.{List, [], ◌∷◌, ◌++◌, map, Memᴰ}
 use Rattle.words.specs.Sets.{member, single, join, part_of, members}
-use Rattle.words.specs.Sets.Laws.{Has, All, has_part, part_has, part_refl, part_trans, part_join_left, part_join_right, has_in, in_has, all_join, all_one}
+use Rattle.words.proofs.Sets.Laws.{Has, All, has_part, part_has, part_refl, part_trans, part_join_left, part_join_right, has_in, in_has, all_join, all_one}
 use Rattle.words.specs.Lists.{choices}
 use Rattle.words.specs.Lists.Laws.{first_some, get_or_in}
 use Rattle.words.specs.Laws.Tests.{by_test}

@@ -6,7 +6,7 @@ use Rattle.std.proofs.Math.Path.{refl, ap, ap₂, sym}
 use Rattle.std.proofs.Common.{◌∙◌, arith}
 use Rattle.std.proofs.Math.Option.{Option, none, some}
 use Rattle.words.specs.Sets.{member, single, join, part_of}
-use Rattle.words.specs.Sets.Laws.{has_below}
+use Rattle.words.proofs.Sets.Laws.{has_below}
 use Rattle.words.specs.Laws.Tests.{by_test}
 use Rattle.automata.specs.Automaton.{Move}
 use Rattle.automata.specs.Derivation.{Result, Joins}

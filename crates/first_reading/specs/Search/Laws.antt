@@ -7,7 +7,7 @@ use Rattle.std.proofs.Math.Option
 use Rattle.std.proofs.Math.Option.{Option, none, some, map-map}
 use mathlib.Core.List.{List, [], ◌∷◌, map}
 use Rattle.words.specs.Sets.{join, single, members}
-use Rattle.words.specs.Sets.Laws.{join_assoc, join_empty_right}
+use Rattle.words.proofs.Sets.Laws.{join_assoc, join_empty_right}
 use Rattle.words.specs.Lists.{first, choices}
 use Rattle.words.specs.Lists.Laws.{none_first}
 use Rattle.words.specs.Laws.Tests.{by_test}

@@ -7,7 +7,7 @@ use Rattle.std.proofs.Math.Option.{Option, none, map}
 use mathlib.Core.List.{List, [], ◌∷◌}
 use Rattle.std.proofs.Math.ListN.{set}
 use Rattle.words.specs.Sets.{join, single, members, part_of}
-use Rattle.words.specs.Sets.Laws.{members_empty, join_assoc, join_empty_right}
+use Rattle.words.proofs.Sets.Laws.{members_empty, join_assoc, join_empty_right}
 use Rattle.automata.specs.Automaton.{Edge, no_edge, edges, edge_at, edges_of, moves_of, move_at, entry_edges}
 use Rattle.automata.specs.Automaton.Laws.{length_entry_edges}
 use Rattle.automata.specs.Derivation.{Result, Joins, named}

@@ -7,7 +7,7 @@ use Rattle.std.proofs.Math.Option.{Option, none, some, map}
 use Rattle.std.proofs.Math.ListN.{get_or, set}
 use Rattle.std.proofs.Math.Dec.{eqb}
 use Rattle.words.specs.Sets.{members}
-use Rattle.words.specs.Sets.Laws.{members_empty}
+use Rattle.words.proofs.Sets.Laws.{members_empty}
 use Rattle.words.specs.Laws.Tests.{by_test}
 use Rattle.words.specs.Order.{same}
 use Rattle.automata.specs.Automaton.{Automaton, Move, no_move, move_at, moves_of}

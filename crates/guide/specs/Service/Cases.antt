@@ -11,7 +11,7 @@ use Rattle.files.specs.Start.{start_refusal, starts_of}
 use Rattle.services.specs.Saturate.{saturated}
 use Rattle.services.specs.Judge.{more_to_add}
 use Rattle.services.specs.Guide.{GuideInput, GuideDone, guide_lent, guide_files, guide_run, guide_left, refused, guide_service, accepted, start_named, open_start}
-use Rattle.services.specs.Guide.Laws.{Started, GuideCase, guide_cases, case_refused, start_refused, start_missing, size_exceeded, no_run_holds, is_open, cells_short, walked}
+use Rattle.services.proofs.Guide.Laws.{Started, GuideCase, guide_cases, case_refused, start_refused, start_missing, size_exceeded, no_run_holds, is_open, cells_short, walked}
 use Rattle.sound_files.specs.Refusal.{FilesSound, number_refusal}
 use Rattle.sound_files.specs.Refusal.Laws.{before_case, before_start, before_below, before_past}
 use Rattle.guided_start.specs.Run.{unaccepted}

@@ -5,7 +5,7 @@ use Prim.Native.Nat.{ℕ}
 use lib.ListN.{length-replicate}
 use Rattle.case_file.specs.Forms.Laws.{holds_rules}
 use Rattle.tables.specs.Held.{automaton_of}
-use Rattle.files.specs.Case.Laws.{case_in_place}
+use Rattle.files.proofs.Case.Laws.{case_in_place}
 use Rattle.saturate.specs.Case.Laws.{long_enough}
 use Rattle.saturation.specs.Held.{saturated_in}
 use Rattle.sound_files.specs.Sound.Laws.{start_long}

@@ -15,7 +15,7 @@ use Rattle.words.specs.Lists.{zeros}
 use Rattle.words.specs.Laws.Tests.{by_test}
 use Rattle.services.specs.Judge.{more_to_add}
 use Rattle.services.specs.Guide.{GuideInput, accepted, cell_words, cells_lent, start_named, guide_walk, guide_run, open_start}
-use Rattle.services.specs.Guide.Laws.{walk_short, walk_goes}
+use Rattle.services.proofs.Guide.Laws.{walk_short, walk_goes}
 use Rattle.services.specs.Memory.Laws.{padded_none}
 use Rattle.bytes_in.specs.Records.{record_at, body_of}
 use Rattle.rounds.specs.Won.{is_won}

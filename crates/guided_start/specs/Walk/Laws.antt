@@ -13,7 +13,7 @@ use Rattle.walks.specs.Guide as walks
 use Rattle.walks.specs.Guide.{start_walk, guided}
 use Rattle.files.specs.Bytes.{count_of}
 use Rattle.files.specs.Case.{case_refusal, rules_of}
-use Rattle.files.specs.Case.Laws.{case_placed_lem}
+use Rattle.files.proofs.Case.Laws.{case_placed_lem}
 use Rattle.files.specs.Start.{cells_of}
 use Rattle.bytes_in.specs.Records.{body_of}
 use Rattle.case_file.specs.Forms.{HoldsRules}

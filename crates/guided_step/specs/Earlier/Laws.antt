@@ -9,7 +9,7 @@ use Rattle.std.proofs.Math.ListN.{length}
 use Rattle.automata.specs.Automaton.{Automaton, Move, Entry, entry_at, entry_control, entry_set}
 use Rattle.automata.specs.Derivation.{result_of}
 use Rattle.automata.specs.Saturation.{Size, up_to, last_up_to, own_moves}
-use Rattle.automata.specs.Saturation.Laws.{last_up_to_yes, last_up_to_no}
+use Rattle.automata.proofs.Saturation.Laws.{last_up_to_yes, last_up_to_no}
 use Rattle.tables.specs.declared.Table.{Table}
 use Rattle.tables.specs.Rows.{first_of, Layout, row_at, rows_in}
 use Rattle.tables.specs.Rows.Laws.{length_rows_in, get_or_rows_in, rows_in_list}

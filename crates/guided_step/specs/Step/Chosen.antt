@@ -14,8 +14,8 @@ use Rattle.automata.specs.Automaton.{Automaton, Move, edges, move_at, entry_set,
 use Rattle.automata.specs.Automaton.Laws.{EntryIs, EntryMove, entry_move_set}
 use Rattle.automata.specs.Derivation.{Derivation, named}
 use Rattle.automata.specs.Derivation.Numbers.{paired_state}
-use Rattle.automata.specs.Derivation.Laws.{Says}
-use Rattle.automata.specs.Derivation.Kept.{named_kept}
+use Rattle.automata.proofs.Derivation.Laws.{Says}
+use Rattle.automata.proofs.Derivation.Kept.{named_kept}
 use Rattle.automata.specs.Facts.{Extends}
 use Rattle.automata.specs.Facts.Laws.{move_at_kept, entry_move_kept}
 use Rattle.walks.specs.Guide.{first_or_zero, chooses_all}

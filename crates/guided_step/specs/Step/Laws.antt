@@ -11,10 +11,10 @@ use Rattle.stacks.specs.Stack.{Operation}
 use Rattle.stacks.specs.System.{Rule}
 use Rattle.automata.specs.Automaton.{Automaton, Move, no_move, move_at}
 use Rattle.automata.specs.Derivation.{Result, Derivation, result_of, first_derivation}
-use Rattle.automata.specs.Derivation.Laws.{Derives, derivations_out, first_derivation_out}
-use Rattle.automata.specs.Derivation.Kept.{says_kept}
+use Rattle.automata.proofs.Derivation.Laws.{Derives, derivations_out, first_derivation_out}
+use Rattle.automata.proofs.Derivation.Kept.{says_kept}
 use Rattle.automata.specs.Saturation.{Saturated, last_up_to, before, own_moves}
-use Rattle.automata.specs.Saturation.Laws.{before_extends}
+use Rattle.automata.proofs.Saturation.Laws.{before_extends}
 use Rattle.walks.specs.Guide as walks
 use Rattle.walks.specs.Guide.{first_or_zero, chooses_all, by_derivation, at_top}
 use Rattle.tables.specs.declared.Table.{Table}

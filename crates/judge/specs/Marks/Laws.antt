@@ -13,7 +13,7 @@ use Rattle.automata.specs.Saturation.{Saturated}
 use Rattle.rounds.specs.Won.{is_won}
 use Rattle.rounds.specs.Won.Laws.{round2_won}
 use Rattle.files.specs.Case.{case_refusal}
-use Rattle.files.specs.Case.Laws.{case_rules, case_table}
+use Rattle.files.proofs.Case.Laws.{case_rules, case_table}
 use Rattle.files.specs.Start.{starts_of, cells_of}
 use Rattle.services.specs.Saturate.{Lent, saturated}
 use Rattle.services.specs.Judge.{won, more_to_add, mark}

@@ -9,7 +9,7 @@ use Rattle.replies.specs.Numbers.{answer_word, word_round}
 use Rattle.automata.specs.Saturation.{Saturated}
 use Rattle.rounds.specs.Won.{round2}
 use Rattle.rounds.specs.Won.Laws.{round2_won}
-use Rattle.files.specs.Case.Laws.{case_rules, case_table}
+use Rattle.files.proofs.Case.Laws.{case_rules, case_table}
 use Rattle.files.specs.Start.{starts_of, start_at, configuration_of}
 use Rattle.services.specs.Saturate.{saturated}
 use Rattle.services.specs.Judge.{JudgeInput, JudgeDone, judge_lent, judge_left, judge_service, won}

@@ -16,7 +16,7 @@ use Rattle.automata.specs.Automaton.{Automaton, Move, Entry, no_entry, move_at}
 use Rattle.automata.specs.Automaton.Laws.{in_move_at, move_at_in}
 use Rattle.automata.specs.Derivation.{Result}
 use Rattle.automata.specs.Saturation.{is_entry, held}
-use Rattle.automata.specs.Saturation.Laws.{stands_held, held_stands}
+use Rattle.automata.proofs.Saturation.Laws.{stands_held, held_stands}
 use Rattle.tables.specs.declared.Table.{Table}
 use Rattle.tables.specs.declared.Entry.{Entry as EntryWords}
 use Rattle.tables.specs.Records.{as_entry}

@@ -12,7 +12,7 @@ use Rattle.words.specs.Laws.Tests.{by_test}
 use Rattle.words.specs.Order.{less, insert}
 use Rattle.words.specs.Order.Laws.{less_transitive, by_place, insert_before, insert_after, insert_held}
 use Rattle.automata.specs.Derivation.{Result, result_key}
-use Rattle.automata.specs.Derivation.Laws.{result_key_eq}
+use Rattle.automata.proofs.Derivation.Laws.{result_key_eq}
 use Rattle.tables.specs.Insertion.Laws.{length_insert}
 use Rattle.tables.specs.Pending.{limited, insert_within}
 use Rattle.tables.specs.Pending.Laws.{limited_fits, limited_over}

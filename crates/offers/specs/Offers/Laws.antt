@@ -17,7 +17,7 @@ use Rattle.words.specs.Order.{insert, sorted, rising}
 use Rattle.words.specs.Order.Laws.{insert_out, insert_in, insert_key, insert_rising, sorted_unique}
 use Rattle.automata.specs.Automaton.{Automaton}
 use Rattle.automata.specs.Derivation.{Result, result_key}
-use Rattle.automata.specs.Derivation.Laws.{result_key_eq}
+use Rattle.automata.proofs.Derivation.Laws.{result_key_eq}
 use Rattle.automata.specs.Saturation.{held}
 use Rattle.tables.specs.Insertion.Laws.{length_insert}
 use Rattle.tables.specs.Pending.{limited, insert_within, pending_in}

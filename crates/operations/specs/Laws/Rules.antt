@@ -12,7 +12,7 @@ use Rattle.files.specs.Bytes.Laws.{length_records}
 use Rattle.files.specs.Codes.{in_our_codes}
 use Rattle.files.specs.Writing.{flat}
 use Rattle.files.specs.Writing.Laws.{length_flat, records_flat}
-use Rattle.files.specs.Rewriting.Laws.{sized_rules}
+use Rattle.files.proofs.Rewriting.Laws.{sized_rules}
 use Rattle.bytes_in.specs.Records.{record_at}
 use Rattle.bytes_in.specs.Records.Laws.{map_more}
 

@@ -3,7 +3,7 @@
 use mathlib.Core.Path.{refl, ap₂, ◌∙◌}
 use native.Mathlib.Omega.{arith}
 use Rattle.automata.specs.Acceptance.{in_target}
-use Rattle.files.specs.Case.Laws.{case_in_place}
+use Rattle.files.proofs.Case.Laws.{case_in_place}
 use Rattle.own_target.specs.Target.Laws.{own_room, own_named}
 use borrow.Author.Rules.{rules}
 use Rattle.own_target.proofs.in_target.Statement.{statement}

@@ -16,7 +16,7 @@ use Rattle.walks.specs.Cell.Formed.{order_at}
 use Rattle.walks.specs.Cell.Laws.{stack_order, annotation_of2}
 use Rattle.files.specs.Bytes.{count_of}
 use Rattle.files.specs.Case.{head, edge_records, own_of, case_refusal}
-use Rattle.files.specs.Case.Laws.{case_placed_lem, case_head, case_bounds, case_table, case_moves_few, case_states_few}
+use Rattle.files.proofs.Case.Laws.{case_placed_lem, case_head, case_bounds, case_table, case_moves_few, case_states_few}
 use Rattle.files.specs.Case.Records.{inner_out}
 use Rattle.services.specs.Memory.{entry_width}
 use Rattle.tables.specs.declared.Table.{Table}

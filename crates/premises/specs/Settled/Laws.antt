@@ -18,7 +18,7 @@ use Rattle.automata.specs.Derivation.{Result, Joins, control_moves}
 use Rattle.automata.specs.Facts.{Extends}
 use Rattle.automata.specs.Facts.Laws.{move_at_kept, entry_at_same}
 use Rattle.automata.specs.Saturation.{up_to}
-use Rattle.automata.specs.Saturation.Laws.{up_to_extends}
+use Rattle.automata.proofs.Saturation.Laws.{up_to_extends}
 use Rattle.readings.specs.Readings.{read_results, edge_results}
 use Rattle.readings.specs.Readings.Earlier.{edges_out, read_all_old, edges_old}
 use Rattle.premises.specs.declared.MoveUse.{MoveUse}

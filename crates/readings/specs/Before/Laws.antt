@@ -7,14 +7,14 @@ use Rattle.std.proofs.Math.Option.{some}
 use mathlib.Core.List.{List, ◌∷◌, Memᴰ}
 use Rattle.std.proofs.Math.ListN.{length-take}
 use Rattle.words.specs.Sets.{part_of, member, members}
-use Rattle.words.specs.Sets.Laws.{Has, in_has, part_has}
+use Rattle.words.proofs.Sets.Laws.{Has, in_has, part_has}
 use Rattle.words.specs.Laws.Tests.{by_test, and_left, and_right}
 use Rattle.sets.specs.Without.{without}
 use Rattle.automata.specs.Automaton.{Automaton, edges, move_at, moves_of}
 use Rattle.automata.specs.Automaton.Laws.{moves_of_out, length_edges}
 use Rattle.automata.specs.Derivation.{Joins, join_move}
 use Rattle.automata.specs.Saturation.{up_to}
-use Rattle.automata.specs.Saturation.Laws.{up_to_extends}
+use Rattle.automata.proofs.Saturation.Laws.{up_to_extends}
 use Rattle.offers.specs.Offers.{AllHeld}
 use Rattle.readings.specs.declared.Before.{Before}
 use Rattle.readings.specs.declared.Goal.{Goal}

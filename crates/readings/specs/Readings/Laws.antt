@@ -6,7 +6,7 @@ use Rattle.std.proofs.Common.{sym, ◌∙◌}
 use Rattle.std.proofs.Math.Option.{Option, none, some}
 use mathlib.Core.List.{List, [], ◌∷◌, map}
 use Rattle.words.specs.Sets.{join, single, members}
-use Rattle.words.specs.Sets.Laws.{join_assoc, join_empty_left, join_empty_right}
+use Rattle.words.proofs.Sets.Laws.{join_assoc, join_empty_left, join_empty_right}
 use Rattle.words.specs.Lists.{each, choices}
 use Rattle.words.specs.Lists.Laws.{each_same, each_none, each_map, each_each, each_one}
 use Rattle.automata.specs.Automaton.{Automaton, move_at, edge_at, moves_of, edges_of}

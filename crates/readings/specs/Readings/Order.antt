@@ -6,7 +6,7 @@ use Rattle.std.proofs.Math.Option.{Option, none, some}
 use mathlib.Core.List.Memᴰ
 use mathlib.Core.List.{List, [], ◌∷◌, ◌++◌, Memᴰ}
 use Rattle.words.specs.Sets.{join, member, members}
-use Rattle.words.specs.Sets.Laws.{join_comm, join_assoc}
+use Rattle.words.proofs.Sets.Laws.{join_comm, join_assoc}
 use Rattle.words.specs.Lists.Laws.{each_in, each_out}
 use Rattle.sets.specs.Without.{without}
 use Rattle.sets.specs.Without.Laws.{members_taken}

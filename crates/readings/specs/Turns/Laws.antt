@@ -9,7 +9,7 @@ use mathlib.Core.List.{List, [], ◌∷◌, Memᴰ}
 use native.Mathlib.Omega.{arith}
 use Rattle.std.proofs.Math.ListN.{length}
 use Rattle.words.specs.Sets.{member, members}
-use Rattle.words.specs.Sets.Laws.{members_empty}
+use Rattle.words.proofs.Sets.Laws.{members_empty}
 use Rattle.words.specs.Laws.Tests.{by_test, and_left, and_right}
 use Rattle.words.specs.Order.Laws.{number_cases}
 use Rattle.sets.specs.Without.{without}

@@ -5,7 +5,7 @@ use native.Mathlib.Omega.{arith}
 use Prim.Native.Nat.{ℕ}
 use lib.ListN.{length-replicate}
 use Rattle.case_file.specs.Forms.Laws.{holds_rules}
-use Rattle.files.specs.Case.Laws.{case_in_place}
+use Rattle.files.proofs.Case.Laws.{case_in_place}
 use Rattle.saturate.specs.Case.Laws.{long_enough, rules_are, rules_stand}
 use Rattle.replay_trace.specs.Turns.Laws.{length_numbers}
 use Rattle.sound_files.specs.Sound.Laws.{start_sound}

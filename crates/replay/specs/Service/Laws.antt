@@ -19,7 +19,7 @@ use Rattle.files.specs.Bytes.{count_of}
 use Rattle.files.specs.Case.{case_refusal, own_of, rules_of}
 use Rattle.files.specs.Start.{start_refusal, starts_of, cells_of, configuration_at}
 use Rattle.services.specs.Replay.{ReplayInput, ReplayDone, replay_files, rule_numbers, replay_cells, replay_refusal, replayed, replay_run, replay_reply, replay_service}
-use Rattle.services.specs.Replay.Laws.{Replays, replayed_arrived, replayed_missed, replay_refused, replay_run_lem, refusal_case, refusal_start, refusal_missing, refusal_odd, refusal_short, refusal_none}
+use Rattle.services.proofs.Replay.Laws.{Replays, replayed_arrived, replayed_missed, replay_refused, replay_run_lem, refusal_case, refusal_start, refusal_missing, refusal_odd, refusal_short, refusal_none}
 use Rattle.demands.specs.Demand1.{ReplayStates}
 use Rattle.demands.specs.Demand1.Proof.{demand1_replay}
 use Rattle.demands.specs.Replays.{AnswersExactly}

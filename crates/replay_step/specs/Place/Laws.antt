@@ -14,7 +14,7 @@ use Rattle.walks.specs.Cell.Formed.{order_at}
 use Rattle.walks.specs.Cell.Laws.{length_cells_after}
 use Rattle.files.specs.Case.{rule_bytes, rule_of}
 use Rattle.services.specs.Replay.{Taken, taken}
-use Rattle.services.specs.Replay.Laws.{taken_is}
+use Rattle.services.proofs.Replay.Laws.{taken_is}
 use Rattle.bytes_in.specs.Records.{record_at}
 use Rattle.tables.specs.Rows.{first_of}
 use Rattle.tables.specs.Rows.Laws.{length_first_of, get_or_first_of}

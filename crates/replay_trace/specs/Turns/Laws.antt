@@ -11,7 +11,7 @@ use Rattle.walks.specs.Cell.Values.{get_or_map_below}
 use Rattle.files.specs.Bytes.{number, field, records}
 use Rattle.files.specs.Bytes.Laws.{length_records, records_at}
 use Rattle.services.specs.Replay.{Taken, rule_numbers, replayed}
-use Rattle.services.specs.Replay.Laws.{replayed_fails, replayed_short, replayed_goes}
+use Rattle.services.proofs.Replay.Laws.{replayed_fails, replayed_short, replayed_goes}
 use Rattle.replay_step.specs.declared.Place.{Place}
 use Rattle.replay_step.specs.declared.Stepped.{Stepped}
 use Rattle.replay_step.specs.declared.Stepped.TheVariants.{Fails, Short, To}

@@ -13,7 +13,7 @@ use Rattle.stacks.specs.System.{Rule}
 use Rattle.automata.specs.Automaton.{Automaton, Entry, no_entry, entry_at, entry_set}
 use Rattle.automata.specs.Facts.Laws.{entry_at_same}
 use Rattle.automata.specs.Saturation.{up_to}
-use Rattle.automata.specs.Saturation.Laws.{up_to_extends}
+use Rattle.automata.proofs.Saturation.Laws.{up_to_extends}
 use Rattle.automata.specs.Derivation.{control_entries}
 use Rattle.case_records.specs.declared.Operation as case
 use Rattle.case_records.specs.declared.Operation.TheVariants.{Pop2, Collapse2}

@@ -5,7 +5,7 @@ use Rattle.std.proofs.lemmas.Bool.{false≢true}
 use Rattle.std.proofs.Common.{ap, sym, ◌∙◌, subst, mod-eq_of_lt, arith, eq-eqb, ltb-true, ltb-false}
 use Rattle.words.specs.Laws.Tests.{by_test}
 use Rattle.words.specs.Sets.{member, single, join}
-use Rattle.words.specs.Sets.Laws.{Has, has_single, has_join_left, has_join_right}
+use Rattle.words.proofs.Sets.Laws.{Has, has_single, has_join_left, has_join_right}
 use Rattle.sets.specs.Without.{without}
 use Rattle.sets.specs.Without.Laws.{without_has}
 use Rattle.automata.specs.Automaton.{Move}

@@ -4,7 +4,7 @@ use Rattle.std.specs.Prelude.{ℕ, zero, suc, ◌+◌, ◌-◌, ◌≤◌, ◌<�
 use Rattle.std.proofs.Common.{ap, sym, ◌∙◌, subst, arith, ltb-true, ltb-false}
 use Rattle.std.proofs.Math.Option.{some, some-injective}
 use Rattle.words.specs.Sets.{join, single}
-use Rattle.words.specs.Sets.Laws.{Has, All, all_empty, all_join, has_join_left, has_join_right, has_single, all_single, has_part, part_antisym}
+use Rattle.words.proofs.Sets.Laws.{Has, All, all_empty, all_join, has_join_left, has_join_right, has_single, all_single, has_part, part_antisym}
 use Rattle.words.specs.Laws.Tests.{by_test}
 use Rattle.words.specs.Lists.Laws.{get_elem?_some, get_elem?_below}
 use Rattle.automata.specs.Automaton.{Automaton, Move, Entry, no_entry, entry_key, entry_at}

@@ -12,7 +12,7 @@ use Rattle.replies.specs.declared.Acceptance.TheVariants.{Never, Since}
 use Rattle.replies.specs.Numbers.{answer_word}
 use Rattle.automata.specs.Automaton.{Automaton}
 use Rattle.automata.specs.Acceptance.{accepts2}
-use Rattle.automata.specs.Acceptance.Laws.{accepts2_kept}
+use Rattle.automata.proofs.Acceptance.Laws.{accepts2_kept}
 use Rattle.automata.specs.Saturation.{table_after, Size, Saturated, rounds_added}
 use Rattle.automata.specs.Won.{won2}
 use Rattle.automata.specs.Won.Laws.{Right, least_right}

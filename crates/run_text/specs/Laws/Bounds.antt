@@ -13,7 +13,7 @@ use Rattle.walks.specs.Guide.{Walk, counts, walked_by, no_run, guided}
 use Rattle.guidance.specs.Run.{by_next}
 use Rattle.files.specs.Start.{starts_of}
 use Rattle.services.specs.Guide.{GuideInput, GuideDone, guide_files, open_start, guide_left, refused, guide_service}
-use Rattle.services.specs.Guide.Laws.{Started, GuideCase, case_refused, start_refused, start_missing, size_exceeded, no_run_holds, is_open, cells_short, walked, guide_cases}
+use Rattle.services.proofs.Guide.Laws.{Started, GuideCase, case_refused, start_refused, start_missing, size_exceeded, no_run_holds, is_open, cells_short, walked, guide_cases}
 use Rattle.sound_files.specs.Sound.Laws.{starts_few}
 use Rattle.answer_text.specs.Bounds.{Bounded}
 

@@ -1,7 +1,7 @@
 -- `saturate::own_fits` meets its contract.
 -- Assumes nothing.
 use native.Mathlib.Omega.{arith}
-use Rattle.files.specs.Case.Laws.{case_in_place}
+use Rattle.files.proofs.Case.Laws.{case_in_place}
 use Rattle.saturate.specs.Case.Laws.{long_enough, moves_over, entries_tell, total_is}
 use Rattle.saturate.proofs.own_fits.Statement.{statement}
 use Rattle.saturate.proofs.own_fits.Tie as tie

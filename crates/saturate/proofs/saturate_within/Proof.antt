@@ -5,7 +5,7 @@ use native.Mathlib.Omega.{arith}
 use Prim.Native.Nat.{ℕ}
 use lib.ListN.{length-replicate}
 use borrow.Author.Tests.{not-true, not-false}
-use Rattle.files.specs.Case.Laws.{case_in_place}
+use Rattle.files.proofs.Case.Laws.{case_in_place}
 use Rattle.saturate.specs.Case.Laws.{long_enough, own_room, given, rules_stand, case_ends, case_over, filled_own, counted_number, moves_number}
 use Rattle.case_file.specs.Forms.Laws.{holds_rules}
 use Rattle.tables.specs.Layouts.{counted_row, move_row}

@@ -23,7 +23,7 @@ use Rattle.rounds.specs.Limits.{KeepsLimits, within_keeps, keeps_within, saturat
 use Rattle.files.specs.Bytes.{count_of, records, records_of}
 use Rattle.files.specs.Bytes.Laws.{records_at, length_records, length_records_of}
 use Rattle.files.specs.Case.{case_refusal, Head, head, entries_of, own_of, rules_of, RuleBytes, rule_of, rule_bytes, EdgeBytes, inner_edges, edge_records, move_of, move_records}
-use Rattle.files.specs.Case.Laws.{case_placed_lem, case_head, case_rules, case_inner_lem, case_moves_few, case_states_few, case_edges_few, case_table}
+use Rattle.files.proofs.Case.Laws.{case_placed_lem, case_head, case_rules, case_inner_lem, case_moves_few, case_states_few, case_edges_few, case_table}
 use Rattle.automata.specs.Facts.Laws.{move_at_facts}
 use Rattle.bytes_in.specs.Records.{record_at}
 use Rattle.case_file.specs.Forms.{HoldsRules}

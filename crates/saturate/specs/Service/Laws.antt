@@ -12,7 +12,7 @@ use Rattle.files.specs.Case.{case_refusal, rules_of, own_of}
 use Rattle.replies.specs.declared.Saturation.{Saturation}
 use Rattle.services.specs.Memory.{padded, Counted, counted, entry_words, entry_width, move_table, entry_table, lent}
 use Rattle.services.specs.Saturate.{Lent, saturated, size_tests, saturate_refusal, saturate_refused, saturate_filled, saturate_answer, saturate_service}
-use Rattle.services.specs.Saturate.Laws.{case_first, case_passed, size_refused, size_passed}
+use Rattle.services.proofs.Saturate.Laws.{case_first, case_passed, size_refused, size_passed}
 use Rattle.tables.specs.declared.Table.{Table}
 use Rattle.tables.specs.Rows.{rows_in}
 use Rattle.tables.specs.Rows.Laws.{length_rows_in}

@@ -11,7 +11,7 @@ use Rattle.automata.specs.Automaton.{Automaton, Move, no_move, move_at}
 use Rattle.automata.specs.Facts.{states, Extends}
 use Rattle.automata.specs.Facts.Laws.{move_at_kept, entries_grow}
 use Rattle.automata.specs.Saturation.{extend, results, up_to, size_of, held}
-use Rattle.automata.specs.Saturation.Laws.{extends_up_to}
+use Rattle.automata.proofs.Saturation.Laws.{extends_up_to}
 use Rattle.rounds.specs.Added.{add_all_extends, extend_holds}
 use Rattle.tables.specs.declared.Table.{Table}
 use Rattle.tables.specs.Rows.{row_at, rows_in}

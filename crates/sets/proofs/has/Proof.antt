@@ -3,7 +3,7 @@
 use Prim.Native.Nat.{ℕ}
 use mathlib.Core.Path.{ap, ◌∙◌}
 use Rattle.words.specs.Sets.{part_of}
-use Rattle.words.specs.Sets.Laws.{single_part}
+use Rattle.words.proofs.Sets.Laws.{single_part}
 use borrow.Author.Rules.{rules}
 use Rattle.sets.proofs.has.Statement.{statement}
 use Rattle.sets.proofs.has.Tie as tie

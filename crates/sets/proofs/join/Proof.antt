@@ -1,7 +1,7 @@
 -- `sets::join` meets its contract.
 -- Assumes nothing.
 use mathlib.Core.Path.{sym}
-use Rattle.words.specs.Sets.Laws.{join_or}
+use Rattle.words.proofs.Sets.Laws.{join_or}
 use Rattle.sets.proofs.join.Statement.{statement}
 use Rattle.sets.proofs.join.Tie as tie
 

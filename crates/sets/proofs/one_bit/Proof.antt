@@ -1,7 +1,7 @@
 -- `sets::one_bit` meets its contract.
 -- Assumes nothing.
 use Rattle.words.specs.Sets.{single}
-use Rattle.words.specs.Sets.Laws.{one_shifted}
+use Rattle.words.proofs.Sets.Laws.{one_shifted}
 use borrow.Author.Rules.{rules}
 use Rattle.sets.proofs.one_bit.Statement.{statement}
 use Rattle.sets.proofs.one_bit.Tie as tie

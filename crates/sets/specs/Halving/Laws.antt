@@ -5,7 +5,7 @@ use Rattle.std.proofs.Common.{ap, sym, ◌∙◌, one-mul, mul_assoc, mul-le-mul
 use Rattle.std.proofs.lemmas.Bool.{false≢true}
 use Rattle.std.proofs.Math.Nat.{pow-succ'}
 use Rattle.words.specs.Sets.{member, members}
-use Rattle.words.specs.Sets.Laws.{by_parity, member_zero, members_least}
+use Rattle.words.proofs.Sets.Laws.{by_parity, member_zero, members_least}
 use Rattle.sets.specs.Halving.{Halved}
 
 pow_le : (x q : ℕ) → 0 < x → 2 ^ q ≤ x * 2 ^ q

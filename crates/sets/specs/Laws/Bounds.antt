@@ -4,7 +4,7 @@ use Rattle.std.specs.Prelude.{ℕ, suc, ◌+◌, ◌-◌, ◌/◌, ◌%◌, ◌^
 use Rattle.std.proofs.Common.{ap, sym, ◌∙◌, ⊎_elim, mod-lt, arith, pow_pos, eqb-true, eq-eqb, ltb-true, ltb-false, lt-ltb, leb-true, le-leb}
 use Rattle.std.proofs.Math.Pow.{field, mod-mod-pow}
 use Rattle.words.specs.Sets.{member, members}
-use Rattle.words.specs.Sets.Laws.{All, all_below, has_below, has_empty, has_in, in_has, zero_or_member}
+use Rattle.words.proofs.Sets.Laws.{All, all_below, has_below, has_empty, has_in, in_has, zero_or_member}
 use Rattle.words.specs.Lists.{every}
 use Rattle.words.specs.Lists.Laws.{in_every, every_in}
 use Rattle.words.specs.Laws.Tests.{by_test, equal_tests}

@@ -5,7 +5,7 @@ use Rattle.std.proofs.lemmas.Bool.{false≢true}
 use Rattle.std.proofs.Common.{ap, sym, ◌∙◌, add-zero, zero-add, lt_of_le_of_lt, arith, length-append, eqb-true, eq-eqb}
 use Rattle.std.proofs.Math.Nat.{pow-succ'}
 use Rattle.words.specs.Sets.{member, single, members_from, members}
-use Rattle.words.specs.Sets.Laws.{Has, by_parity, member_zero, member_suc, member_empty, members_from_even, members_from_odd, below_pow, members_bound}
+use Rattle.words.proofs.Sets.Laws.{Has, by_parity, member_zero, member_suc, member_empty, members_from_even, members_from_odd, below_pow, members_bound}
 use Rattle.sets.specs.Without.{without}
 
 odd : (s : ℕ) → member s 0 ≡ true → s % 2 ≡ 1

@@ -1,7 +1,7 @@
 -- `sound_files::files_refusal` meets its contract.
 -- Assumes nothing.
 use mathlib.Core.Path.{sym, ◌∙◌}
-use Rattle.files.specs.Case.Laws.{case_in_place}
+use Rattle.files.proofs.Case.Laws.{case_in_place}
 use Rattle.sound_files.specs.Refusal.Laws.{by_case, by_start}
 use borrow.Author.Rules.{rules}
 use Rattle.sound_files.proofs.files_refusal.Statement.{statement}

@@ -11,7 +11,7 @@ use Rattle.walks.specs.Cell.Values.{get_or_map_below}
 use Rattle.files.specs.Bytes.{count_of, records_of, records}
 use Rattle.files.specs.Bytes.Laws.{numbered, unrefused, length_records, length_records_of, records_at}
 use Rattle.files.specs.Case.{head}
-use Rattle.files.specs.Case.Laws.{case_head}
+use Rattle.files.proofs.Case.Laws.{case_head}
 use Rattle.files.specs.Start.{Files, Start, start_placed, start_tests, start_refusal, start_of, starts_of, cell_bytes, cell_of, cell_records, cells_of}
 use Rattle.files.specs.Start.Laws.{start_places, start_facts, start_cells_lem}
 use Rattle.bytes_in.specs.Records.{record_at, body_of}

@@ -9,7 +9,7 @@ use Rattle.std.proofs.Math.Path.{ap₂}
 use mathlib.Core.List.{List, Memᴰ}
 use Rattle.words.specs.Laws.Tests.{and_left, and_right}
 use Rattle.words.specs.Sets.{members}
-use Rattle.words.specs.Sets.Laws.{Has, All, has_in, in_has}
+use Rattle.words.proofs.Sets.Laws.{Has, All, has_in, in_has}
 use Rattle.words.specs.Lists.{only, every, some_of, places}
 use Rattle.words.specs.Lists.Laws.{only_in, only_out, every_in, in_every, some_of_in, some_of_out, get_or_in, in_get_or, places_in, places_out}
 use Rattle.stacks.specs.Stack.{Stack1, nil1, cons1, Stack2, nil2, cons2, Annotation, of1, of2}

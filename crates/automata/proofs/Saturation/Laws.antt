@@ -15,7 +15,7 @@ use Rattle.stacks.specs.System.{Rule}
 use Rattle.automata.specs.Automaton.{Automaton, move_at, entry_of}
 use Rattle.automata.specs.Automaton.Laws.{EntryMove, EntryIs, move_at_in, in_move_at, entry_of_in, entry_of_out, entry_at_control, entry_move_at, entry_move_set}
 use Rattle.automata.specs.Derivation.{Result, result_key, result_of, Derivation, derivations}
-use Rattle.automata.specs.Derivation.Laws.{result_key_eq}
+use Rattle.automata.proofs.Derivation.Laws.{result_key_eq}
 use Rattle.automata.specs.Saturation.{is_result, held, results, Size, size_of, Saturated, up_to, last_up_to, before}
 use Rattle.automata.specs.Facts.{Extends}
 use Rattle.automata.specs.Facts.Laws.{move_at_kept, entry_move_kept}

@@ -17,7 +17,7 @@ use Rattle.files.specs.Codes.Laws.{ours_right, ours_again}
 use Rattle.files.specs.Writing.{Part, encode, decode, decode_from}
 use Rattle.files.specs.Writing.Laws.{Sized, sized_records, PartFits, PartsFit, length_encode, first_encode, encode_placed, decode_encode}
 use Rattle.files.specs.Case.{case_bodies, form, form_of, case_placed, codes_of, Head, head_of, head, head_right, rule_bytes, rule_of, rule_records, EdgeBytes, edge_bytes, edge_records, entries_of, move_of, move_records, states1, records_right, increasing, case_tests, case_refusal, own_of, rules_of}
-use Rattle.files.specs.Case.Laws.{CasePlaces, case_places, length_codes}
+use Rattle.files.proofs.Case.Laws.{CasePlaces, case_places, length_codes}
 use Rattle.files.specs.Case.Refusal.{refusal_by, refusal_is}
 use Rattle.files.specs.Rewriting.{ruled, rewriting, Readable, SameCase}
 

@@ -25,7 +25,7 @@ use Rattle.files.specs.Rewriting.{SameCase}
 use Rattle.services.specs.Memory.{lent, entry_width, counted, largest}
 use Rattle.services.specs.Saturate.{Lent, saturated, too_large, size_tests, saturate_refusal}
 use Rattle.services.specs.Saturate.{SaturateDone, saturate_refused, saturate_filled, saturate_answer, saturate_service}
-use Rattle.services.specs.Saturate.Laws.{case_first, case_passed}
+use Rattle.services.proofs.Saturate.Laws.{case_first, case_passed}
 use Rattle.services.specs.Judge.{JudgeInput, judge_lent, judge_files, answer_tests, judge_refusal, won, more_to_add, mark}
 use Rattle.services.specs.Judge.{JudgeDone, judge_left, judge_answer, judge_service}
 use Rattle.services.specs.Guide.{GuideInput, guide_lent, guide_files, number_tests, guide_refusal, cell_words, cells_lent, start_named, guide_walk, accepted, open_start, guide_run}

@@ -4,7 +4,7 @@ use Rattle.std.specs.Prelude.{ℕ, ◌≡◌}
 use Rattle.std.proofs.Common.{ap, sym, ◌∙◌, ⊎_elim}
 use mathlib.Core.List.{List, [], ◌∷◌, ◌++◌, Memᴰ}
 use Rattle.words.specs.Sets.{single, join, set_of}
-use Rattle.words.specs.Sets.Laws.{Has, has_empty, has_single, single_has, has_join_left, has_join_right, join_cases, join_assoc, join_empty_left}
+use Rattle.words.proofs.Sets.Laws.{Has, has_empty, has_single, single_has, has_join_left, has_join_right, join_cases, join_assoc, join_empty_left}
 
 pub in_set_of : {n : ℕ} {ns : List ℕ} → Memᴰ n ns → Has (set_of ns) n
 unfolding set_of

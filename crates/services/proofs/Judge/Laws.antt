@@ -15,7 +15,7 @@ use Rattle.files.specs.Bytes.Laws.{numbered, first_hit_past, first_hit_stays, fi
 use Rattle.files.specs.Case.{case_refusal}
 use Rattle.files.specs.Start.{Files, start_tests, start_refusal, starts_of}
 use Rattle.services.specs.Saturate.{saturated, size_tests}
-use Rattle.services.specs.Saturate.Laws.{size_refused, size_passed, case_first, case_passed}
+use Rattle.services.proofs.Saturate.Laws.{size_refused, size_passed, case_first, case_passed}
 use Rattle.services.specs.Judge.{JudgeInput, judge_lent, judge_files, answer_tests, judge_refusal, mark, JudgeDone, judge_left, judge_answer, judge_service}
 
 pub start_numbered : numbered start_tests ≡ true

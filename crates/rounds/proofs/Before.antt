@@ -9,9 +9,9 @@ use mathlib.Core.List.{List, Memᴰ}
 use Rattle.stacks.specs.System.{Rule}
 use Rattle.automata.specs.Automaton.{Automaton, move_at}
 use Rattle.automata.specs.Derivation.{Result, Derivation, derivations, result_of, first_derivation}
-use Rattle.automata.specs.Derivation.Laws.{first_derivation_in, first_derivation_out}
+use Rattle.automata.proofs.Derivation.Laws.{first_derivation_in, first_derivation_out}
 use Rattle.automata.specs.Saturation.{Size, table_after, Saturated, size_of, up_to, last_up_to, before, own_moves}
-use Rattle.automata.specs.Saturation.Laws.{StandsFor, stands_result, before_extends, before_small}
+use Rattle.automata.proofs.Saturation.Laws.{StandsFor, stands_result, before_extends, before_small}
 use Rattle.automata.specs.Facts.{RuleFacts, TableFacts, Extends}
 use Rattle.rounds.specs.Rounds.{own_extends}
 use Rattle.rounds.specs.First.{AddedAfter, added_after, derived}

@@ -15,8 +15,8 @@ use borrow.Author.Tests.{eqb-true, eq-eqb, ltb-true, ltb-false, leb-true, not-fa
 use Rattle.words.specs.Lists.{every}
 use Rattle.words.specs.Lists.Laws.{every_in, places_from_in, places_from_out}
 use Rattle.words.specs.Laws.Tests.{by_test, and_left, and_right}
-use Rattle.words.specs.Sets.Laws.{Has, All, all_empty, has_join_right, join_cases}
-use Rattle.words.specs.Sets.Listed.{in_set_of, set_of_in}
+use Rattle.words.proofs.Sets.Laws.{Has, All, all_empty, has_join_right, join_cases}
+use Rattle.words.proofs.Sets.Listed.{in_set_of, set_of_in}
 use Rattle.words.specs.Order.{rising}
 use Rattle.stacks.specs.System.{Rule}
 use Rattle.automata.specs.Automaton.{Move, Edge, Entry, no_move, no_entry, entry_key, move_at}

@@ -12,7 +12,7 @@ use Rattle.automata.specs.Automaton.{Automaton, Move, Edge, edges, move_at}
 use Rattle.automata.specs.Automaton.Laws.{MoveOf, EdgeOf}
 use Rattle.automata.specs.Derivation.{Derivation, Joins, join_moves, join_all, named, edge_sets}
 use Rattle.automata.specs.Derivation.Numbers.{Paired, paired_map, paired_state}
-use Rattle.automata.specs.Derivation.Laws.{Says, ByRewrite, ByPush, ByCopy, ByEntry}
+use Rattle.automata.proofs.Derivation.Laws.{Says, ByRewrite, ByPush, ByCopy, ByEntry}
 use Rattle.automata.specs.Facts.{Extends}
 use Rattle.automata.specs.Facts.Laws.{move_at_kept, move_of_kept, edge_at_kept, edge_of_kept, entry_is_kept, entry_move_kept}
 

@@ -1,0 +1,3 @@
+pub mod Saturation
+pub mod Derivation
+pub mod Acceptance
