@@ -1,0 +1,14 @@
+-- `tables::entry_number`: what its loops keep.
+use Prim.Native.Nat.{ℕ, ◌-◌, ◌≤◌, ◌<◌}
+use mathlib.Core.Path.{◌≡◌}
+use mathlib.Core.Bool.{false}
+use Rattle.automata.specs.Saturation.{is_entry}
+use Rattle.tables.specs.Rows.{row_at}
+use Rattle.tables.specs.Layouts.{entry_row}
+use Rattle.tables.proofs.entry_number.Given as goal
+
+abbrev pub invariant-loop-i : goal.invariant-loop-i
+invariant-loop-i l = (l.i ≤ l.n) × ((j : ℕ) → j < l.i → is_entry l.e.control l.e.s (row_at entry_row l.t j) ≡ false)
+
+abbrev pub decreases-loop-i : goal.decreases-loop-i
+decreases-loop-i l = l.n - l.i
