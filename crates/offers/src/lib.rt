@@ -1,6 +1,7 @@
 // Results offered: those that are not yet held are collected in a table of their own, sorted, each once. Whether a result is held is told by an
 // index of the moves.
 #![tactic(auto)]
+
 ghost use Rattle.std.specs.Prelude.{◌≡◌, [], ◌∷◌, ◌<◌};
 ghost use Rattle.automata.specs.Saturation.{held};
 ghost use Rattle.tables.specs.Records.{as_result};

@@ -1,6 +1,7 @@
 // The results of readings, from the table of the earlier rounds: by one choice of a move for each state of a set. The automaton's tables are
 // only read. Moves are found by an index, and what the table of the round before gives is passed over: it is held.
 #![tactic(auto)]
+
 ghost use Rattle.std.specs.Prelude.{◌≡◌, ◌||◌, ◌&&◌, not, ◌∷◌, ◌<◌, leb};
 ghost use Rattle.words.specs.Sets.{part_of, members};
 ghost use Rattle.tables.specs.Held.{table_of};
@@ -73,7 +74,7 @@ pub fn is_newer(new: bool, first: usize, i: usize) -> bool
 // of a move for each state, beginning with a state that has few. Where nothing new was used so far, what the earlier table gives is held, and
 // readings without a newer move are passed over. The rows of `memo` hold states of this recursion that were worked through: all their results
 // are held or collected, so such a state is passed over too. Which states stand there at the end is left open.
-#[cycle(read_from_read_left_read_moves)]
+#[cycle(readings)]
 pub fn read_from(
     z: tables::Table,
     entries: &[u64],
@@ -113,7 +114,7 @@ pub fn read_from(
 }
 
 // The same where some state is left, unless it stands in `memo`: by the state that has the fewest choices.
-#[cycle(read_from_read_left_read_moves)]
+#[cycle(readings)]
 fn read_left(
     z: tables::Table,
     entries: &[u64],
@@ -157,7 +158,7 @@ fn read_left(
 
 // Collects the results of the readings of the goal's symbol from a state and the others, joined to (order, b, r): by each move of the state
 // the readings from the others.
-#[cycle(read_from_read_left_read_moves)]
+#[cycle(readings)]
 fn read_moves(
     z: tables::Table,
     entries: &[u64],

@@ -5,7 +5,7 @@ use Rattle.std.specs.Prelude.{ℕ, ◌+◌, ◌≤◌, ◌<◌, Bool, ◌≡◌,
 use Rattle.std.proofs.Math.Bool.{true, false, not}
 use Rattle.std.proofs.Math.Path.{refl, ap, sym}
 use Rattle.std.proofs.Common.{◌∙◌, subst, inl, inr, ⊎_elim, le_trans, arith, take_all, add-one}
-use Rattle.std.proofs.Math.Option.{Option, none, some}
+use Rattle.std.proofs.Math.Option.{Option, some}
 use mathlib.Core.List.Memᴰ
 use mathlib.Core.List.{List, [], ◌∷◌, ◌++◌, Memᴰ}
 use Rattle.std.proofs.Math.ListN.{length}
@@ -74,9 +74,9 @@ unfolding insert_all
 insert_all_left l [] j = j
 insert_all_left l (x ∷ xs) j = insert_all_left (insert result_key x l) xs (insert_in result_key x j)
 
-insert_all_right : (l : List Result) {xs : List Result} {y : Result} → Memᴰ y xs → Memᴰ y (insert_all l xs)
+insert_all_right : {y : Result} (l : List Result) {xs : List Result} → Memᴰ y xs → Memᴰ y (insert_all l xs)
 unfolding insert_all
-insert_all_right l {y = y} (Memᴰ.head {x = x} {xs = xs} e) = insert_all_left (insert result_key x l) xs (Memᴰ.cast e (insert_keeps x l))
+insert_all_right {y = y} l (Memᴰ.head {x = x} {xs = xs} e) = insert_all_left (insert result_key x l) xs (Memᴰ.cast e (insert_keeps x l))
 insert_all_right l (Memᴰ.tail {x = x} j) = insert_all_right (insert result_key x l) j
 
 insert_all_out : (l xs : List Result) {y : Result} → Memᴰ y (insert_all l xs) → Memᴰ y l ⊎ Memᴰ y xs

@@ -1,6 +1,6 @@
 -- What need not be looked at: readings without a newer move, and what is known of the readings that follow an old move or an old edge.
 -- Assumes nothing.
-use Rattle.std.specs.Prelude.{ℕ, ◌+◌, ◌-◌, ◌<◌, Bool, true, false, not, ◌||◌, ◌&&◌, ◌≡◌, refl, length, leb}
+use Rattle.std.specs.Prelude.{ℕ, ◌+◌, ◌<◌, Bool, true, false, not, ◌||◌, ◌&&◌, ◌≡◌, refl, length, leb}
 use Rattle.std.proofs.lemmas.Bool.{false≢true, not-true}
 use Rattle.std.proofs.Common.{sym, ◌∙◌, subst, arith, leb-true, leb-false}
 use Rattle.std.proofs.Math.Option.{some}
