@@ -5,7 +5,7 @@
 # The digest of all that a program is built of.
 sources() {
     (cd "$repository" && find crates crates.txt -regextype posix-extended -regex 'crates/[^/]+/(out|written)' -prune -o -type f -print0 |
-        sort -z | xargs -0 sha256sum | sha256sum | cut -c 1-16)
+        LC_ALL=C sort -z | xargs -0 sha256sum | sha256sum | cut -c 1-16)
 }
 
 program_of() { # PROGRAM DIGEST
