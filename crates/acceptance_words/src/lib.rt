@@ -1,6 +1,7 @@
 // Since when a cell is accepted from a state: for each of 64 states the least round whose table accepts the cell, as a word of 16 bits: 0 where no
 // table does, otherwise that round plus 1. What the words say of a state, a set, a move and an edge; one word written.
 #![tactic(auto)]
+
 ghost use Rattle.std.specs.Prelude.{◌≡◌, ◌<◌, ◌≤◌, ◌+◌, ◌*◌, length};
 ghost use Rattle.words.specs.Sets.{members};
 ghost use Rattle.replies.specs.Numbers.{answer_word};

@@ -1,5 +1,6 @@
 // Results added to tables, one after another: each as the last move, with its entry where it is new.
 #![tactic(auto)]
+
 ghost use Rattle.std.specs.Prelude.{[], ◌∷◌, ◌≤◌, ◌+◌, ◌*◌, length};
 ghost use Rattle.services.specs.Memory.{entry_width};
 ghost use Rattle.tables.specs.Rows.{rows_in};

@@ -1,5 +1,6 @@
 // The records of a case file: what each one's bytes stand for, and whether it keeps the bounds of its body.
 #![tactic(auto)]
+
 ghost use Rattle.std.specs.Prelude.{◌≡◌, true, ◌<◌, ◌≤◌, ◌+◌, ◌*◌, length};
 ghost use Rattle.files.specs.Case;
 ghost use Rattle.files.specs.Case.{head_of, head_right, rule_bytes, rule_right, operation_of, rule_of, edge_bytes, edge_right, move_of, annotation_right, move_right, move_key};

@@ -1,5 +1,6 @@
 // Lent cells: a flat slice of 16-bit words, 68 words a cell: its kind, symbol, first and second, then the choice for each of 64 states.
 #![tactic(auto)]
+
 ghost use Rattle.std.specs.Prelude.{◌≡◌, ◌<◌, ◌≤◌, ◌+◌, ◌*◌, [], ◌∷◌, length};
 ghost use Rattle.std.proofs.lemmas.List.Edits.{sets};
 ghost use Rattle.cell_memory.specs.Memory.{cell_in, choice_in, with_cell, with_choice, with_choices};

@@ -1,23 +1,21 @@
 -- Readings of what is accepted: from a set of states that all accept symbol a annotated u, then s, there is a reading of a that u and s
 -- meet. Its orders do not clash, because the one annotation u has one order.
 -- Assumes nothing.
-use Prim.Native.Nat.{ℕ, zero, suc, ◌≤◌, ◌<◌}
-use Rattle.std.specs.Prelude.{◌≡◌, length}
+use Prim.Native.Nat.{ℕ, zero, suc, ◌≤◌}
+use Rattle.std.specs.Prelude.{◌≡◌}
 use Rattle.std.proofs.Math.Path.{refl}
 use Rattle.std.proofs.Common.{inl, inr, arith}
 use Rattle.std.proofs.Math.Option.{some}
-use mathlib.Core.List.{List, Memᴰ}
+use mathlib.Core.List.{List}
 use Rattle.words.specs.Sets.{members}
 use Rattle.words.proofs.Sets.Laws.{All, in_has, all_empty}
-use Rattle.stacks.specs.Stack.{Stack1, cons1, Stack2, cons2, Annotation, of1, of2, annotation_order}
-use Rattle.automata.specs.Automaton.{Automaton, move_at, edge_at}
+use Rattle.stacks.specs.Stack.{Stack1, Stack2, cons2, Annotation, of1, of2, annotation_order}
+use Rattle.automata.specs.Automaton.{Automaton, edge_at}
 use Rattle.automata.specs.Automaton.Laws.{MoveOf, EdgeOf}
 use Rattle.automata.proofs.Acceptance.Laws.{Accepts1, Accepts2, AcceptsAnnotation, annotation_any}
-use Rattle.automata.specs.Derivation.{Joins, joins_of, join_all, named, edge_sets}
+use Rattle.automata.specs.Derivation.{Joins, join_all, named, edge_sets}
 use Rattle.automata.specs.Derivation.Numbers.{Paired, paired_map, paired_of, paired_state}
-use Rattle.automata.specs.Derivation.Joining.{Fits, join_all_some, join_all_all, named_all, edge_sets_all}
-use Rattle.automata.specs.Facts.{TableFacts}
-use Rattle.automata.specs.Facts.Laws.{move_at_facts}
+use Rattle.automata.specs.Derivation.Joining.{Fits, named_all, edge_sets_all}
 
 module _ (A : Automaton) where
   -- state q, of the annotation's order, accepts the annotation
@@ -48,14 +46,6 @@ module _ (A : Automaton) (u : Annotation) (s : Stack1) where
     pub annotation : All j.B (AcceptsAs A u)
     pub rest : All j.R (Accepts1 A s)
 
-  -- a move that accepts
-  pub move_meets : {P : ℕ} → TableFacts P A → (i : ℕ) → i < length A.moves → AcceptsAnnotation A u (move_at A i).order (move_at A i).B
-      → All (move_at A i).R (Accepts1 A s) → Meets (joins_of (move_at A i))
-  move_meets F i l x y =
-      let f = move_at_facts F i l in
-      let n = annotation_out A u (move_at A i).order (move_at A i).B f.order_small f.none_empty x in
-      record { fits = n.0; annotation = n.1; rest = y }
-
   -- ---- a reading
 
   -- a reading of a from R whose moves, joined to j, u and s meet
@@ -65,24 +55,6 @@ module _ (A : Automaton) (u : Annotation) (s : Stack1) where
     pub joins : Joins
     pub joined : join_all A j moves ≡ some joins
     pub meets : Meets joins
-
-  -- "one choice of a move on a for each state": its own accepting move
-  pub read : {P : ℕ} → TableFacts P A → (a R : ℕ) (j : Joins) → Meets j → All R (Accepts1 A (cons1 a u s)) → Read a R j
-  unfolding Accepts1
-  read F a R j x f =
-      let (ms, p) = paired_of {X = λ r i. MoveOf A a r i × Meets (joins_of (move_at A i))} (members R) (λ r i.
-      let k = f r (in_has R i) in
-      (k.number, (k.move, move_meets F k.number k.move.below k.annotation k.rest))) in
-      let met : (i : ℕ) → Memᴰ i ms → Meets (joins_of (move_at A i)) = λ i l. (paired_state p l).2.1 in
-      let (k, e, o) = join_all_some A (annotation_order u) j ms x.fits (λ i l. (met i l).fits) in
-      let b = join_all_all A (AcceptsAs A u) (Accepts1 A s) j ms e (x.annotation, x.rest) (λ i l. ((met i l).annotation, (met i l).rest)) in
-      record {
-        moves = ms;
-        reading = paired_map (λ r i y. y.0) p;
-        joins = k;
-        joined = e;
-        meets = record { fits = o; annotation = b.0; rest = b.1 };
-      }
 
 -- ---- a choice of edges
 

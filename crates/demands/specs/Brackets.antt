@@ -1,7 +1,6 @@
 -- The promises of brackets: no two stacks print alike, the text is printed exactly where it fits, and what is lent does not change it. The proofs are in
 -- Brackets/Proof.antt.
 -- Assumes nothing.
-pub mod Proof
 use Rattle.std.specs.Prelude.{ℕ, ◌≤◌, ◌≡◌, ◌↔◌, List, ◌++◌, length, take}
 use Rattle.stacks.specs.Stack.{Stack2}
 use Rattle.replies.specs.declared.Brackets.{Brackets}

@@ -2,7 +2,6 @@
 -- word then holds what the papers state. The services' contracts equate their code with the definitions; this is what the definitions
 -- say. The proof is `demand1` in Demand1/Proof.antt.
 -- Assumes nothing.
-pub mod Proof
 use Rattle.std.specs.Prelude.{ℕ, ◌<◌, min, true, false, ◌≡◌, List, length, get_or}
 use Rattle.automata.specs.Automaton.{Automaton}
 use Rattle.replies.specs.declared.Reply.{Reply}

@@ -4,7 +4,6 @@
 -- table of the rounds run exceeds the tables lent or document 01's limits, and so only if its saturated table does. Guide stands beside judge: it
 -- answers no run and open exactly where judge marks no and open, and refuses for size exactly if judge does. The proofs are in Demand2/Proof.antt.
 -- Assumes nothing.
-pub mod Proof
 use Rattle.std.specs.Prelude.{ℕ, suc, ◌+◌, ◌≤◌, ◌<◌, false, ◌≡◌, ◌↔◌, List, length, get_or}
 use Rattle.replies.specs.declared.Reply.{Reply}
 use Rattle.replies.specs.declared.Reply.TheVariants.{NoRun, Open}

@@ -3,8 +3,6 @@
 -- cells and trace are lent, guide with the same rounds writes the first steps of that one run, halts exactly where document 01 says, and arrives
 -- exactly when they suffice. The proof is `demand3` in Demand3/Proof.antt; that it is one run, `one_full_run` in FullRun/Laws.antt.
 -- Assumes nothing.
-pub mod Answer
-pub mod Proof
 use Rattle.std.specs.Prelude.{ℕ, ◌≤◌, ◌<◌, true, ◌≡◌, ◌↔◌, List, length, get_or, take}
 use Rattle.stacks.specs.System.{Run}
 use Rattle.automata.specs.Acceptance.{in_target}

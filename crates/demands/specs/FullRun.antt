@@ -1,7 +1,6 @@
 -- The full run of a start, a function of the case file, the start file, the start's number and a number of rounds alone; and the halt of a guide
 -- with c cells and t trace words, in document 01's words.
 -- Assumes nothing.
-pub mod Laws
 use Rattle.std.specs.Prelude.{ℕ, suc, ◌+◌, ◌<◌, ◌≡◌, List, [], length, take}
 use Rattle.std.proofs.Math.Option.{Option, none, some}
 use Rattle.stacks.specs.System.{Rule}

@@ -11,7 +11,4 @@ pub mod Brackets
 pub mod MoveCounts
 pub mod Finished
 pub mod Rewritten
-pub mod Determined
-pub mod Instances
-pub mod Idle
 pub mod Laws

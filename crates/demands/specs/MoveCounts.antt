@@ -1,7 +1,6 @@
 -- Document 02, 7: "How many moves an entry has". What every answer of saturate tells of it in the words of the lent tables alone, and what the second
 -- line of the listing says of them. The proofs are in MoveCounts/Proof.antt.
 -- Assumes nothing.
-pub mod Proof
 use Rattle.std.specs.Prelude.{ℕ, zero, suc, ◌+◌, ◌*◌, ◌≤◌, ◌<◌, true, false, ◌≡◌, ◌⊎◌, get_or, drop, eqb}
 use mathlib.Core.List.{List, ◌++◌, Memᴰ}
 use Rattle.automata.specs.Saturation.{all_rounds}

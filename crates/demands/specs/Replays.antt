@@ -1,7 +1,6 @@
 -- The promises of replay: it accepts exactly the real faults, names the first step that fails, is short exactly where cells are missing,
 -- and accepts every trace of guide that arrived. The proofs are in Replays/Proof.antt.
 -- Assumes nothing.
-pub mod Proof
 use Rattle.std.specs.Prelude.{ℕ, ◌≤◌, ◌/◌, ◌%◌, ◌≡◌, ◌↔◌, List, [], ◌∷◌, take}
 use Rattle.words.specs.Lists.{each}
 use Rattle.replies.specs.declared.Counts.{Counts}

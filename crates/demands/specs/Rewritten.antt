@@ -1,7 +1,6 @@
 -- Tools' own codes: "A case with such a body has the marks, trace and refusals from 3 on of the case rewritten to our codes; a code not in the
 -- record is refusal 3." The proofs are in Rewritten/Proof.antt.
 -- Assumes nothing.
-pub mod Proof
 use Rattle.std.specs.Prelude.{ℕ, true, ◌≡◌, get_or}
 use mathlib.Core.List.{List, map, Memᴰ}
 use Rattle.files.specs.Bytes.{records_of}

@@ -1,6 +1,7 @@
 // The first reading, and the first choice of edges with a reading, whose joined sets are those of a known result. Each is found by recursion
 // over the states left, with the joins carried along. A reading is searched no further where the states left can not reach the result.
 #![tactic(auto)]
+
 ghost use Rattle.std.specs.Prelude.{◌≡◌, ◌<◌, ◌≤◌, ◌+◌, ◌*◌, length};
 ghost use Rattle.words.specs.Sets.{members};
 ghost use Rattle.words.specs.Order.{same};
@@ -106,7 +107,7 @@ fn can_fill(
 }
 
 // Reads on with move i for a state, the others being left. On success the numbers of the moves stand in `chosen`.
-#[cycle(first_reading_read_with)]
+#[cycle(readings)]
 fn read_with(
     moves: &[u64],
     n: usize,
@@ -139,7 +140,7 @@ fn read_with(
 
 // The first reading of a from the states left whose sets, joined to those given, are those of x: whether there is one. On success the
 // number of each state's move stands in `chosen`.
-#[cycle(first_reading_read_with)]
+#[cycle(readings)]
 pub fn first_reading(
     moves: &[u64],
     n: usize,
@@ -174,7 +175,7 @@ pub fn first_reading(
 
 // Goes on with edge e for a state, the others being left. On success the numbers of the edges stand in `edges` and those of the moves in
 // `chosen`.
-#[cycle(first_edges_follow)]
+#[cycle(edges)]
 fn follow(
     z: Table,
     inner: &[u64],
@@ -233,7 +234,7 @@ fn follow(
 // The first choice of an edge for each of the states left whose sets, joined to s, are that of x, with the first reading of a from the
 // states that these edges and `names` name, joined to (order, b, r): whether there is one. On success the numbers of the edges stand in
 // `edges` and those of the moves in `chosen`.
-#[cycle(first_edges_follow)]
+#[cycle(edges)]
 pub fn first_edges(
     z: Table,
     inner: &[u64],

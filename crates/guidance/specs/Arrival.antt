@@ -15,7 +15,7 @@ use Rattle.walks.specs.Cell.Formed.{order_at, Formed}
 use Rattle.walks.specs.Guide.{Walk, walk_configuration, start_walk, Next, arrived, to, next, walk_after, trace_after}
 use Rattle.soundness.specs.Decorated.{DecoratedWalk, erased, DecoratedNext, arrived as arrived', to as to', stuck as stuck', next as next', walk_after as walkAfter', trace_after as traceAfter'}
 use Rattle.soundness.specs.Facts.{SaturatedFacts}
-use Rattle.soundness.specs.Theorem.{Arrival, guided_arrives as decorated-run-arrives}
+use Rattle.soundness.proofs.Theorem.{Arrival, guided_arrives as decorated-run-arrives}
 use Rattle.guidance.specs.Run.{walk_after_to, trace_after_to}
 use Rattle.guidance.specs.Prefix.{ArrivesAfter}
 use Rattle.guidance.specs.Decoration.{decorated_of, WalkFormed, erase_walk, start_decorated, start_bare, start_formed}

@@ -1,6 +1,7 @@
 // An index of a table's moves by rising number: chains of the moves by state and symbol, and of those of entries by control and symbol. Element
 // 1,023 - i of a chain is move i, so that the last element with a key is the least move with it, and the element before that the next one.
 #![tactic(auto)]
+
 ghost use Rattle.std.specs.Prelude.{◌≡◌, ℕ, ◌<◌, ◌≤◌, ◌+◌, ◌-◌, [], length, replicate};
 ghost use Rattle.chains.specs.Chains.{Chained};
 ghost use Rattle.move_index.specs.Keys.{state_key, state_key_at};

@@ -3,8 +3,5 @@ pub mod Facts
 pub mod Choices
 pub mod Meaning
 pub mod Step
-pub mod Own
 pub mod Used
-pub mod Left
 pub mod Lemma
-pub mod Theorem

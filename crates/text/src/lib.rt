@@ -1,6 +1,7 @@
 // The lines of the listing, written into lent bytes. Each function writes its text from `at` on and answers the place after it; all other
 // bytes stay as they are.
 #![tactic(auto)]
+
 ghost use Rattle.std.specs.Prelude.{[], ◌∷◌, ◌++◌, ◌+◌, ◌%◌, ◌<◌, ◌≤◌, length};
 ghost use Rattle.services.specs.Listing.{ascii, decimal, size_line, most_line, counts_text, halt_text, reply_text, reply_line, refused_text};
 ghost use Rattle.text.specs.Written.{Written};

@@ -19,9 +19,9 @@ use Rattle.services.specs.Memory.Laws.{sets_zeros}
 use Rattle.services.specs.Brackets.{stack_text, BracketsInput, brackets_files, root_text, length_tests, brackets_refusal, BracketsDone, brackets_answer, brackets_service}
 use Rattle.services.specs.Brackets.Laws.{answer_refused, answer_printed, length_refused, length_passed}
 use Rattle.demands.specs.Demand1.{BracketsStates}
-use Rattle.demands.specs.Demand1.Proof.{demand1_brackets}
+use Rattle.demands.proofs.Demand1.Proof.{demand1_brackets}
 use Rattle.demands.specs.Brackets.{PrintsExactly}
-use Rattle.demands.specs.Brackets.Proof.{brackets_exactly}
+use Rattle.demands.proofs.BracketsProof.{brackets_exactly}
 use Rattle.bytes_in.specs.Records.{record_at, body_of}
 use Rattle.start_records.specs.Body.{cells_in}
 use Rattle.bounded_text.specs.declared.End.TheVariants.{At, Past}

@@ -14,8 +14,8 @@ use Rattle.rounds.specs.Rounds.{after_suc, still_closed, closed_same}
 use Rattle.rounds.specs.Sizes.{AfterRounds}
 use Rattle.rounds.specs.Limits.{adds_some, nothing_closed}
 use Rattle.rounds.proofs.Before.{table_extends}
-use Rattle.completeness.specs.Complete.{run_accepted}
-use Rattle.soundness.specs.Theorem.{sound}
+use Rattle.completeness.proofs.Complete.{run_accepted}
+use Rattle.soundness.proofs.Theorem.{sound}
 use Rattle.files.specs.Case.{own_of, rules_of}
 use Rattle.demands.specs.Laws.FromBytes.{saturated_facts}
 use Rattle.demands.specs.Reach.{Reaches, PublishedReaches, round_table, AddsMove, AddsNothing}

@@ -5,11 +5,11 @@ use Rattle.std.proofs.Common.{sym, subst}
 use Rattle.replies.specs.Numbers.{refusal_of}
 use Rattle.services.specs.Guide.{GuideInput, GuideDone, guide_service}
 use Rattle.demands.specs.Demand1.{GuideStates}
-use Rattle.demands.specs.Demand1.Proof.{demand1_guide}
+use Rattle.demands.proofs.Demand1.Proof.{demand1_guide}
 use Rattle.demands.specs.Demand2.{GuideRuns, GuideSize}
-use Rattle.demands.specs.Demand2.Proof.{guide_runs, guide_size}
+use Rattle.demands.proofs.Demand2.Proof.{guide_runs, guide_size}
 use Rattle.demands.specs.Demand3.{Guides}
-use Rattle.demands.specs.Demand3.Proof.{guides}
+use Rattle.demands.proofs.Demand3.Proof.{guides}
 
 pub meets : (x : GuideInput) (d : GuideDone) → d ≡ guide_service x
     → (d ≡ guide_service x) × (GuideStates x d × (GuideRuns x d.reply × (GuideSize x (refusal_of d.reply) × Guides x d)))

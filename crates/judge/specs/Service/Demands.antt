@@ -4,9 +4,9 @@ use Rattle.std.specs.Prelude.{◌≡◌}
 use Rattle.std.proofs.Common.{sym, subst}
 use Rattle.services.specs.Judge.{JudgeInput, JudgeDone, judge_service}
 use Rattle.demands.specs.Demand1.{JudgeStates}
-use Rattle.demands.specs.Demand1.Proof.{demand1_judge}
+use Rattle.demands.proofs.Demand1.Proof.{demand1_judge}
 use Rattle.demands.specs.Demand2.{JudgeMarks, JudgeSize}
-use Rattle.demands.specs.Demand2.Proof.{judge_marks, judge_size}
+use Rattle.demands.proofs.Demand2.Proof.{judge_marks, judge_size}
 
 pub meets : (x : JudgeInput) (d : JudgeDone) → d ≡ judge_service x
     → (d ≡ judge_service x) × (JudgeStates x d × (JudgeMarks x d × JudgeSize x d.code))

@@ -21,9 +21,9 @@ use Rattle.files.specs.Start.{start_refusal, starts_of, cells_of, configuration_
 use Rattle.services.specs.Replay.{ReplayInput, ReplayDone, replay_files, rule_numbers, replay_cells, replay_refusal, replayed, replay_run, replay_reply, replay_service}
 use Rattle.services.proofs.Replay.Laws.{Replays, replayed_arrived, replayed_missed, replay_refused, replay_run_lem, refusal_case, refusal_start, refusal_missing, refusal_odd, refusal_short, refusal_none}
 use Rattle.demands.specs.Demand1.{ReplayStates}
-use Rattle.demands.specs.Demand1.Proof.{demand1_replay}
+use Rattle.demands.proofs.Demand1.Proof.{demand1_replay}
 use Rattle.demands.specs.Replays.{AnswersExactly}
-use Rattle.demands.specs.Replays.Proof.{replay_answers}
+use Rattle.demands.proofs.Replays.Proof.{replay_answers}
 use Rattle.start_file.specs.Checks.{files_of}
 use Rattle.sound_files.specs.Refusal.{FilesSound, number_refusal}
 use Rattle.sound_files.specs.Refusal.Laws.{before_case, before_start, before_past, before_below, sound_before, not_past}

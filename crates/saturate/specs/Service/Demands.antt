@@ -5,11 +5,11 @@ use Rattle.std.proofs.Common.{sym, subst}
 use Rattle.services.specs.Saturate.{Lent, SaturateDone, saturate_service}
 use Rattle.demands.specs.Refusals.{Returned, saturate_refusals}
 use Rattle.demands.specs.Demand1.{SaturateStates}
-use Rattle.demands.specs.Demand1.Proof.{demand1_saturate}
+use Rattle.demands.proofs.Demand1.Proof.{demand1_saturate}
 use Rattle.demands.specs.Demand2.{SaturateSize}
-use Rattle.demands.specs.Demand2.Proof.{saturate_size}
+use Rattle.demands.proofs.Demand2.Proof.{saturate_size}
 use Rattle.demands.specs.MoveCounts.{CountsWalked}
-use Rattle.demands.specs.MoveCounts.Proof.{counts_walked}
+use Rattle.demands.proofs.MoveCounts.Proof.{counts_walked}
 
 pub meets : (x : Lent) (d : SaturateDone) → d ≡ saturate_service x
     → (d ≡ saturate_service x) × (SaturateStates x d × (SaturateSize x d.reply.code × (d.reply.code ≡ 0 → CountsWalked x d)))

@@ -1,0 +1,11 @@
+pub mod Rewritten
+pub mod Replays
+pub mod MoveCounts
+pub mod Instances
+pub mod Idle
+pub mod FullRun
+pub mod Determined
+pub mod Demand3
+pub mod Demand2
+pub mod Demand1
+pub mod BracketsProof

@@ -1,0 +1,25 @@
+-- `first_reading::reach_with` meets its contract.
+-- Assumes nothing.
+use Prim.Native.Nat.{◌≤◌}
+use mathlib.Core.Path.{ap, sym, ◌∙◌}
+use native.Mathlib.Omega.{arith}
+use Rattle.joins.specs.Joining.{as_joined}
+use Rattle.first_reading.specs.Reach.Turns.{turn_other, turn_past, turn_nothing, turn_more}
+use Rattle.first_reading.proofs.reach_with.Goals as goal
+
+pub returns-then-q : goal.returns-then-q
+returns-then-q c =
+    let past : 64 ≤ c.args.m.state = omega arith in
+    turn_past _ _ _ _ _ _ past (omega arith)
+
+pub returns-then-not-has : goal.returns-then-not-has
+returns-then-not-has c = turn_other _ _ _ _ _ _ (sym c.has.ensures ∙ c.if-not-has.true)
+
+pub returns-in_default : goal.returns-in_default
+returns-in_default c =
+    turn_nothing _ _ _ _ _ _ _ _ (sym c.has.ensures ∙ c.if-not-has.false) c.candidate.ensures c.parts_within.ensures (ap as_joined c.in_default.is)
+
+pub returns : goal.returns
+returns c =
+    turn_more _ _ _ _ _ _ _ _ (sym c.has.ensures ∙ c.if-not-has.false) c.candidate.ensures c.parts_within.ensures (ap as_joined c.in-To.is)
+    c.one_bit.ensures.set c.join.ensures c.join-2.ensures c.join-3.ensures

@@ -1,0 +1,4 @@
+pub mod Theorem
+pub mod Own
+pub mod Lemma
+pub mod Left
