@@ -1,5 +1,6 @@
 // The text of what guide answers for a start: its line in the listing's form, and the rule numbers of its run on the next line.
 #![tactic(auto)]
+
 ghost use Rattle.std.specs.Prelude.{◌≡◌, ◌+◌, ◌*◌, ◌≤◌, ◌<◌, length};
 ghost use Rattle.replies.specs.Numbers.{counts_of};
 ghost use Rattle.replies.specs.declared.Reply.TheVariants.{Walked};

@@ -1,6 +1,7 @@
 // Text written into lent bytes, one byte after another, as far as they reach. Each function writes its text from `at` on and answers where it
 // ends; all other bytes stay as they are. Once a text has passed the lent bytes there is no place to go on from.
 #![tactic(auto)]
+
 ghost use Rattle.std.specs.Prelude.{[], ◌∷◌};
 ghost use Rattle.services.specs.Listing.{decimal};
 ghost use Rattle.bounded_text.specs.declared.End.TheVariants.{At};

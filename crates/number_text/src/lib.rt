@@ -1,5 +1,6 @@
 // Numbers as text: written in decimal with spaces between them, and the number of a start or of rounds that an argument names.
 #![tactic(auto)]
+
 ghost use Rattle.std.specs.Prelude.{◌≡◌, ◌+◌, ◌*◌, ◌≤◌, ◌<◌, length};
 ghost use Rattle.automata.specs.Saturation.{all_rounds};
 ghost use Rattle.text.specs.Written.{Written};

@@ -1,5 +1,6 @@
 // The answers of guide, replay and brackets as numbers, for a caller that has no enums.
 #![tactic(auto)]
+
 ghost use Rattle.std.specs.Prelude.{◌≡◌};
 ghost use Rattle.replies.specs.Numbers.{number_of, reply_counts, replay_number, replay_step, brackets_number, brackets_length};
 
