@@ -1,15 +1,9 @@
 -- `start_records::cell_of` meets its contract.
 -- Assumes nothing.
 use mathlib.Core.Path.{sym}
-<<<<<<< HEAD
 use Rattle.cell_memory.specs.Memory.{cell_of}
 use Rattle.start_records.specs.Cells.Laws.{of_empty1, of_symbol, of_empty2, of_above}
 use native.Mathlib.Omega.{arith}
-=======
-use native.Mathlib.Omega.{arith}
-use Rattle.cell_memory.specs.Memory.{cell_of}
-use Rattle.start_records.specs.Cells.Laws.{of_empty1, of_symbol, of_empty2, of_above}
->>>>>>> refs/remotes/h/g5
 use Rattle.start_records.proofs.cell_of.Goals as goal
 
 pub returns-in-1 : goal.returns-in-1
@@ -26,8 +20,4 @@ returns-in-3 c = sym (of_empty2 _ c.in-3.is)
 
 pub returns-in_default : goal.returns-in_default
 unfolding cell_of
-<<<<<<< HEAD
 returns-in_default c = sym (of_above _ (λ e. omega arith) (λ e. omega arith) (λ e. omega arith))
-=======
-returns-in_default c = sym (of_above _ (λ z. omega arith) (λ z. omega arith) (λ z. omega arith))
->>>>>>> refs/remotes/h/g5
