@@ -1,5 +1,6 @@
 // The inner edges, entries and moves of a case, decoded once into tables of words.
 #![tactic(auto)]
+
 ghost use Rattle.std.specs.Prelude.{◌≡◌, true, [], ◌∷◌, map, ℕ, ◌<◌, ◌≤◌, ◌+◌, ◌*◌, ◌^◌, length};
 ghost use Rattle.words.specs.Sets.{set_of};
 ghost use Rattle.files.specs.Bytes.{records};

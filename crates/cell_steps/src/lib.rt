@@ -1,5 +1,6 @@
 // A step on lent cells: the cells that an operation adds, and the choices that a guided run gives them.
 #![tactic(auto)]
+
 ghost use Rattle.std.specs.Prelude.{◌≡◌, [], ◌∷◌, ◌++◌, ◌<◌, ◌≤◌, ◌+◌, ◌*◌, ◌^◌, length};
 ghost use Rattle.stacks.specs.Stack.{new_cells, copy};
 ghost use Rattle.walks.specs.Cell.{symbol, above, cells_after, root_after};

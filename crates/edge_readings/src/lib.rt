@@ -1,6 +1,7 @@
 // The results of readings from sets of order-2 states: one choice of an edge for each state, then the readings from the order-1 states that
 // these edges name. The index of the moves, the table of the round before and the memo table are those of `readings::read_from`.
 #![tactic(auto)]
+
 ghost use Rattle.std.specs.Prelude.{◌≡◌, ◌∷◌, ◌<◌};
 ghost use Rattle.words.specs.Sets.{members};
 ghost use Rattle.tables.specs.Held.{automaton_of};
@@ -29,7 +30,7 @@ fn name(named: u64, first: u64, c: usize) -> u64
 // Collects the results of the readings of the goal's symbol from the order-2 states left, joined to (order, b, r): one choice of an edge for
 // each state, then the readings from the order-1 states that these edges and `named` name, for the join of the edges' sets and s. States in
 // `memo` are passed over.
-#[cycle(choose_left_read_choices_read_edges)]
+#[cycle(edges)]
 pub fn read_edges(
     z: tables::Table,
     inner: &[u64],
@@ -66,7 +67,7 @@ pub fn read_edges(
 }
 
 // The same where some state is left, unless it stands in `memo`: by the least of them.
-#[cycle(choose_left_read_choices_read_edges)]
+#[cycle(edges)]
 fn choose_left(
     z: tables::Table,
     inner: &[u64],
@@ -111,7 +112,7 @@ fn choose_left(
 
 // Collects the results of the readings of the goal's symbol from an order-2 state and the others, joined to (order, b, r): by each edge of
 // the state the readings from the others.
-#[cycle(choose_left_read_choices_read_edges)]
+#[cycle(edges)]
 fn read_choices(
     z: tables::Table,
     inner: &[u64],

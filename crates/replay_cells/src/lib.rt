@@ -1,5 +1,6 @@
 // Cells in lent bytes, six a cell, in the form of start body 2: a start file's cells copied, and the new cells of an operation.
 #![tactic(auto)]
+
 ghost use Rattle.std.specs.Prelude.{◌≡◌, [], ◌∷◌, ◌<◌, ◌≤◌, ◌+◌, ◌*◌, ◌/◌, ◌%◌, length};
 ghost use Rattle.std.proofs.lemmas.List.Edits.{sets};
 ghost use Rattle.stacks.specs.Stack.{new_cells};

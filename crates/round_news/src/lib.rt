@@ -1,6 +1,7 @@
 // What the last round added: the moves from one number up to another. On which symbols there are such moves, and which states have none on
 // a symbol.
 #![tactic(auto)]
+
 ghost use Rattle.std.specs.Prelude.{◌≡◌, ◌≤◌, ◌*◌, ◌%◌, length};
 ghost use Rattle.words.specs.Sets.{member};
 ghost use Rattle.tables.specs.Records.{as_move};

@@ -1,5 +1,6 @@
 // The check of a start file, body by body.
 #![tactic(auto)]
+
 ghost use Rattle.std.specs.Prelude.{◌≡◌, true, map, ◌≤◌, ◌*◌, length};
 ghost use Rattle.words.specs.Lists.{every};
 ghost use Rattle.files.specs.Bytes.{records};

@@ -1,5 +1,6 @@
 // The records of a start file: what each one's bytes stand for, and whether it keeps the bounds of its body.
 #![tactic(auto)]
+
 ghost use Rattle.std.specs.Prelude.{◌≡◌, map, ◌≤◌, ◌+◌, ◌*◌, length};
 ghost use Rattle.files.specs.Bytes.{records};
 ghost use Rattle.files.specs.Start.{start_of, cell_bytes, order_of, refers_to, cell_right, start_right, cell_of};

@@ -1,0 +1,11 @@
+-- `replay_cells::copy_cells`: what its loops keep.
+use Prim.Native.Nat.{◌-◌}
+use lib.ListN.{length}
+use Rattle.words.specs.Copied.{Copied}
+use Rattle.replay_cells.proofs.copy_cells.Given as goal
+
+abbrev pub invariant-loop-i : goal.invariant-loop-i
+invariant-loop-i l = Copied l.initial.cells 0 l.body l.i l.cells
+
+abbrev pub decreases-loop-i : goal.decreases-loop-i
+decreases-loop-i l = length l.body - l.i
