@@ -1,6 +1,6 @@
 /*
- * The script analyser for the bench host: target/staticlib/libexports.a, which
- * `rt staticlib exports` writes. Documents 01 and 02 (requests 1 to 8) say what
+ * The script analyser for the bench host: crates/exports/out/libexports.a,
+ * which `scripts/library.sh` builds. Documents 01 and 02 (requests 1 to 8) say what
  * the five services do; this page says the same for a caller in C. crates/exports
  * proves each call equal to its definition; what this page says of numbers, words,
  * counts, rounds, runs and texts are the theorems of crates/demands about these definitions

@@ -52,7 +52,7 @@ class Tree:
         self.paths, self.named, self.items, self.others, self.logic = set(), {}, {}, set(), {}
         self.crates = {path.name for path in Path("crates").iterdir()}
         for folder, folders, files in os.walk("."):
-            folders[:] = [f for f in folders if f not in (".git", "target")]
+            folders[:] = [f for f in folders if f not in (".git", "target", "out")]
             for name in folders + files:
                 path = str(Path(folder, name))
                 self.paths.add(path)

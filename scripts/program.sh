@@ -12,6 +12,8 @@ export LC_ALL=C
 unset CDPATH
 { : <&0; } 2>/dev/null || exec </dev/null
 repository=$(dirname "$(dirname "$(readlink -f "${BASH_SOURCE[0]}")")")
+# shellcheck source=scripts/built.sh
+. "$repository/scripts/built.sh"
 
 # The statuses besides 0. Status 1 is left to the shell, for whatever else goes wrong.
 readonly WRONG_USE=2 REFUSED=3 NOT_BUILT=4 LOST=5
@@ -91,17 +93,10 @@ make_room() {
 
 # ---- the program
 
-# The digest of all that a program is built of.
-sources() {
-    (cd "$repository" && find crates crates.txt -type f -print0 | sort -z | xargs -0 sha256sum | sha256sum | cut -c 1-16)
-}
-
-# Whether the program is proved and built of the sources as they are; `built` is where it stands then. A copy of its own for each state of
-# the sources, never written again: nothing changes beneath a call that runs it.
+# Whether the program is proved and built of the sources as they are; `digest` is theirs, and `built` where it stands then.
 is_built() {
-    local digest
     digest=$(sources) || leave "$NOT_BUILT" "the sources in $repository can not be read"
-    built=$repository/target/built/$program-$digest
+    built=$(program_of "$program" "$digest")
     [ -x "$built" ]
 }
 
@@ -130,43 +125,46 @@ crates_below() {
         END { visit(program); print count + 0 }' "$repository/crates.txt"
 }
 
-# Has rt prove and build the program, and says which crates it has proved; what else rt says is kept. rt keeps what it has proved when it is
-# ended. All that rt starts holds the pipe as its file 3.
+# Has rt prove and build the program, and says which crates it has proved; what else rt says is kept. It names no crate that was proved before.
+# rt keeps what it has proved when it is ended. All that rt starts holds the pipe as its file 3.
 prove() {
-    local all done=0 line prover proved='^rt: ([a-z0-9_]+) proved \((.*)\)$'
+    local all begun=$SECONDS crate='' done=0 line prover status=0
     all=$(crates_below)
     say "proving and building the program: $all crates, some minutes if none is proved yet"
     mkfifo "$room/lines"
-    (cd "$repository" && TMPDIR=$room exec setsid rt check "$program") >"$room/lines" 2>&1 3>&1 </dev/null &
+    (cd "$repository/crates/$program" && TMPDIR=$room exec setsid rt run) >"$room/lines" 2>&1 3>&1 </dev/null &
     prover=$!
     exec {lines}<"$room/lines"
     while IFS= read -r line <&"$lines"; do
-        if ! [[ $line =~ $proved ]]; then
-            echo "$line" >>"$room/rt.txt"
-            continue
+        echo "$line" >>"$room/rt.txt"
+        if [[ $line =~ ^crate\ ([a-z0-9_]+): ]]; then
+            crate=${BASH_REMATCH[1]}
+        elif [[ $line = logic=proved\ * ]]; then
+            done=$((done + 1))
+            say "proved $done of at most $all: $crate ($((SECONDS - begun)) s)"
+            begun=$SECONDS
         fi
-        done=$((done + 1))
-        [[ ${BASH_REMATCH[2]} = unchanged* ]] || say "proved $done of $all: ${BASH_REMATCH[1]} (${BASH_REMATCH[2]})"
     done
     exec {lines}<&-
     lines=''
     rm "$room/lines"
-    wait "$prover"
+    wait "$prover" || status=$?
+    # rt has run the program too, in the crate's folder.
+    rm -f "$repository/crates/$program/written"
+    return "$status"
 }
 
 # Proves the sources, and keeps the program unless they have changed meanwhile.
 build() {
-    local wanted=$built made=$repository/target/bin/$program
+    local wanted=$digest
     command -v rt >/dev/null || leave "$NOT_BUILT" "the program is not built, and rt, which proves and builds it, is not on the path"
-    # rt does not ask whether a program that it has built is still there.
-    [ -x "$made" ] || rm -f "$repository/target/stamp/$program"
     if ! prove; then
         # Without the lines on what is proved.
-        grep -vE '^(fn .*: proved$|library |logic )' "$room/rt.txt" >&2 || :
+        grep -vE '^(fn .*: proved$|checked |(library|statements|axioms|crate) |logic |logic=proved |rt: (chose|[a-z0-9_]+: begins) )' "$room/rt.txt" >&2 || :
         leave "$NOT_BUILT" "the program is not built: see above"
     fi
-    is_built || [ "$built" = "$wanted" ] || return 0
-    { mkdir -p "${wanted%/*}" && cp "$made" "$wanted.new" && mv "$wanted.new" "$wanted"; } || leave "$NOT_BUILT" "the program can not be kept"
+    is_built || [ "$digest" = "$wanted" ] || return 0
+    keep_program "$program" "$wanted" || leave "$NOT_BUILT" "the program can not be kept"
 }
 
 make_program() {
@@ -213,6 +211,8 @@ run_program() { # CASE START [WORD..]
     cd "$room/files" || exit
     attend "$built" "${@:3}" >"$room/text" || status=$?
     [ -e written ] || leave "$LOST" "output is lost: the program did not write its text (it ended with status $status)"
+    # No program learns whether closing its output has failed.
+    attend sync -d "$room/text" || leave "$LOST" "output is lost: the program's text did not come to the disk"
     attend cat "$room/text" || leave "$LOST" "output is lost: not all of the text could be written to standard output"
     read -r first number <"$room/text" || :
     [ "$first" != refused ] || leave "$REFUSED" "refused: $(sentence "$number")"

@@ -1,6 +1,6 @@
 #!/usr/bin/env bash
 # Tests ./analyse, ./guide and ./brackets: what they print, their statuses, and what they leave behind. First on the programs of this
-# repository, which `rt check listing run show` has proved; then in a small repository with a stand-in for rt, how they build.
+# repository, which the gate has kept, or the scripts build; then in a small repository with a stand-in for rt, how they build.
 set -uo pipefail
 cd "$(dirname "$0")/.." || exit
 repository=$PWD

@@ -4,7 +4,7 @@
 export STAND_IN=$room/stand-in
 
 make_repository() {
-    mkdir -p "$STAND_IN" "$room/small/crates/words" "$room/small/host"
+    mkdir -p "$STAND_IN" "$room/small/crates/"{words,listing,run,show} "$room/small/host"
     cp -R analyse guide brackets scripts "$room/small"
     cp host/analyser.h "$room/small/host"
     printf '%s\n' 'words:' 'stacks: words # a comment' 'listing: words stacks io' 'run: words' 'show: words' >"$room/small/crates.txt"
@@ -26,9 +26,10 @@ fresh_clone() {
     eight_at_once $'moves 1 entries 1\n' "$STAND_IN/hold" release_when_seven_wait
     times_asked 1
     cat "$room"/err? >"$room/err"
-    says "analyse: proved 2 of 3: stacks (2 s)"
-    says "analyse: proved 3 of 3: listing (3 s)"
+    says "analyse: proved 1 of at most 3: stacks ("
+    says "analyse: proved 2 of at most 3: listing ("
     ! grep -q 'words' "$room/err" || fail "a crate that was proved before is named"
+    [ ! -e "$room/small/crates/listing/written" ] || fail "the run of rt leaves a file written"
 }
 
 # Each script has a program of its own, and hands on the numbers that it is given.
@@ -42,7 +43,7 @@ own_programs() {
     same "words of the run by some rounds" "<3><007>" "$(cat "$STAND_IN/words")"
     gives 0 $'moves 1 entries 1\n' ./brackets "$case" "$start" 4
     same "words of the stack" "<4>" "$(cat "$STAND_IN/words")"
-    same "what rt was asked" $'check listing\ncheck run\ncheck show' "$(cat "$STAND_IN/asked")"
+    same "what rt was asked" $'run listing\nrun run\nrun show' "$(cat "$STAND_IN/asked")"
 }
 
 # Only changed sources are proved again, and what is built needs no rt.
@@ -54,14 +55,15 @@ changed_sources() {
     echo two >"$room/small/crates/words/source"
     : >"$STAND_IN/fail"
     gives 4 '' ./analyse "$model/case.bin" "$model/start.bin"
-    says "rt: listing NOT PROVED"
+    says "fn listing::main: no proof"
+    ! grep -q '^fn stacks' "$room/err" || fail "a proved function is named"
     rm "$STAND_IN/fail"
     PATH=/usr/bin:/bin gives 4 '' ./analyse "$model/case.bin" "$model/start.bin"
     says "rt, which proves and builds it, is not on the path"
     gives 0 $'moves 1 entries 1\n' ./analyse "$model/case.bin" "$model/start.bin"
     times_asked 5
-    # A program that rt believes built, and that is gone, is built again.
-    rm -r "$room/small/target/bin" "$room/small/target/built"
+    # A program that is gone is built again.
+    rm -r "$room/small/crates/listing/out" "$room/small/target/built"
     gives 0 $'moves 1 entries 1\n' ./analyse "$model/case.bin" "$model/start.bin"
     is_clear
 }

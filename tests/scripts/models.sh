@@ -30,10 +30,12 @@ guided_models() {
 
 # The programs themselves, where there is no file: as for an empty one.
 without_files() {
-    local program
+    local program digest
+    digest=$(./analyse --version)
+    digest=${digest##* }
     mkdir "$room/none"
     for program in listing run show; do
-        try env -C "$room/none" "$repository/target/bin/$program" 0
+        try env -C "$room/none" "$repository/target/built/$program-$digest" 0
         same "output of $program without files" $'refused 1\n.' "$(text_of out)"
         [ -e "$room/none/written" ] || fail "$program without files leaves no file written"
         rm -f "$room/none/written"

@@ -1,4 +1,4 @@
-//! The proved library, `target/staticlib/libexports.a`, behind the same
+//! The proved library, `crates/exports/out/libexports.a`, behind the same
 //! signatures as the second implementation. `host/analyser.h` says what its
 //! functions promise.
 

@@ -1,5 +1,6 @@
 // The moves of a control's entries as premises: which of them have to be looked at, by what the last round added, and what they give, collected.
 #![tactic(auto)]
+
 ghost use Rattle.std.specs.Prelude.{◌≡◌, ◌<◌, ◌%◌, ltb};
 ghost use Rattle.words.specs.Sets.{member};
 ghost use Rattle.tables.specs.Held.{automaton_of};

@@ -1,6 +1,7 @@
 // The services and the listing for the bench host in C: a slice is a pointer and a length to it. Nothing is asked of the caller but valid
 // memory that does not overlap. host/analyser.h says the same in C.
 #![tactic(auto)]
+
 ghost use Rattle.std.specs.Prelude.{◌≡◌, length};
 ghost use Rattle.services.specs.Saturate.{saturate_service};
 ghost use Rattle.services.specs.Judge.{judge_service};

@@ -1,5 +1,6 @@
 // What a move of an entry gives as the premise of a rule, collected. What an old premise gave in the round before is held.
 #![tactic(auto)]
+
 ghost use Rattle.std.specs.Prelude.{◌≡◌, ◌||◌, ◌<◌, eqb};
 ghost use Rattle.tables.specs.Rows.{row_at};
 ghost use Rattle.tables.specs.Records.{as_move};

@@ -1,34 +1,64 @@
-// What the programs share: they read a file, and end their output.
+// What the programs share: they read files and arguments, write their text, and mark that it is written.
 #![tactic(auto)]
-ghost use Rattle.io.specs.Counts.{IsPrefixLen};
 
-use libc::STDOUT_FILENO;
+ghost use Rattle.std.specs.Prelude.{◌≡◌, true};
+ghost use Rattle.std.specs.Io.KnownBytes.{Appends};
+ghost use Rattle.std.specs.Counts.{IsPrefixLen};
+
+use std::fs::{File, OpenOptions};
+use std::io::{Read, Write};
+use std::rt::{Env, Files};
 
 // Reads a file into the buffer as far as it holds it, and answers how many bytes it read: none where the file can not be opened.
-pub fn read_file(path: &[u8], buffer: &mut [u8]) -> usize
+pub fn read_file(files: &impl Files, path: &str, buffer: &mut [u8]) -> usize
     ensures { IsPrefixLen result buffer.new }
 {
-    let file = os::open_read(path);
-    if file < 0 {
-        return 0;
+    match File::open(files, path) {
+        Ok(mut file) => read_full(&mut file, buffer),
+        Err(_) => 0,
     }
-    let n = io::read_full(file, buffer);
-    libc::close(file);
-    n
 }
 
-// Ends standard output, and makes the file `written` in the working directory exactly if all was written and closing did not fail. A program
-// has no exit status: this file tells its caller that the text has arrived whole.
-pub fn mark_written(all: bool) {
-    if libc::close(STDOUT_FILENO) != 0 {
-        return;
+// Reads until the buffer is full, the input ends or a read fails, and answers how many bytes it read.
+fn read_full<R: Read>(from: &mut R, buffer: &mut [u8]) -> usize
+    ensures { IsPrefixLen result buffer.new }
+{
+    let mut done = 0;
+    while done < buffer.len() {
+        match from.read(&mut buffer[done..]) {
+            Ok(0) => break,
+            Ok(n) => done += n,
+            Err(_) => break,
+        }
     }
+    done
+}
+
+// Reads the argument of this number into the buffer, 1 being the first behind the program's name, and answers how many bytes it has: none
+// where it is missing or longer than the buffer.
+pub fn read_argument(env: &impl Env, number: usize, buffer: &mut [u8]) -> usize
+    ensures { IsPrefixLen result buffer.new }
+{
+    match env.arg(number, buffer) {
+        Ok(n) => n,
+        Err(_) => 0,
+    }
+}
+
+// Writes all of the text, and answers whether that has succeeded.
+pub fn write_text<W: Write>(out: &mut W, text: &[u8]) -> bool
+    ensures { result ≡ true → Appends (W.contents out.old) (W.contents out.new) text.now }
+{
+    out.write_all(text).is_ok() && out.flush().is_ok()
+}
+
+// Makes the file `written` in the working directory exactly if all was written: this file tells a program's caller that the text is whole.
+pub fn mark_written(files: &impl Files, all: bool) {
     if !all {
         return;
     }
-    let file = os::create(b"written");
-    if file < 0 {
-        return;
-    }
-    libc::close(file);
+    let _ = OpenOptions::new()
+        .write(true)
+        .create_new(true)
+        .open(files, "written");
 }

@@ -1,6 +1,7 @@
 // The results of all rules from the table of the earlier rounds, collected: those that are not yet held, sorted, each once. What the table of
 // the round before gives is held, so only what the last round added is looked at.
 #![tactic(auto)]
+
 ghost use Rattle.std.specs.Prelude.{◌≡◌, [], ◌∷◌, ◌<◌, ◌≤◌, ◌+◌, ◌*◌, length};
 ghost use Rattle.tables.specs.Rows.{row_at};
 ghost use Rattle.tables.specs.Records.{as_result};

@@ -1,35 +1,41 @@
 // Prints the run from one start of start.bin for case.bin, both in its working directory, and makes the file `written` there once it is written.
 // Its arguments are the number of the start and a number of rounds, in decimal: all rounds where there is no second one.
 #![tactic(auto)]
-ghost use Rattle.io.specs.Counts.{IsPrefixLen};
+
+ghost use Rattle.std.specs.Counts.{IsPrefixLen};
 ghost use Rattle.services.specs.Run.{run_text};
 ghost use Rattle.printing.specs.Texts.{TextRead};
 
-use libc::STDOUT_FILENO;
 use limits::Limits;
+use std::rt::Files;
 
 // Reads the two files and writes the run from the start of this number, in so many rounds, into the text. Answers its length. Each buffer holds a
 // byte more than the longest sound file, so a longer file is refused for its length.
-fn read_run(number: usize, rounds: u64, text: &mut [u8; Limits::RUN_TEXT]) -> usize
+fn read_run(
+    files: &impl Files,
+    number: usize,
+    rounds: u64,
+    text: &mut [u8; Limits::RUN_TEXT],
+) -> usize
     ensures text_read { TextRead (λ f. run_text f number rounds) result text.new }
     ensures counts { IsPrefixLen result text.new }
 {
     let mut case = [0u8; Limits::CASE_FILE + 1];
     let mut start = [0u8; Limits::START_FILE + 1];
-    let c = printing::read_file(b"case.bin", &mut case);
-    let s = printing::read_file(b"start.bin", &mut start);
+    let c = printing::read_file(files, "case.bin", &mut case);
+    let s = printing::read_file(files, "start.bin", &mut start);
     run_text::run_text(&case[..c], &start[..s], number, rounds, text)
 }
 
-fn main() {
+fn main(rt: HostRuntime) {
     let mut argument = [0u8; 4096];
-    let a = os::arg(1, &mut argument);
+    let a = printing::read_argument(&rt, 1, &mut argument);
     let number = number_text::start_named(&argument[..a]);
     let mut second = [0u8; 4096];
-    let b = os::arg(2, &mut second);
+    let b = printing::read_argument(&rt, 2, &mut second);
     let rounds = number_text::rounds_named(&second[..b]);
     let mut text = [0u8; Limits::RUN_TEXT];
-    let n = read_run(number, rounds, &mut text);
-    let all = io::write_all(STDOUT_FILENO, &text[..n]);
-    printing::mark_written(all);
+    let n = read_run(&rt, number, rounds, &mut text);
+    let all = printing::write_text(&mut rt.stdout(), &text[..n]);
+    printing::mark_written(&rt, all);
 }

@@ -1,32 +1,33 @@
 // Prints one start of start.bin, for case.bin, as brackets, both files in its working directory, and makes the file `written` there once it is
 // written. Its argument is the number of the start in decimal.
 #![tactic(auto)]
-ghost use Rattle.io.specs.Counts.{IsPrefixLen};
+
+ghost use Rattle.std.specs.Counts.{IsPrefixLen};
 ghost use Rattle.services.specs.Brackets.{show_text};
 ghost use Rattle.printing.specs.Texts.{TextRead};
 
-use libc::STDOUT_FILENO;
 use limits::Limits;
+use std::rt::Files;
 
 // Reads the two files and writes the start of this number as brackets into the text. Answers its length. Each buffer holds a byte more than the
 // longest sound file, so a longer file is refused for its length.
-fn read_show(number: usize, text: &mut [u8; Limits::SHOW_TEXT]) -> usize
+fn read_show(files: &impl Files, number: usize, text: &mut [u8; Limits::SHOW_TEXT]) -> usize
     ensures text_read { TextRead (λ f. show_text f number) result text.new }
     ensures counts { IsPrefixLen result text.new }
 {
     let mut case = [0u8; Limits::CASE_FILE + 1];
     let mut start = [0u8; Limits::START_FILE + 1];
-    let c = printing::read_file(b"case.bin", &mut case);
-    let s = printing::read_file(b"start.bin", &mut start);
+    let c = printing::read_file(files, "case.bin", &mut case);
+    let s = printing::read_file(files, "start.bin", &mut start);
     show_text::show_text(&case[..c], &start[..s], number, text)
 }
 
-fn main() {
+fn main(rt: HostRuntime) {
     let mut argument = [0u8; 4096];
-    let a = os::arg(1, &mut argument);
+    let a = printing::read_argument(&rt, 1, &mut argument);
     let number = number_text::start_named(&argument[..a]);
     let mut text = [0u8; Limits::SHOW_TEXT];
-    let n = read_show(number, &mut text);
-    let all = io::write_all(STDOUT_FILENO, &text[..n]);
-    printing::mark_written(all);
+    let n = read_show(&rt, number, &mut text);
+    let all = printing::write_text(&mut rt.stdout(), &text[..n]);
+    printing::mark_written(&rt, all);
 }

@@ -1,6 +1,7 @@
 // The text of stacks in cells of a start file, written into lent bytes as far as they reach. The printers of order-2 cells, of order-1 cells and
 // of annotations call each other, and the cell number falls. Where the lent bytes are passed they return at once: each goes on only from a place.
 #![tactic(auto)]
+
 ghost use Rattle.std.specs.Prelude.{◌<◌, ◌≡◌, ◌++◌};
 ghost use Rattle.walks.specs.Cell.{order1, order2};
 ghost use Rattle.walks.specs.Cell.Formed.{order_at};
@@ -38,7 +39,7 @@ fn put_symbol(text: &mut [u8], at: usize, a: u16) -> End
 }
 
 // The symbols of order-1 cell n, of the first `count` cells, each with its annotation.
-#[cycle(put_annotation_put_stacks_put_symbols)]
+#[cycle(stacks)]
 fn put_symbols(text: &mut [u8], at: usize, cells: &[u8], count: usize, n: usize) -> End
     requires { CellsStand count cells.now × (n < count) × (order_at (cells_in count cells.now) n ≡ 1) }
     ensures { Prints (page (At at) text.old) (symbols_text (order1 (stack_in count cells.now n))) (page result text.new) }
@@ -63,7 +64,7 @@ fn put_symbols(text: &mut [u8], at: usize, cells: &[u8], count: usize, n: usize)
 }
 
 // The order-1 stacks of order-2 cell n, of the first `count` cells, each in square brackets.
-#[cycle(put_annotation_put_stacks_put_symbols)]
+#[cycle(stacks)]
 fn put_stacks(text: &mut [u8], at: usize, cells: &[u8], count: usize, n: usize) -> End
     requires { CellsStand count cells.now × (n < count) × (order_at (cells_in count cells.now) n ≡ 2) }
     ensures { Prints (page (At at) text.old) (stacks_text (order2 (stack_in count cells.now n))) (page result text.new) }
@@ -88,7 +89,7 @@ fn put_stacks(text: &mut [u8], at: usize, cells: &[u8], count: usize, n: usize) 
 }
 
 // The stack in cell n, of the first `count` cells, as an annotation: its order, and it in braces.
-#[cycle(put_annotation_put_stacks_put_symbols)]
+#[cycle(stacks)]
 fn put_annotation(text: &mut [u8], at: usize, cells: &[u8], count: usize, n: usize) -> End
     requires { CellsStand count cells.now × (n < count) }
     ensures { Prints (page (At at) text.old) (annotation_text (stack_in count cells.now n)) (page result text.new) }

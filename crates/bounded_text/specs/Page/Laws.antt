@@ -1,6 +1,6 @@
 -- One text after another; a text from the start of bytes that are all zero.
 -- Assumes nothing.
-use Prim.Native.Nat.{ℕ, suc, ◌+◌, ◌-◌, ◌≤◌, ◌<◌}
+use Prim.Native.Nat.{ℕ, suc, ◌+◌, ◌≤◌, ◌<◌}
 use Rattle.std.specs.Prelude.{◌≡◌, refl, get_or, take, drop, set, replicate, ltb, leb}
 use Rattle.std.proofs.Math.Path.{ap, sym}
 use Rattle.std.proofs.Common.{◌∙◌, subst, add-zero, add-one, length-set, take-append-drop, take_all, take-suc, take_at}

@@ -6,7 +6,7 @@ use Rattle.files.specs.Start.{Files}
 use Rattle.services.specs.Memory.{padded}
 use Rattle.services.specs.Memory.Laws.{length_padded}
 use Rattle.text.specs.Laws.Printed.{printed_counts}
-use Rattle.io.specs.Counts.{IsPrefixLen}
+use Rattle.std.specs.Counts.{IsPrefixLen}
 use Rattle.printing.specs.Texts.{TextRead}
 
 pub text_read : (text_of : Files → List ℕ) (n : ℕ) (files : Files) {r : ℕ} {lent : List ℕ} → lent ≡ padded n (text_of files) → r ≡ length (text_of files) → r ≤ n
