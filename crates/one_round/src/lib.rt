@@ -1,5 +1,6 @@
 // One round of saturation on lent tables: its results are collected first, and then added; and whether a round would add a move.
 #![tactic(auto)]
+
 ghost use Rattle.std.specs.Prelude.{◌≡◌, ◌≤◌, ◌*◌, length};
 ghost use Rattle.automata.specs.Saturation.{adds_move};
 ghost use Rattle.tables.specs.Held.{automaton_of};
