@@ -1,6 +1,7 @@
 // Acceptance of cells in the form of a start file: for each cell the words that say since when it is accepted from each of 64 states, by those
 // of the cells before it.
 #![tactic(auto)]
+
 ghost use Rattle.std.specs.Prelude.{◌≡◌, ◌<◌, ◌≤◌, ◌+◌, ◌*◌, length};
 ghost use Rattle.words.specs.Lists.{zeros};
 ghost use Rattle.automata.specs.Saturation.{round_of};

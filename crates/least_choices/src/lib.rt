@@ -1,6 +1,7 @@
 // The cells of a start file in lent cells, each with its least choices: for each state the least move or edge that is met, by the words of the
 // cells that `acceptance` writes.
 #![tactic(auto)]
+
 ghost use Rattle.std.specs.Prelude.{◌≡◌, ◌<◌, ◌≤◌, ◌+◌, ◌*◌, length};
 ghost use Rattle.tables.specs.Rows.{rows_in};
 ghost use Rattle.tables.specs.Records.{as_move, as_edge};

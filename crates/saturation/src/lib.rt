@@ -1,6 +1,7 @@
 // Rounds of saturation on lent tables, as many as are asked for; the numbers of moves and entries after each round are reported, and whether a round
 // more would add a move.
 #![tactic(auto)]
+
 ghost use Rattle.std.specs.Prelude.{◌≡◌, ◌≤◌, ◌+◌, ◌*◌, length};
 ghost use Rattle.tables.specs.Rows.{row_at, put_row};
 ghost use Rattle.move_index.specs.Keys.{ByState, ByWords};

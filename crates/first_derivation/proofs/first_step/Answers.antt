@@ -1,0 +1,31 @@
+-- `first_derivation::first_step` meets its contract.
+-- Assumes nothing.
+use mathlib.Core.Path.{ap}
+use Rattle.case_records.specs.Values.{the_operation}
+use Rattle.first_derivation.specs.Premises.Rules.{step_rewrite, step_push1, step_push2, step_copy, step_pop1, step_pop2, step_collapse1, step_collapse2}
+use Rattle.first_derivation.proofs.first_step.Goals as goal
+
+pub returns-in-Rewrite : goal.returns-in-Rewrite
+returns-in-Rewrite c = step_rewrite _ _ _ _ _ _ _ (ap the_operation c.in-Rewrite.is) c.first_move.ensures
+
+pub returns-in-Push1 : goal.returns-in-Push1
+returns-in-Push1 c = step_push1 _ _ _ _ _ _ _ (ap the_operation c.in-Push1.is) c.first_move-in-Push1.ensures
+
+pub returns-in-Push2 : goal.returns-in-Push2
+returns-in-Push2 c = step_push2 _ _ _ _ _ _ _ (ap the_operation c.in-Push2.is) c.first_move-in-Push2.ensures
+
+pub returns-in-Copy : goal.returns-in-Copy
+returns-in-Copy c = step_copy _ _ _ _ _ _ _ (ap the_operation c.in-Copy.is) c.first_move-in-Copy.ensures
+
+pub returns-in-Pop1 : goal.returns-in-Pop1
+returns-in-Pop1 c = step_pop1 _ _ _ _ _ _ _ _ _ (ap the_operation c.in-Pop1.is) c.first_entry.ensures
+
+pub returns-in-Pop2 : goal.returns-in-Pop2
+returns-in-Pop2 c = step_pop2 _ _ _ _ _ _ _ _ _ (ap the_operation c.in-Pop2.is) c.by_pop2.ensures
+
+pub returns-in-Collapse1 : goal.returns-in-Collapse1
+returns-in-Collapse1 c =
+    step_collapse1 _ _ _ _ _ _ _ _ _ (ap the_operation c.in-Collapse1.is) c.first_entry-in-Collapse1.ensures
+
+pub returns-in-Collapse2 : goal.returns-in-Collapse2
+returns-in-Collapse2 c = step_collapse2 _ _ _ _ _ _ _ _ _ (ap the_operation c.in-Collapse2.is) c.by_collapse2.ensures

@@ -1,0 +1,13 @@
+-- `least_choices::move_met` meets its contract.
+-- Assumes nothing.
+use Rattle.tables.specs.Records.{as_move}
+use Rattle.least_choices.specs.Starts.Turns.{met_not, met_reads}
+use Rattle.least_choices.proofs.move_met.Goals as goal
+
+pub returns-then-m-a : goal.returns-then-m-a
+returns-then-m-a c = let a = c.args in met_not _ _ _ _ (as_move a.m) c.if-m-a.true
+
+pub returns : goal.returns
+returns c =
+    let a = c.args in
+    met_reads _ _ _ _ (as_move a.m) c.if-m-a.false c.move_accepted.ensures.value c.is_won.ensures
