@@ -1,0 +1,11 @@
+-- `guided_step::first_before` meets its contract.
+-- Assumes nothing.
+use Rattle.guided_step.specs.Step.Laws.{before_small, finds_before}
+use Rattle.guided_step.proofs.first_before.Goals as goal
+
+pub returns-clause-finds_before : goal.returns-clause-finds_before
+returns-clause-finds_before c =
+    finds_before c.args.z _ _ _ _ _ _ c.table_before-earlier.ensures c.move_of-m.ensures c.result_of-x.ensures c.first_derivation.ensures.finds_first
+
+pub returns-clause-small : goal.returns-clause-small
+returns-clause-small c = before_small c.args.z _ _ _ _ _ _ c.table_before-earlier.ensures c.first_derivation.ensures.small
