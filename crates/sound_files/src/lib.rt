@@ -1,6 +1,7 @@
 // What judge and guide begin with, and replay too as far as it refuses: the refusal by the case file, the start file and the number of its
 // starts, and since when the start file's cells and starts are accepted. They end by zeroing the tables.
 #![tactic(auto)]
+
 ghost use Rattle.std.specs.Prelude.{◌≡◌, ◌*◌, ◌≤◌, ◌<◌, length};
 ghost use Rattle.replies.specs.Numbers.{answer_word};
 ghost use Rattle.files.specs.Start.{starts_of, cells_of, start_at};

@@ -1,6 +1,5 @@
 -- `case_file::moves_right` meets its contract. The invariant: the first i records keep their bounds.
 -- Assumes nothing.
-use mathlib.Core.Bool.{true}
 use mathlib.Core.Path.{ap, sym, ◌∙◌}
 use Rattle.files.specs.Case.{move_of, move_right}
 use Rattle.bytes_in.specs.Records.Laws.{every_none, every_more, every_not}

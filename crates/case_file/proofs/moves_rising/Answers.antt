@@ -1,6 +1,5 @@
 -- `case_file::moves_rising` meets its contract. The invariant: the first i + 1 records are strictly increasing.
 -- Assumes nothing.
-use mathlib.Core.Bool.{true}
 use mathlib.Core.Path.{ap₂, sym, ◌∙◌}
 use Rattle.words.specs.Order.{less}
 use Rattle.automata.specs.Automaton.{Move}

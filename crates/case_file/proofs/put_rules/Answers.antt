@@ -7,7 +7,6 @@ use Rattle.files.proofs.Case.Laws.{CasePlaces, case_places, length_codes}
 use Rattle.files.specs.Codes.{our_codes}
 use Rattle.bytes_in.specs.Records.Laws.{body_fits}
 use Rattle.case_file.specs.Forms.Laws.{no_record, rules_ours}
-use borrow.Author.Rules.{rules}
 use Rattle.case_file.proofs.put_rules.Goals as goal
 
 pub count_of-n-requires : goal.count_of-n-requires

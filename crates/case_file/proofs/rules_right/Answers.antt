@@ -1,7 +1,6 @@
 -- `case_file::rules_right` meets its contract. The invariant: the first i records keep their bounds.
 -- Assumes nothing.
 use Prim.Native.Nat.{ℕ}
-use mathlib.Core.Bool.{true}
 use mathlib.Core.Path.{ap, sym, ◌∙◌}
 use mathlib.Core.List.{List}
 use Rattle.files.specs.Case.{rule_bytes, rule_right}

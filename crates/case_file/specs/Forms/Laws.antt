@@ -1,6 +1,6 @@
 -- The form of a case by its first byte, its record of codes, and its rules in our codes.
 -- Assumes nothing.
-use Prim.Native.Nat.{ℕ, ◌+◌, ◌*◌, ◌-◌, ◌≤◌}
+use Prim.Native.Nat.{ℕ, ◌*◌, ◌-◌, ◌≤◌}
 use Rattle.std.specs.Prelude.{Bool, true, false, ◌≡◌, refl, length, replicate, eqb}
 use Rattle.std.proofs.Math.Bool.{not}
 use Rattle.std.proofs.lemmas.Bool.{false≢true}

@@ -8,7 +8,6 @@ use lib.Seq.{sets}
 use lib.ListN.{get_or}
 use Rattle.files.specs.Codes.{our_code, in_our_codes}
 use Rattle.files.specs.Codes.Laws.{our_code_few}
-use borrow.Author.Rules.{rules}
 use Rattle.operations.proofs.put_rule.Goals as goal
 
 pub overflow_cast-code : goal.overflow_cast-code

@@ -7,7 +7,6 @@ use mathlib.Core.List.{List}
 use lib.Seq.{sets}
 use Rattle.files.specs.Codes.{in_our_codes}
 use Rattle.bytes_in.specs.Records.Laws.{part_is}
-use borrow.Author.Rules.{rules}
 use Rattle.operations.proofs.put_rules.Goals as goal
 
 pub loop-i-init : goal.loop-i-init

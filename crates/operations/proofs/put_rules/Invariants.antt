@@ -1,7 +1,6 @@
 -- `operations::put_rules`: what its loops keep.
 use Prim.Native.Nat.{◌-◌}
 use Rattle.operations.specs.Laws.Rules.{RulesPut}
-use borrow.Author.Rules.{rules}
 use Rattle.operations.proofs.put_rules.Given as goal
 
 abbrev pub invariant-loop-i : goal.invariant-loop-i

@@ -1,6 +1,5 @@
 -- `start_file::starts_right` meets its contract. The invariant: the first i starts keep their bounds.
 -- Assumes nothing.
-use mathlib.Core.Bool.{true}
 use mathlib.Core.Path.{ap, sym, ◌∙◌}
 use Rattle.files.specs.Start.{start_of, start_right}
 use Rattle.bytes_in.specs.Records.Laws.{every_none, every_more, every_not}
