@@ -17,6 +17,8 @@ TOKEN = re.compile(r"[^\s(){}.;,\"`]+")
 DECLARED = re.compile(r"^(\s*)(?:(?:pub|abbrev|unfoldable|private)\s+)*([^\s:(){}.;,]+)\s*:\s")
 USE = re.compile(r"(?:ghost )?(?:pub )?use ([\w.+◌-]+?)\.\{([^}]*)\}")
 ALIAS = re.compile(r"^use (\S+) as ([\w-]+)$", re.M)
+# Definitions that would meet another one's name.
+OTHERWISE = {"open-start": "open_start_file"}
 LOWER = re.compile(r"[a-z?][A-Z]")
 
 
@@ -33,8 +35,9 @@ def in_specs(path):
 
 
 def snake(name):
-    name = re.sub(r"getD(?![a-z])", "get_or", name)
-    return re.sub(r"([a-z0-9?])([A-Z])", lambda m: m.group(1) + "_" + m.group(2).lower(), name).replace("-", "_")
+    name = OTHERWISE.get(name, name)
+    name = re.sub(r"getD(?![a-z])|^get_d(?=_)", "get_or", name)
+    return re.sub(r"(?<=[a-z0-9?])[A-Z]|(?<=[A-Z])[A-Z](?![A-Z0-9_-])", lambda m: "_" + m.group(0).lower(), name).replace("-", "_")
 
 
 def is_odd(name):
@@ -67,10 +70,10 @@ def plan(root):
             fields |= b
     groups = collections.defaultdict(set)
     for name in names:
-        groups[snake(name) if is_odd(name) else name].add(name)
+        groups[snake(name) if is_odd(name) or name.startswith("get_d_") else name].add(name)
     turned = {}
     for new, olds in groups.items():
-        ranked = sorted(olds, key=lambda n: (0 if LOWER.search(n) else 1 if "-" not in n else 2, n))
+        ranked = sorted(olds, key=lambda n: ("-" in n, LOWER.search(n) is None, n))
         for place, old in enumerate(ranked):
             to = new if place == 0 else new + ("_holds" if old in fields else "_lem") * place
             if old in fields and not is_odd(old):
