@@ -27,8 +27,8 @@ use Rattle.services.specs.Guide.{GuideInput, GuideDone}
 use Rattle.services.specs.Replay.{ReplayInput, ReplayDone, replay_service}
 use Rattle.guidance.specs.Halt.{is_arrival}
 use Rattle.models.specs.Computing.{computed}
-use Rattle.models.specs.Files.{two, case_a, start_a, start_c, start_cC, case_circle, case_past, case_collapse, start_collapse}
-use Rattle.models.specs.Files.{case_bFinal, case_bTwice, case_bNamed, case_bOther, start_empty, case_finished, start_finished}
+use Rattle.models.specs.Files.{two, case_a, start_a, start_c, start_c_c, case_circle, case_past, case_collapse, start_collapse}
+use Rattle.models.specs.Files.{case_b_final, case_b_twice, case_b_named, case_b_other, start_empty, case_finished, start_finished}
 use Rattle.models.specs.Files.{case_turned, case_tool_ours, case_tool_broken, case_tool_zero, case_tool_twice, case_tool_early}
 use Rattle.demands.specs.Reach.{Yes}
 use Rattle.demands.specs.Refusals.{Returned, judge_refusals, guide_refusals}
@@ -63,10 +63,10 @@ guide_circle = record { case = case_circle; start = start_c; number = 0; rounds 
 
 -- model B with its entry written twice, and with a final order-1 set that names it
 unfoldable pub lent_twice : Lent
-lent_twice = record { case = case_bTwice; moves = 17; entries = 11 }
+lent_twice = record { case = case_b_twice; moves = 17; entries = 11 }
 
 unfoldable pub lent_named : Lent
-lent_named = record { case = case_bNamed; moves = 17; entries = 11 }
+lent_named = record { case = case_b_named; moves = 17; entries = 11 }
 
 -- cases in a tool's codes: 5 for our rewrite; one of ours that is not in the record; a byte twice in it and a rule that breaks a bound; a zero;
 -- a byte twice; five lines and the first body at byte 33
@@ -90,10 +90,10 @@ lent_early = record { case = case_tool_early; moves = 17; entries = 11 }
 
 -- judge of empty stacks, with three answers: with a final entry [1,{2}] beside [1,empty], and with model B's entry final
 unfoldable pub input_other : JudgeInput
-input_other = record { case = case_bOther; start = start_empty; rounds = all_rounds; moves = 17; entries = 11; answers = 3 }
+input_other = record { case = case_b_other; start = start_empty; rounds = all_rounds; moves = 17; entries = 11; answers = 3 }
 
 unfoldable pub input_found : JudgeInput
-input_found = record { case = case_bFinal; start = start_empty; rounds = all_rounds; moves = 17; entries = 11; answers = 3 }
+input_found = record { case = case_b_final; start = start_empty; rounds = all_rounds; moves = 17; entries = 11; answers = 3 }
 
 -- a finished script, the empty stack with a final control, with as much lent as for model A
 unfoldable pub guide_finished : GuideInput
@@ -104,7 +104,7 @@ unfoldable pub replay_collapse : ℕ → List ℕ → ReplayInput
 replay_collapse n trace = record { case = case_collapse; start = start_collapse; number = n; trace = trace; cells = 9 * 6 }
 
 unfoldable pub replay_past : ReplayInput
-replay_past = record { case = case_past; start = start_cC; number = 0; trace = two 0 ++ two 1; cells = 7 * 6 }
+replay_past = record { case = case_past; start = start_c_c; number = 0; trace = two 0 ++ two 1; cells = 7 * 6 }
 
 -- ---- "Refusing every file"
 

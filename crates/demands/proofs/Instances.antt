@@ -14,7 +14,7 @@ use Rattle.services.specs.Listing.{ascii}
 use Rattle.services.specs.Brackets.{BracketsInput, BracketsDone, brackets_service}
 use Rattle.models.specs.Computing.{computed}
 use Rattle.models.specs.Examples.{tool_rewritten}
-use Rattle.models.specs.Files.{two, case_a, start_a, case_b, start_b, case_bFinal, case_c, start_c, case_tool}
+use Rattle.models.specs.Files.{two, case_a, start_a, case_b, start_b, case_b_final, case_c, start_c, case_tool}
 use Rattle.demands.specs.Reach.{Runs, WonIn}
 use Rattle.demands.specs.Refusals.{Returned, judge_refusals, brackets_early}
 use Rattle.demands.specs.Traces.{RealFault}
@@ -36,8 +36,8 @@ input_a = record { case = case_a; start = start_a; rounds = all_rounds; moves = 
 unfoldable pub input_b : JudgeInput
 input_b = record { case = case_b; start = start_b; rounds = all_rounds; moves = 17; entries = 11; answers = 5 }
 
-unfoldable pub input_bFinal : JudgeInput
-input_bFinal = record { case = case_bFinal; start = start_b; rounds = all_rounds; moves = 17; entries = 11; answers = 5 }
+unfoldable pub input_b_final : JudgeInput
+input_b_final = record { case = case_b_final; start = start_b; rounds = all_rounds; moves = 17; entries = 11; answers = 5 }
 
 unfoldable pub input_c : JudgeInput
 input_c = record { case = case_c; start = start_c; rounds = all_rounds; moves = 17; entries = 11; answers = 5 }
@@ -77,17 +77,17 @@ unfolding computed input_b
 no_run_B = ((judge_marks input_b (demand1_judge input_b).number).each_mark 1 (lit< tt)).no_run_holds refl
 
 -- "Model B's lone symbol turns to yes if its entry is written with 254": there is a run of the published system, and its guided run arrives
-pub marked_B_final : MarkedYes input_bFinal 1
-unfolding computed input_bFinal
+pub marked_B_final : MarkedYes input_b_final 1
+unfolding computed input_b_final
 marked_B_final = record { judged = refl; start_there = lit< tt; yes = (eqb-false 2 0 refl, eqb-false 2 open_word refl) }
 
-pub run_B_final : Runs case_bFinal start_b 1
-unfolding computed input_bFinal
-run_B_final = ((judge_marks input_bFinal (demand1_judge input_bFinal).number).each_mark 1 (lit< tt)).run (eqb-false 2 0 refl, eqb-false 2 open_word refl)
+pub run_B_final : Runs case_b_final start_b 1
+unfolding computed input_b_final
+run_B_final = ((judge_marks input_b_final (demand1_judge input_b_final).number).each_mark 1 (lit< tt)).run (eqb-false 2 0 refl, eqb-false 2 open_word refl)
 
-pub guided_B_final : GuidedRun case_bFinal start_b all_rounds 1
-unfolding input_bFinal
-guided_B_final = demand3 input_bFinal 1 marked_B_final
+pub guided_B_final : GuidedRun case_b_final start_b all_rounds 1
+unfolding input_b_final
+guided_B_final = demand3 input_b_final 1 marked_B_final
 
 -- start 0 of model C is marked yes, so there is a run of the published system, and its guided run arrives
 pub marked_C : MarkedYes input_c 0

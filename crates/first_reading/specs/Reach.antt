@@ -1,7 +1,5 @@
 -- Whether the states left can still reach the joins wanted: what their moves on a reach together, each joined to j on its own.
 -- Assumes nothing.
-pub mod Laws
-pub mod Turns
 use Rattle.std.specs.Prelude.{ℕ, Bool, true, false, ◌&&◌, List, [], ◌∷◌}
 use Rattle.words.specs.Sets.{member, single, join, part_of}
 use Rattle.automata.specs.Automaton.{Automaton, Move}

@@ -6,8 +6,8 @@ use Rattle.automata.specs.Saturation.{Size}
 use Rattle.tables.specs.declared.Table.{Table}
 
 -- the table of the first so many moves and entries
-abbrev pub table_up_to_lem : Table → Size → Table
-table_up_to_lem z s =
+abbrev pub table_up_to : Table → Size → Table
+table_up_to z s =
     record {
       inner1 = z.inner1;
       final1 = z.final1;

@@ -16,7 +16,7 @@ ghost use Rattle.saturation.specs.Sizes.{the_size, as_size};
 ghost use Rattle.saturation.specs.Layout.{size_row};
 ghost use Rattle.saturation.specs.Held.{saturated_in};
 ghost use Rattle.guided_step.specs.Walks.{walk_in, tip_of};
-ghost use Rattle.guided_step.specs.Earlier.{table_up_to_lem};
+ghost use Rattle.guided_step.specs.Earlier.{table_up_to};
 ghost use Rattle.guided_step.specs.Step.{FindsBefore, AtTop, NextIs};
 
 use cell_memory::Cell;
@@ -166,7 +166,7 @@ fn last_up_to(sizes: &[u64], k: usize, i: u16) -> Size
 // The table before the round of move i.
 fn table_before(z: Table, sizes: &[u64], k: usize, i: u16) -> Table
     requires { k * 2 ≤ length sizes.now }
-    ensures { result ≡ table_up_to_lem z (last_up_to (the_size 0 0) (rows_in size_row k sizes.now) i) }
+    ensures { result ≡ table_up_to z (last_up_to (the_size 0 0) (rows_in size_row k sizes.now) i) }
 {
     let s = last_up_to(sizes, k, i);
     Table {

@@ -33,9 +33,9 @@ unfoldable pub open_case : ℕ
 unfolding Case.case_bodies Case.code_body Case.form_of Case.form Case.case_placed Case.head_of Case.head Case.inner1 Case.inner2 Case.existing2 Case.head_right Case.rule_bytes Case.rule_right Case.operation_of Case.rule_of Case.codes_of Case.rule_records Case.edge_bytes Case.edge_right Case.edge_key Case.edge_records Case.entries_of Case.final_entries Case.inner_edges Case.move_of Case.annotation_right Case.move_right Case.move_key Case.move_records Case.states1 Case.records_right Case.increasing Case.case_tests Case.case_refusal Case.own_of Case.rules_of
 open_case = 0
 
-unfoldable pub open_start_lem : ℕ
+unfoldable pub open_start_file : ℕ
 unfolding Start.start_bodies Start.start_placed Start.start_of Start.cell_bytes Start.starts_of Start.cell_records Start.order_of Start.refers_to Start.cell_right Start.cells_right Start.start_right Start.start_file_right Start.start_tests Start.start_refusal Start.cell_of Start.cells_of Start.configuration_of Start.start_at Start.configuration_at
-open_start_lem = 0
+open_start_file = 0
 
 unfoldable pub open_rewriting : ℕ
 unfolding Writing.bytes_of Writing.flat Writing.line Writing.contents Writing.encode Writing.decode_from Writing.decode Rewriting.ruled Rewriting.rewriting
@@ -78,9 +78,9 @@ unfolding Saturate.saturated Saturate.too_large Saturate.size_tests Saturate.sat
 open_saturate = 0
 
 unfoldable pub open_files : ℕ
-unfolding Files.two Files.line Files.head_with Files.head Files.rule Files.entry Files.final_entry Files.plain Files.start Files.empty1 Files.symbol Files.empty2 Files.above Files.case_a Files.start_a Files.case_bWith Files.case_b Files.start_b Files.case_bFinal Files.start_lone Files.start_empty Files.case_bTwice Files.case_bNamed Files.case_bOther Files.case_finished Files.start_finished Files.case_c Files.start_c Files.start_cC Files.case_circle Files.case_past Files.case_collapse Files.start_collapse Files.case_inner Files.case_more Files.case_none Files.start_none Files.case_brackets Files.start_brackets Files.case_coded Files.tool_codes Files.tool_rules Files.case_tool Files.zero_codes Files.twice_codes Files.case_tool_zero Files.case_tool_twice Files.case_tool_broken Files.case_tool_symbols Files.case_tool_ours Files.case_tool_early Files.case_tool_four Files.case_aFive Files.case_turned Files.case_ways Files.times Files.starts_a Files.rules_a Files.itself_a
+unfolding Files.two Files.line Files.head_with Files.head Files.rule Files.entry Files.final_entry Files.plain Files.start Files.empty1 Files.symbol Files.empty2 Files.above Files.case_a Files.start_a Files.case_b_with Files.case_b Files.start_b Files.case_b_final Files.start_lone Files.start_empty Files.case_b_twice Files.case_b_named Files.case_b_other Files.case_finished Files.start_finished Files.case_c Files.start_c Files.start_c_c Files.case_circle Files.case_past Files.case_collapse Files.start_collapse Files.case_inner Files.case_more Files.case_none Files.start_none Files.case_brackets Files.start_brackets Files.case_coded Files.tool_codes Files.tool_rules Files.case_tool Files.zero_codes Files.twice_codes Files.case_tool_zero Files.case_tool_twice Files.case_tool_broken Files.case_tool_symbols Files.case_tool_ours Files.case_tool_early Files.case_tool_four Files.case_a_five Files.case_turned Files.case_ways Files.times Files.starts_a Files.rules_a Files.itself_a
 open_files = 0
 
 unfoldable pub computed : ℕ
-unfolding open_bytes open_codes open_case open_start_lem open_rewriting open_replies open_brackets open_guide open_judge open_listing open_memory open_replay open_run open_saturate open_files Computing.computed
+unfolding open_bytes open_codes open_case open_start_file open_rewriting open_replies open_brackets open_guide open_judge open_listing open_memory open_replay open_run open_saturate open_files Computing.computed
 computed = 0

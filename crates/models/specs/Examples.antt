@@ -24,8 +24,8 @@ use Rattle.services.specs.Listing.{listing_text, ascii}
 use Rattle.services.specs.Run.{run_text, number_named}
 use Rattle.services.specs.Brackets.{brackets_service, show_text}
 use Rattle.models.specs.Computing.{computed}
-use Rattle.models.specs.Files.{two, case_a, start_a, case_b, start_b, case_bFinal, start_lone, start_empty, case_bTwice, case_bNamed, case_bOther, case_finished, start_finished, case_c, start_c, start_cC, case_past, case_collapse, start_collapse, starts_a, rules_a, itself_a}
-use Rattle.models.specs.Files.{case_inner, case_more, case_none, case_ways, start_none, case_brackets, start_brackets, case_tool, case_tool_zero, case_tool_twice, case_tool_broken, case_tool_symbols, case_tool_ours, case_tool_early, case_tool_four, case_aFive, case_turned}
+use Rattle.models.specs.Files.{two, case_a, start_a, case_b, start_b, case_b_final, start_lone, start_empty, case_b_twice, case_b_named, case_b_other, case_finished, start_finished, case_c, start_c, start_c_c, case_past, case_collapse, start_collapse, starts_a, rules_a, itself_a}
+use Rattle.models.specs.Files.{case_inner, case_more, case_none, case_ways, start_none, case_brackets, start_brackets, case_tool, case_tool_zero, case_tool_twice, case_tool_broken, case_tool_symbols, case_tool_ours, case_tool_early, case_tool_four, case_a_five, case_turned}
 
 -- ---- what an example says
 
@@ -139,28 +139,28 @@ examples =
     ∷ guides case_b start_b 1 NoRun (0 ∷ 0 ∷ 0 ∷ [])
     -- Document 02, 3: "Model B's lone symbol turns to yes if its entry is written with 254", by one step, with 8 cells in B's file and 5 in a
     -- file of its own; its trace is accepted.
-    ∷ judges case_bFinal start_b 2 0 1 (2 ∷ 2 ∷ [])
-    ∷ guides case_bFinal start_b 1 (arrived 1 8) (0 ∷ 0 ∷ 0 ∷ [])
-    ∷ guides case_bFinal start_lone 0 (arrived 1 5) (0 ∷ 0 ∷ 0 ∷ [])
+    ∷ judges case_b_final start_b 2 0 1 (2 ∷ 2 ∷ [])
+    ∷ guides case_b_final start_b 1 (arrived 1 8) (0 ∷ 0 ∷ 0 ∷ [])
+    ∷ guides case_b_final start_lone 0 (arrived 1 5) (0 ∷ 0 ∷ 0 ∷ [])
     ∷ guides case_b start_lone 0 NoRun (0 ∷ 0 ∷ 0 ∷ [])
-    ∷ replays case_bFinal start_b 1 (two 0) (8 * 6) Accepted
+    ∷ replays case_b_final start_b 1 (two 0) (8 * 6) Accepted
     ∷ replays case_b start_b 1 (two 0) (8 * 6) (FailsAt 1)
     -- "It accepts the empty top order-1 stack", and its control does not accept the empty order-2 stack. "Entries found by saturation are
     -- never final", such as [0,empty]; and an entry is final by its own byte alone.
-    ∷ judges case_bFinal start_empty 3 0 1 (0 ∷ 1 ∷ 0 ∷ [])
-    ∷ judges case_bOther start_empty 3 0 0 (0 ∷ 0 ∷ 0 ∷ [])
+    ∷ judges case_b_final start_empty 3 0 1 (0 ∷ 1 ∷ 0 ∷ [])
+    ∷ judges case_b_other start_empty 3 0 0 (0 ∷ 0 ∷ 0 ∷ [])
     -- "The final order-2 set may name controls." "The walk has also arrived where no move is needed."
     ∷ judges case_finished start_finished 5 0 1 (2 ∷ 2 ∷ 0 ∷ 1 ∷ 0 ∷ [])
     ∷ guides case_finished start_finished 1 (arrived 1 5) (1 ∷ 0 ∷ 0 ∷ [])
     ∷ guides case_finished start_finished 3 (arrived 0 5) (0 ∷ 0 ∷ 0 ∷ [])
     -- "A second entry for the same state and S is refusal 4"; the final order-1 set names inner states only.
-    ∷ saturates case_bTwice 17 11 4 0 0 (zeros 17) (zeros 11)
-    ∷ saturates case_bNamed 17 11 2 0 0 (zeros 17) (zeros 11)
+    ∷ saturates case_b_twice 17 11 4 0 0 (zeros 17) (zeros 11)
+    ∷ saturates case_b_named 17 11 2 0 0 (zeros 17) (zeros 11)
     -- "[[0]], a file of four cells: yes, rules 0, 1, 8 cells. [[0],[0]]: yes, rule 1 alone."
     ∷ judges case_c start_c 1 0 2 (3 ∷ [])
     ∷ guides case_c start_c 0 (arrived 2 8) (0 ∷ 1 ∷ 0 ∷ [])
-    ∷ judges case_c start_cC 1 0 2 (2 ∷ [])
-    ∷ guides case_c start_cC 0 (arrived 1 5) (1 ∷ 0 ∷ 0 ∷ [])
+    ∷ judges case_c start_c_c 1 0 2 (2 ∷ [])
+    ∷ guides case_c start_c_c 0 (arrived 1 5) (1 ∷ 0 ∷ 0 ∷ [])
     -- Document 02, 2: what guide wrote for A's start 0 is accepted with 9 cells, that is with 54 bytes, also if some more are lent. "Only the
     -- arrival is missing" after rule 0 alone, and after none, where the saturated table accepts but A's own does not.
     ∷ replays case_a start_a 0 (two 0 ++ two 1) (9 * 6) Accepted
@@ -179,8 +179,8 @@ examples =
     ∷ replays case_a start_a 0 (two 0 ++ (1 ∷ [])) 0 (Refused 10)
     ∷ replays case_a start_a 3 (two 0 ++ (1 ∷ [])) 0 (Refused 7)
     -- "Apply one after another and end in the target": not where a trace goes on from the target, and not a collapse at the wrong order.
-    ∷ replays case_past start_cC 0 (two 0) (5 * 6) Accepted
-    ∷ replays case_past start_cC 0 (two 0 ++ two 1) (7 * 6) (FailsAt 2)
+    ∷ replays case_past start_c_c 0 (two 0) (5 * 6) Accepted
+    ∷ replays case_past start_c_c 0 (two 0 ++ two 1) (7 * 6) (FailsAt 2)
     ∷ replays case_collapse start_collapse 0 (two 0) (9 * 6) Accepted
     ∷ replays case_collapse start_collapse 0 (two 1) (9 * 6) (FailsAt 0)
     ∷ replays case_collapse start_collapse 1 (two 0) (9 * 6) (FailsAt 0)
@@ -209,7 +209,7 @@ examples =
     -- four behind a first byte 5 are refusal 1.
     ∷ saturates case_tool_early 17 11 1 0 0 (zeros 17) (zeros 11)
     ∷ saturates case_tool_four 17 11 1 0 0 (zeros 17) (zeros 11)
-    ∷ saturates case_aFive 17 11 1 0 0 (zeros 17) (zeros 11)
+    ∷ saturates case_a_five 17 11 1 0 0 (zeros 17) (zeros 11)
     -- Document 02, 6: "cell 3 of model A prints as `[[1 1{[]}]]`", the root of start 1. "The reply is the text's length; bytes after it are zero."
     ∷ prints case_a start_a 1 14 (Brackets.Printed 11) (ascii "[[1 1{[]}]]" ++ zeros 3)
     ∷ prints case_a start_a 1 11 (Brackets.Printed 11) (ascii "[[1 1{[]}]]")

@@ -82,8 +82,8 @@ start_a =
 -- ---- model B
 
 -- model B with this final order-1 set, below 65,536, and these n entries
-unfoldable pub case_bWith : ℕ → ℕ → List ℕ → List ℕ
-case_bWith final1 n entries =
+unfoldable pub case_b_with : ℕ → ℕ → List ℕ → List ℕ
+case_b_with final1 n entries =
     (4 ∷ []) ++ line 1 1 33 ++ line 2 1 47 ++ line 3 n 52 ++ line 4 1 (52 + n * 4)
     ++ head_with 2 0 0 2 0 final1
     ++ rule 0 0 5 0 1
@@ -92,7 +92,7 @@ case_bWith final1 n entries =
 
 -- "Case B: target as A, rule (0,0,5,0,1)."
 unfoldable pub case_b : List ℕ
-case_b = case_bWith 0 1 (entry 1 0)
+case_b = case_b_with 0 1 (entry 1 0)
 
 -- "starts with control 0": symbol 0 above 1, and symbol 0 alone
 unfoldable pub start_b : List ℕ
@@ -109,16 +109,16 @@ start_b =
     ++ above 5 3
 
 -- model B with its entry "written with 254": it is final
-unfoldable pub case_bFinal : List ℕ
-case_bFinal = case_bWith 0 1 (final_entry 1 0)
+unfoldable pub case_b_final : List ℕ
+case_b_final = case_b_with 0 1 (final_entry 1 0)
 
 -- model B with its entry written twice, with 254 and with 255
-unfoldable pub case_bTwice : List ℕ
-case_bTwice = case_bWith 0 2 (final_entry 1 0 ++ entry 1 0)
+unfoldable pub case_b_twice : List ℕ
+case_b_twice = case_b_with 0 2 (final_entry 1 0 ++ entry 1 0)
 
 -- model B with a final order-1 set that names its entry
-unfoldable pub case_bNamed : List ℕ
-case_bNamed = case_bWith 1 1 (entry 1 0)
+unfoldable pub case_b_named : List ℕ
+case_b_named = case_b_with 1 1 (entry 1 0)
 
 -- "model B's lone symbol" in a file of its own, of four cells
 unfoldable pub start_lone : List ℕ
@@ -129,8 +129,8 @@ unfoldable pub start_empty : List ℕ
 start_empty = (2 ∷ []) ++ line 1 3 17 ++ line 2 3 26 ++ start 0 2 ++ start 1 2 ++ start 1 1 ++ empty1 ++ empty2 ++ above 0 1
 
 -- model B without its rule, with an inner state 2, from which no stack is accepted, and a final entry [1,{2}] after [1,empty]
-unfoldable pub case_bOther : List ℕ
-case_bOther =
+unfoldable pub case_b_other : List ℕ
+case_b_other =
     (4 ∷ []) ++ line 1 1 33 ++ line 2 0 47 ++ line 3 2 47 ++ line 4 1 55
     ++ head 2 1 0 2
     ++ entry 1 0
@@ -179,8 +179,8 @@ unfoldable pub start_c : List ℕ
 start_c = (2 ∷ []) ++ line 1 1 17 ++ line 2 4 20 ++ start 0 3 ++ empty1 ++ symbol 0 0 0 ++ empty2 ++ above 1 2
 
 -- "[[0],[0]]"
-unfoldable pub start_cC : List ℕ
-start_cC = (2 ∷ []) ++ line 1 1 17 ++ line 2 5 20 ++ start 0 4 ++ empty1 ++ symbol 0 0 0 ++ empty2 ++ above 1 2 ++ above 1 3
+unfoldable pub start_c_c : List ℕ
+start_c_c = (2 ∷ []) ++ line 1 1 17 ++ line 2 5 20 ++ start 0 4 ++ empty1 ++ symbol 0 0 0 ++ empty2 ++ above 1 2 ++ above 1 3
 
 -- ---- the circle model
 
@@ -198,7 +198,7 @@ case_circle =
 
 -- ---- traces that are no faults
 
--- Model C with a rule that goes on from its target: rules 0: (0,0,6,0,1), 1: (1,0,1,0,0). Start file: start_cC.
+-- Model C with a rule that goes on from its target: rules 0: (0,0,6,0,1), 1: (1,0,1,0,0). Start file: start_c_c.
 unfoldable pub case_past : List ℕ
 case_past =
     (4 ∷ []) ++ line 1 1 33 ++ line 2 2 47 ++ line 3 1 57 ++ line 4 1 61
@@ -338,8 +338,8 @@ case_tool_early = case_coded 5 33 2 tool_rules tool_codes
 unfoldable pub case_tool_four : List ℕ
 case_tool_four = case_coded 4 41 2 tool_rules tool_codes
 
-unfoldable pub case_aFive : List ℕ
-case_aFive = 5 ∷ drop 1 case_a
+unfoldable pub case_a_five : List ℕ
+case_a_five = 5 ∷ drop 1 case_a
 
 -- The record 5, 1, 2, 3, 4, 6, 7, 8: 5 is a rewrite and 1 a push at order 1. P 2, I 0, J 1, A 2; order-1 state 0 is final; the rule
 -- (0,0,code,1,1); edge (1,255,empty); move (1,1,0,empty,{0}), so that the stacks of its target have [1] on top. Start file: start_lone.

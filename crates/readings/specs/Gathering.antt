@@ -1,7 +1,6 @@
 -- The collecting of what is read: what is asked of the results pending and of the memo table, and what they are then. A reading does not
 -- depend on the inner edges, so nothing is asked of them; a memo table that holds for some inner edges then holds for them.
 -- Assumes nothing.
-pub mod Laws
 use Rattle.std.specs.Prelude.{ℕ, List}
 use Rattle.automata.specs.Automaton.{Automaton}
 use Rattle.automata.specs.Derivation.{Result}

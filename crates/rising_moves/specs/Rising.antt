@@ -54,5 +54,5 @@ pub record ControlsRise (z : Table) (entries moves t : List ℕ) : Type 0 where
 
 -- The moves of a table are in the index: in chains by state and symbol, and in chains by control and symbol.
 pub record MovesRise (z : Table) (entries moves states controls : List ℕ) : Type 0 where
-  pub by_state_lem : StatesRise z.moves moves states
+  pub by_state : StatesRise z.moves moves states
   pub by_control : ControlsRise z entries moves controls

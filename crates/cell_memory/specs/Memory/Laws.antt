@@ -56,11 +56,11 @@ get_or_within (v ∷ vs) ws at (suc j) h l =
     ap (λ (k : ℕ). get_or (sets (set ws at v) (suc at) vs) k 0) e
     ∙ get_or_within vs (set ws at v) (suc at) j (simp length-set (omega arith)) (omega arith)
 
-pub get_d_after : (vs ws : List ℕ) (at j : ℕ) → at + length vs ≤ j → get_or (sets ws at vs) j 0 ≡ get_or ws j 0
-get_d_after [] ws at j h = refl
-get_d_after (v ∷ vs) ws at j h =
+pub get_or_after : (vs ws : List ℕ) (at j : ℕ) → at + length vs ≤ j → get_or (sets ws at vs) j 0 ≡ get_or ws j 0
+get_or_after [] ws at j h = refl
+get_or_after (v ∷ vs) ws at j h =
     let n : j ≡ at → ⊥ = omega arith in
-    get_d_after vs (set ws at v) (suc at) j (omega arith) ∙ get_or-set_other ws at j v 0 n
+    get_or_after vs (set ws at v) (suc at) j (omega arith) ∙ get_or-set_other ws at j v 0 n
 
 -- ---- the choices of a cell
 
@@ -162,7 +162,7 @@ module _ (ws : List ℕ) (i : ℕ) (c : Cell) where
       let l : length (fields c ++ zeros 64) ≡ 68 = written_length c in
       guided_cell_same (with_cell ws i c) ws j λ k h h'. by_test (ltb k (i * 68))
       (λ e. get_or_before (fields c ++ zeros 64) ws (i * 68) k (ltb-true k (i * 68) e))
-      (λ e. get_d_after (fields c ++ zeros 64) ws (i * 68) k (omega (arith, ltb-false k (i * 68) e)))
+      (λ e. get_or_after (fields c ++ zeros 64) ws (i * 68) k (omega (arith, ltb-false k (i * 68) e)))
 
   pub with_cell_guided : i * 68 + 68 ≤ length ws → guided_cell (with_cell ws i c) i ≡ record { cell = cell_of c; choice = λ q. 0 }
   unfolding with_cell guided_cell cell_in zeros
@@ -198,7 +198,7 @@ module _ (ws : List ℕ) (i : ℕ) (ns : List ℕ) (all : length ns ≡ 64) wher
   with_choices_other j n =
       guided_cell_same (with_choices ws i ns) ws j λ k h h'. by_test (ltb k (i * 68 + 4))
       (λ e. get_or_before ns ws (i * 68 + 4) k (ltb-true k (i * 68 + 4) e))
-      (λ e. get_d_after ns ws (i * 68 + 4) k (omega (arith, ltb-false k (i * 68 + 4) e)))
+      (λ e. get_or_after ns ws (i * 68 + 4) k (omega (arith, ltb-false k (i * 68 + 4) e)))
 
   pub with_choices_guided : i * 68 + 68 ≤ length ws → guided_cell (with_choices ws i ns) i ≡ record { cell = (guided_cell ws i).cell; choice = λ q. get_or ns q 0 }
   unfolding with_choices guided_cell

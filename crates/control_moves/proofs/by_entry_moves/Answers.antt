@@ -5,7 +5,7 @@ use mathlib.Core.Path.{refl, ap, ◌∙◌}
 use native.Mathlib.Omega.{arith}
 use Rattle.chains.specs.Chains.{last_below}
 use Rattle.move_index.specs.Keys.{state_key_at}
-use Rattle.readings.specs.Gathering.Laws.{nothing_collected}
+use Rattle.readings.proofs.Gathering.Laws.{nothing_collected}
 use Rattle.readings.specs.Turns.Laws.{chain_starts, chain_goes}
 use Rattle.control_moves.specs.Control.Laws.{walk_none, walk_more, walk_all, entry_other, entry_own}
 use Rattle.control_moves.proofs.by_entry_moves.Goals as goal

@@ -10,7 +10,7 @@ use Rattle.edge_readings.specs.Edges.Laws.{edges_none, edges_yes, edges_no, edge
 use Rattle.edge_readings.specs.Edges.Collected.{all_first, all_end, all_noted}
 use Rattle.readings.specs.Readings.Inner.{reads_alone, held_table}
 use Rattle.readings.specs.Memo.Laws.{edges_gives, memo_found, memo_same}
-use Rattle.readings.specs.Gathering.Laws.{nothing_collected, can_read, read_collected}
+use Rattle.readings.proofs.Gathering.Laws.{nothing_collected, can_read, read_collected}
 use borrow.Author.Rules.{rules}
 use Rattle.edge_readings.proofs.+edges.Goals as goal
 use Rattle.edge_readings.proofs.+edges.Goals.{read_choices-then-e-part, read_choices-else-e-part}

@@ -18,7 +18,7 @@ use Rattle.tables.specs.Held.{automaton_of, table_of, entry_for}
 use Rattle.first_reading.specs.Words.{TablesWithin}
 use Rattle.saturation.specs.Sizes.{the_size}
 use Rattle.saturation.specs.Layout.{size_row}
-use Rattle.guided_step.specs.Earlier.{table_up_to_lem}
+use Rattle.guided_step.specs.Earlier.{table_up_to}
 
 -- ---- the last size that has no more than i moves
 
@@ -84,13 +84,13 @@ take_rows_in {A} L s n t =
     (λ i h. sym (get_or-take s (rows_in L n t) i d (omega arith) ∙ get_or_rows_in L n t i d (omega arith)))
 
 pub up_to_is : (z : Table) {s y : Size} {e m : ℕ} → s ≡ y → e ≡ min s.entries z.entries → m ≡ min s.moves z.moves
-    → record { inner1 = z.inner1; final1 = z.final1; final2 = z.final2; edges = z.edges; entries = e; moves = m } ≡ table_up_to_lem z y
+    → record { inner1 = z.inner1; final1 = z.final1; final2 = z.final2; edges = z.edges; entries = e; moves = m } ≡ table_up_to z y
 up_to_is z h e m =
-    (λ i. record { inner1 = z.inner1; final1 = z.final1; final2 = z.final2; edges = z.edges; entries = e i; moves = m i }) ∙ ap (table_up_to_lem z) h
+    (λ i. record { inner1 = z.inner1; final1 = z.final1; final2 = z.final2; edges = z.edges; entries = e i; moves = m i }) ∙ ap (table_up_to z) h
 
-pub table_up_to : (z : Table) (inner entries moves : List ℕ) (s : Size) → automaton_of (table_up_to_lem z s) inner entries moves ≡ up_to s (automaton_of z inner entries moves)
+pub table_up_to_lem : (z : Table) (inner entries moves : List ℕ) (s : Size) → automaton_of (table_up_to z s) inner entries moves ≡ up_to s (automaton_of z inner entries moves)
 unfolding up_to
-table_up_to z inner entries moves s =
+table_up_to_lem z inner entries moves s =
     λ i. record {
       J = z.inner1;
       final1 = z.final1;
@@ -100,7 +100,7 @@ table_up_to z inner entries moves s =
       moves = take_rows_in move_row s.moves z.moves moves i;
     }
 
-pub up_to_stands : {z : Table} {inner entries moves : List ℕ} (s : Size) → TablesWithin z inner entries moves → TablesWithin (table_up_to_lem z s) inner entries moves
+pub up_to_stands : {z : Table} {inner entries moves : List ℕ} (s : Size) → TablesWithin z inner entries moves → TablesWithin (table_up_to z s) inner entries moves
 up_to_stands {z} s h =
     record {
       edges_stand = record { edges_lent = h.edges_stand.edges_lent; firsts_small = h.edges_stand.firsts_small };

@@ -39,8 +39,8 @@ use Rattle.guided_step.specs.declared.Tip.{Tip}
 use Rattle.guided_step.specs.declared.Tip.TheVariants.{Nothing, At}
 use Rattle.guided_step.specs.Walks.{walk_in, top_by, tip_of}
 use Rattle.guided_step.specs.Walks.Laws.{top_of_moves}
-use Rattle.guided_step.specs.Earlier.{table_up_to_lem}
-use Rattle.guided_step.specs.Earlier.Laws.{table_up_to, up_to_stands, result_table}
+use Rattle.guided_step.specs.Earlier.{table_up_to}
+use Rattle.guided_step.specs.Earlier.Laws.{table_up_to_lem, up_to_stands, result_table}
 use Rattle.saturation.specs.Held.{saturated_in}
 use Rattle.guided_step.specs.Step.{FindsBefore, StepSmall, Taken, Gives, AtTop, NextIs}
 use Rattle.guided_step.specs.Step.Chosen.{holds_kept, Sized, says_small}
@@ -52,20 +52,20 @@ module _ (z : Table) (inner entries moves : List ℕ) (k : ℕ) (sizes : List �
   T = saturated_in z inner entries moves k sizes
 
   -- the table that the code makes is this one
-  pub before_is : {b : Table} → b ≡ table_up_to_lem z (last_up_to (the_size 0 0) (rows_in size_row k sizes) i) → automaton_of b inner entries moves ≡ before T i
+  pub before_is : {b : Table} → b ≡ table_up_to z (last_up_to (the_size 0 0) (rows_in size_row k sizes) i) → automaton_of b inner entries moves ≡ before T i
   unfolding before
   before_is e =
-      ap (λ (b : Table). automaton_of b inner entries moves) e ∙ table_up_to z inner entries moves (last_up_to (the_size 0 0) (rows_in size_row k sizes) i)
+      ap (λ (b : Table). automaton_of b inner entries moves) e ∙ table_up_to_lem z inner entries moves (last_up_to (the_size 0 0) (rows_in size_row k sizes) i)
 
-  pub before_stands : {b : Table} → b ≡ table_up_to_lem z (last_up_to (the_size 0 0) (rows_in size_row k sizes) i) → TablesWithin z inner entries moves → TablesWithin b inner entries moves
+  pub before_stands : {b : Table} → b ≡ table_up_to z (last_up_to (the_size 0 0) (rows_in size_row k sizes) i) → TablesWithin z inner entries moves → TablesWithin b inner entries moves
   before_stands e h = subst (λ (b : Table). TablesWithin b inner entries moves) (sym e) (up_to_stands (last_up_to (the_size 0 0) (rows_in size_row k sizes) i) h)
 
-  pub before_small : {b : Table} → b ≡ table_up_to_lem z (last_up_to (the_size 0 0) (rows_in size_row k sizes) i) → StatesSmall (automaton_of b inner entries moves) → StatesSmall (before T i)
+  pub before_small : {b : Table} → b ≡ table_up_to z (last_up_to (the_size 0 0) (rows_in size_row k sizes) i) → StatesSmall (automaton_of b inner entries moves) → StatesSmall (before T i)
   before_small e h = subst StatesSmall (before_is e) h
 
   -- the search for a first derivation, as the code calls it
   pub finds_before : {rules : List Rule} {b : Table} {x : Result} {m : Move} {r : First} {es₀ es ms₀ ms : List ℕ}
-      → b ≡ table_up_to_lem z (last_up_to (the_size 0 0) (rows_in size_row k sizes) i) → m ≡ get_or (rows_in move_row z.moves moves) i no_move
+      → b ≡ table_up_to z (last_up_to (the_size 0 0) (rows_in size_row k sizes) i) → m ≡ get_or (rows_in move_row z.moves moves) i no_move
       → x ≡ result_of (table_of z entries []) m → FindsFirst (automaton_of b inner entries moves) rules x r es₀ es ms₀ ms
       → FindsBefore rules T i r es₀ es ms₀ ms
   unfolding move_at

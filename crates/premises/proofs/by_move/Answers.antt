@@ -1,7 +1,7 @@
 -- `premises::by_move` meets its contract.
 -- Assumes nothing.
 use mathlib.Core.Path.{refl}
-use Rattle.readings.specs.Gathering.Laws.{nothing_collected}
+use Rattle.readings.proofs.Gathering.Laws.{nothing_collected}
 use Rattle.premises.specs.Steps.Laws.{step_other, step_control, step_premise}
 use Rattle.premises.specs.Settled.Known.{held_premise}
 use Rattle.premises.proofs.by_move.Goals as goal

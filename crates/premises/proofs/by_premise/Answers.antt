@@ -2,7 +2,7 @@
 -- Assumes nothing.
 use mathlib.Core.Path.{sym, ◌∙◌}
 use Rattle.readings.specs.Readings.Inner.{held_table}
-use Rattle.readings.specs.Gathering.Laws.{can_read, read_collected, offer_collected}
+use Rattle.readings.proofs.Gathering.Laws.{can_read, read_collected, offer_collected}
 use Rattle.premises.specs.Reads.Laws.{by_nothing, push_alone, rest_held, rest_collected, edges_held, edges_collected}
 use Rattle.premises.proofs.by_premise.Goals as goal
 

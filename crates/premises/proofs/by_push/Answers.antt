@@ -1,7 +1,7 @@
 -- `premises::by_push` meets its contract.
 -- Assumes nothing.
 use Rattle.offers.specs.Offers.Laws.{collects_none, collects_same}
-use Rattle.readings.specs.Gathering.Laws.{nothing_read}
+use Rattle.readings.proofs.Gathering.Laws.{nothing_read}
 use Rattle.premises.specs.Reads.Laws.{push_none, push_held, push_read}
 use Rattle.premises.proofs.by_push.Goals as goal
 

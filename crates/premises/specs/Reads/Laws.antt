@@ -16,7 +16,7 @@ use Rattle.readings.specs.Before.{HeldBefore}
 use Rattle.readings.specs.Readings.{the_result, reads_to, edges_to, ByMoves}
 use Rattle.readings.specs.Readings.Inner.{reads_alone}
 use Rattle.readings.specs.Gathering.{ReadsAll, CollectsAll}
-use Rattle.readings.specs.Gathering.Laws.{held_same, reads_all_same, collects_all_same}
+use Rattle.readings.proofs.Gathering.Laws.{held_same, reads_all_same, collects_all_same}
 use Rattle.premises.specs.declared.MoveUse.{MoveUse}
 use Rattle.premises.specs.declared.MoveUse.TheVariants.{Rewritten, Pushed1, Pushed2, Copied}
 use Rattle.premises.specs.declared.Push.{Push}

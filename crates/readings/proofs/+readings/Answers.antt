@@ -11,7 +11,7 @@ use Rattle.move_index.specs.Keys.{state_key_at}
 use Rattle.offers.specs.Offers.Laws.{collects_over}
 use Rattle.offers.specs.Offers.Alike.{collects_all_held}
 use Rattle.readings.specs.Before.Laws.{held_settled, held_apart, held_move}
-use Rattle.readings.specs.Gathering.Laws.{offer_read, nothing_read, read_found, read_first, read_noted, kept_on, kept_same}
+use Rattle.readings.proofs.Gathering.Laws.{offer_read, nothing_read, read_found, read_first, read_noted, kept_on, kept_same}
 use Rattle.readings.specs.Turns.Laws.{down_none, down_yes, down_no, down_all, chain_starts, chain_goes, candidate_there, read_end, fewer_others}
 use Rattle.readings.proofs.+readings.Goals as goal
 use Rattle.readings.proofs.+readings.Goals.{read_moves-in-To, read_moves-in_default}

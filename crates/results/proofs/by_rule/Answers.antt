@@ -1,7 +1,7 @@
 -- `results::by_rule` meets its contract.
 -- Assumes nothing.
 use Rattle.case_records.specs.Values.{the_rule}
-use Rattle.readings.specs.Gathering.Laws.{collects_all_same}
+use Rattle.readings.proofs.Gathering.Laws.{collects_all_same}
 use Rattle.results.specs.Rules.{rule_gives}
 use Rattle.results.specs.Uses.{use_gives}
 use Rattle.results.specs.Uses.Laws.{rule_used, settled_use}

@@ -1,6 +1,6 @@
 -- `results::by_use` meets its contract.
 -- Assumes nothing.
-use Rattle.readings.specs.Gathering.Laws.{offer_collected, collects_all_same}
+use Rattle.readings.proofs.Gathering.Laws.{offer_collected, collects_all_same}
 use Rattle.premises.specs.Premises.{source_gives}
 use Rattle.results.specs.Uses.{use_gives}
 use Rattle.results.specs.Uses.Laws.{uses_moves, uses_entries, uses_nothing, settled_moves, settled_entries, settled_nothing}

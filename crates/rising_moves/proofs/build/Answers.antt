@@ -31,4 +31,4 @@ pub returns : goal.returns
 returns c =
     let loop = c.loop-i in
     let done = c.loop-i-test.false in
-    record { by_state_lem = states_rise _ _ (chained_up_to _ _ _ _ (omega arith) (omega arith) loop.invariant.0); by_control = controls_rise _ _ _ (chained_up_to _ _ _ _ (omega arith) (omega arith) loop.invariant.1) }
+    record { by_state = states_rise _ _ (chained_up_to _ _ _ _ (omega arith) (omega arith) loop.invariant.0); by_control = controls_rise _ _ _ (chained_up_to _ _ _ _ (omega arith) (omega arith) loop.invariant.1) }

@@ -271,4 +271,4 @@ controls_fewer same es ms c =
 
 pub rise_fewer : {y z : Table} {entries moves states controls : List ℕ} → y.inner1 ≡ z.inner1 → y.entries ≤ z.entries → y.moves ≤ z.moves
     → MovesRise z entries moves states controls → MovesRise y entries moves states controls
-rise_fewer same es ms r = record { by_state_lem = states_fewer ms r.by_state_lem; by_control = controls_fewer same es ms r.by_control }
+rise_fewer same es ms r = record { by_state = states_fewer ms r.by_state; by_control = controls_fewer same es ms r.by_control }

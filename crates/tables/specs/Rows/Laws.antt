@@ -54,8 +54,8 @@ module _ {A : Type 0} where
 -- ---- words stored in a row
 
 module _ (ws : List ℕ) where
-  pub get_d_sets_before : (t : List ℕ) (at j : ℕ) → j < at → get_or (sets t at ws) j 0 ≡ get_or t j 0
-  get_d_sets_before t at j h = go ws t at h
+  pub get_or_sets_before : (t : List ℕ) (at j : ℕ) → j < at → get_or (sets t at ws) j 0 ≡ get_or t j 0
+  get_or_sets_before t at j h = go ws t at h
     where
       go : (ws t : List ℕ) (at : ℕ) → j < at → get_or (sets t at ws) j 0 ≡ get_or t j 0
       go [] t at h = refl
@@ -130,7 +130,7 @@ module _ {A : Type 0} (L : Layout A) where
       word : (k : ℕ) → k < L.width → (j < i) ⊎ (i < j) → get_or (put_row L t i a) (j * L.width + k) 0 ≡ get_or t (j * L.width + k) 0
       word k l (inl b) =
           let r : j * L.width + L.width ≤ i * L.width = row_before L.width i j b in
-          get_d_sets_before (L.words a) t (i * L.width) (j * L.width + k) (omega arith)
+          get_or_sets_before (L.words a) t (i * L.width) (j * L.width + k) (omega arith)
       word k l (inr b) =
           let r : i * L.width + L.width ≤ j * L.width = row_before L.width j i b in
           let e : length (L.words a) ≡ L.width = L.length_words a in

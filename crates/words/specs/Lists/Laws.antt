@@ -1,4 +1,4 @@
--- What holds of the lists of Lists.antt. Membership is data: `List.Memᴰ x l` is a place of x in l.
+-- What holds of the lists of Lists.antt. Membership is data: `Memᴰ x l` is a place of x in l.
 -- Assumes nothing.
 use Prim.Native.Nat.{ℕ, zero, suc, ◌+◌, ◌-◌, ◌*◌, ◌<◌, ◌≤◌, suc-le-suc}
 use Rattle.std.specs.Prelude.{Bool, ◌||◌, ◌≡◌, ◌⊎◌, get_or, take, drop, replicate, ltb}
