@@ -4,7 +4,7 @@ use Rattle.std.proofs.Common.{ap, sym, ◌∙◌}
 use Rattle.joins.specs.Joining.{as_joined}
 use Rattle.first_reading.specs.Answer.Laws.{answer_none, answer_is, answer_eq, answer_fails, answer_from, answer_states, same_refl, same_after, passed_none, passed_more, passed_hit, passed_all}
 use Rattle.first_reading.specs.Words.Reading.{answer_base, reading_below, tried_nothing, tried_yes, tried_no}
-use Rattle.first_reading.proofs.Reach.Laws.{reading_cut}
+use Rattle.first_reading.proofs.Cut.Laws.{reading_cut}
 use Rattle.first_reading.proofs.+readings.Goals as goal
 
 pub first_reading-returns-then-left-eq0 : goal.first_reading-returns-then-left-eq0

@@ -1,7 +1,7 @@
 -- `first_reading::can_fill` meets its contract.
 -- Assumes nothing.
 use mathlib.Core.Path.{sym, ◌∙◌}
-use Rattle.first_reading.proofs.Reach.Turns.{reach_none, reach_more, fills_no_states, fills_no_B, fills_R}
+use Rattle.first_reading.proofs.Cut.Turns.{reach_none, reach_more, fills_no_states, fills_no_B, fills_R}
 use Rattle.first_reading.proofs.can_fill.Goals as goal
 
 pub loop-i-init : goal.loop-i-init

@@ -2,7 +2,7 @@
 use Prim.Native.Nat.{◌-◌}
 use Rattle.tables.specs.Records.{as_result}
 use Rattle.joins.specs.Joining.{the_joins}
-use Rattle.first_reading.proofs.Reach.Turns.{ReachBelow}
+use Rattle.first_reading.proofs.Cut.Turns.{ReachBelow}
 use Rattle.first_reading.proofs.can_fill.Given as goal
 
 abbrev pub invariant-loop-i : goal.invariant-loop-i

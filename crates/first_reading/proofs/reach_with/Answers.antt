@@ -4,7 +4,7 @@ use Prim.Native.Nat.{◌≤◌}
 use mathlib.Core.Path.{ap, sym, ◌∙◌}
 use native.Mathlib.Omega.{arith}
 use Rattle.joins.specs.Joining.{as_joined}
-use Rattle.first_reading.proofs.Reach.Turns.{turn_other, turn_past, turn_nothing, turn_more}
+use Rattle.first_reading.proofs.Cut.Turns.{turn_other, turn_past, turn_nothing, turn_more}
 use Rattle.first_reading.proofs.reach_with.Goals as goal
 
 pub returns-then-q : goal.returns-then-q

@@ -19,7 +19,7 @@ use Rattle.first_reading.specs.First.{is_some}
 use Rattle.first_reading.specs.Search.{within}
 use Rattle.first_reading.specs.Words.{moves_in}
 use Rattle.first_reading.specs.Reach.{reach_of, usable, reach_with, reach_all, fills, can_fill}
-use Rattle.first_reading.proofs.Reach.Laws.{with_yes, with_no, all_more}
+use Rattle.first_reading.proofs.Cut.Laws.{with_yes, with_no, all_more}
 
 -- ---- one move more
 
