@@ -15,6 +15,7 @@ import sys
 
 TOKEN = re.compile(r"[^\s(){}.;,\"`]+")
 DECLARED = re.compile(r"^(\s*)(?:(?:pub|abbrev|unfoldable|private)\s+)*([^\s:(){}.;,]+)\s*:\s")
+SEVERAL = re.compile(r"^\s+(?:pub )?([^\s:(){}.;,]+(?: [^\s:(){}.;,]+)*) : ")
 USE = re.compile(r"(?:ghost )?(?:pub )?use ([\w.+◌-]+?)\.\{([^}]*)\}")
 ALIAS = re.compile(r"^use (\S+) as ([\w-]+)$", re.M)
 # Definitions that would meet another one's name.
@@ -53,10 +54,11 @@ def declared(text):
         m = DECLARED.match(line)
         if line.strip() and not line.lstrip().startswith("--") and inside is not None and len(line) - len(line.lstrip()) <= inside:
             inside = None
-        if m:
-            found.add(m.group(2))
+        several = SEVERAL.match(line) if inside is not None else None
+        for name in several.group(1).split() if several else [m.group(2)] if m else []:
+            found.add(name)
             if inside is not None:
-                fields.add(m.group(2))
+                fields.add(name)
     return found, fields
 
 

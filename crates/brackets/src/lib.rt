@@ -1,5 +1,6 @@
 // The service brackets: the stack of a start as nested square brackets.
 #![tactic(auto)]
+
 ghost use Rattle.std.specs.Prelude.{◌≡◌, ◌<◌, length};
 ghost use Rattle.files.specs.Start.{starts_of, configuration_at};
 ghost use Rattle.services.specs.Brackets.{stack_text, brackets_service};

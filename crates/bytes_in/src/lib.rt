@@ -1,5 +1,6 @@
 // Numbers in the bytes of a file, low byte first, and tables of contents.
 #![tactic(auto)]
+
 ghost use Rattle.std.specs.Prelude.{◌≡◌, ◌<◌, ◌≤◌, ◌+◌, ◌*◌, ◌^◌, length, get_or};
 ghost use Rattle.files.specs.Bytes.{field, count_of, offset_of, line_right, bodies_placed};
 ghost use Rattle.files.specs.Bytes;

@@ -1,6 +1,7 @@
 // Chains: elements with numbers below 1,024 by their keys below 2,048, in a slice of 3,072 words of 16 bits. Word k holds the last element with
 // key k, word 2,048 + i the element before element i with the same key: as a number plus 1, and 0 where there is none.
 #![tactic(auto)]
+
 ghost use Rattle.std.specs.Prelude.{◌≡◌, ℕ, ◌<◌, ◌+◌, length};
 ghost use Rattle.chains.specs.Chains.{last_below, Chained};
 

@@ -1,6 +1,7 @@
 // The choices of a state: its moves on a symbol that join with what is joined so far. Which member of a set is read next, and whether a
 // state's choices leave the joins as they are.
 #![tactic(auto)]
+
 ghost use Rattle.std.specs.Prelude.{◌≡◌, true, ◌<◌};
 ghost use Rattle.words.specs.Sets.{member};
 ghost use Rattle.automata.specs.Automaton.{Automaton};

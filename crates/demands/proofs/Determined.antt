@@ -10,9 +10,7 @@ use Rattle.replies.specs.declared.Reply.{Reply}
 use Rattle.replies.specs.declared.Reply.TheVariants.{Refused, NoRun, Open, Walked}
 use Rattle.replies.specs.Numbers.{open_word}
 use Rattle.replies.specs.declared.Replayed.{Replayed}
-use Rattle.replies.specs.declared.Replayed.TheVariants as Replayed
 use Rattle.replies.specs.declared.Brackets.{Brackets}
-use Rattle.replies.specs.declared.Brackets.TheVariants as Brackets
 use Rattle.files.specs.Case.{rules_of}
 use Rattle.files.specs.Start.{starts_of, cells_of}
 use Rattle.services.specs.Memory.{padded, move_table, entry_table}

@@ -7,9 +7,7 @@ use Rattle.automata.specs.Automaton.{Automaton}
 use Rattle.replies.specs.declared.Reply.{Reply}
 use Rattle.replies.specs.declared.Reply.TheVariants.{Refused, NoRun, Open, Walked}
 use Rattle.replies.specs.declared.Replayed.{Replayed}
-use Rattle.replies.specs.declared.Replayed.TheVariants as Replayed
 use Rattle.replies.specs.declared.Brackets.{Brackets}
-use Rattle.replies.specs.declared.Brackets.TheVariants as Brackets
 use Rattle.replies.specs.Numbers.{counts_of}
 use Rattle.words.specs.Lists.{zeros}
 use Rattle.files.specs.Start.{starts_of}

@@ -9,7 +9,7 @@ use Rattle.automata.specs.Saturation.{Saturated, saturate}
 use Rattle.walks.specs.Guide.{Walk, start_walk, Next, arrived, stuck, next, walk_after, trace_after}
 use Rattle.files.specs.Case.{own_of, rules_of}
 use Rattle.files.specs.Start.{cells_of, start_at}
-use Rattle.guidance.specs.Halt.{Reason, arrival, trace-full, cells_short, cells_of_steps}
+use Rattle.guidance.specs.Halt.{Reason, arrival, trace_full, cells_short, cells_of_steps}
 
 -- ---- the full run
 
@@ -51,7 +51,7 @@ used rules first ns m = first + cells_of_steps rules (take m ns)
 -- m steps of the full run ns.
 pub data HaltsAfter (rules : List Rule) (first : ℕ) (ns : List ℕ) (c t m : ℕ) : Reason → Type 0 where
   has_arrived : m ≡ length ns → HaltsAfter rules first ns c t m arrival
-  is_full : m < length ns → m ≡ t → HaltsAfter rules first ns c t m trace-full
+  is_full : m < length ns → m ≡ t → HaltsAfter rules first ns c t m trace_full
   is_short : m < length ns → (m ≡ t → ⊥) → c < used rules first ns (suc m) → HaltsAfter rules first ns c t m cells_short
 
 -- "m being the least number where" it halts

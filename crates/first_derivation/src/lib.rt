@@ -1,5 +1,6 @@
 // The first derivation of a known result, found by a search nested over rules, premises, edges and moves.
 #![tactic(auto)]
+
 ghost use Rattle.std.specs.Prelude.{◌≡◌, [], ◌<◌, ◌≤◌, ◌+◌, ◌*◌, length, eqb};
 ghost use Rattle.words.specs.Sets.{single};
 ghost use Rattle.words.specs.Order.{same};

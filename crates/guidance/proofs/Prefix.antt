@@ -18,14 +18,14 @@ use Rattle.replies.specs.declared.Counts.{Counts}
 use Rattle.replies.specs.declared.Halt.TheVariants.{Arrived}
 use Rattle.replies.specs.declared.Reply.TheVariants.{Walked}
 use Rattle.walks.specs.Guide.{Walk, arrived, to, next, walk_after, trace_after, Report, counts, walked_by, guided}
-use Rattle.guidance.specs.Halt.{Reason, arrival, trace-full, cells_short, halt_by, is_arrival}
+use Rattle.guidance.specs.Halt.{Reason, arrival, trace_full, cells_short, halt_by, is_arrival}
 use Rattle.guidance.specs.Run.{to_arrived, to_walk, by_next, walk_after_to, trace_after_to, run_first, run_cells, run_join, run_split, trace_take}
 use Rattle.guidance.specs.Prefix.{ArrivesAfter, Halts, has_arrived, is_full, is_short, FirstHalt, answer_at, not_stuck, arrives_onward, arrives_last}
 
 arrival_only : (r : Reason) (z : Counts) → is_arrival (Walked (halt_by r z)) ≡ true → r ≡ arrival
 unfolding is_arrival halt_by
 arrival_only arrival z e = refl
-arrival_only trace-full z e = absurd (false≢true e)
+arrival_only trace_full z e = absurd (false≢true e)
 arrival_only cells_short z e = absurd (false≢true e)
 
 module _ (rules : List Rule) (T : Saturated) where
@@ -94,7 +94,7 @@ module _ (rules : List Rule) (T : Saturated) where
   unfolding guided halt_by
   guided_halts c zero trace M w a = by_next rules T w
       (λ e. (halt_here c 0 w arrival (has_arrived e), rw (guided, e) (here_answer c 0 w arrival (has_arrived e) trace)))
-      (λ n v e. (halt_here c 0 w trace-full (is_full n v e refl), rw (guided, e) (here_answer c 0 w trace-full (is_full n v e refl) trace)))
+      (λ n v e. (halt_here c 0 w trace_full (is_full n v e refl), rw (guided, e) (here_answer c 0 w trace_full (is_full n v e refl) trace)))
       (λ e. absurd (not_stuck rules T M w a e))
   guided_halts c (suc t) trace M w a = by_next rules T w
       (λ e. (halt_here c (suc t) w arrival (has_arrived e), rw (guided, e) (here_answer c (suc t) w arrival (has_arrived e) trace)))
@@ -166,7 +166,7 @@ module _ (rules : List Rule) (T : Saturated) where
         let f : t + suc j ≡ x.steps = omega arith in
         let r = run_split rules T t (suc j) w (ap (λ (i : ℕ). walk_after rules T i w) f ∙ x.run_is) in
         let q = run_first rules T r.0 j r.2 in
-        absurd (x.least t r.0 trace-full h r.1 (is_full q.0 q.1 q.2 refl)))
+        absurd (x.least t r.0 trace_full h r.1 (is_full q.0 q.1 q.2 refl)))
 
     -- a walk that halts by arrival had enough
     pub whole_fits : length w.cells ≤ c → x.reason ≡ arrival → (M ≤ t) × (length v.cells ≤ c)

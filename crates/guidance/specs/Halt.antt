@@ -13,11 +13,11 @@ use Rattle.replies.specs.declared.Reply.TheVariants.{Refused, NoRun, Open, Walke
 
 -- why a walk halts, in the order in which it is tested
 pub data Reason : Type 0 where
-  arrival trace-full cells_short : Reason
+  arrival trace_full cells_short : Reason
 
 unfoldable pub halt_by : Reason → Counts → Halt
 halt_by arrival z = Arrived z
-halt_by trace-full z = TraceFull z
+halt_by trace_full z = TraceFull z
 halt_by cells_short z = CellsShort z
 
 -- the reply is an arrival

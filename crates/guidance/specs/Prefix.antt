@@ -11,7 +11,7 @@ use Rattle.std.proofs.Math.ListN.{length}
 use Rattle.stacks.specs.System.{Rule}
 use Rattle.automata.specs.Saturation.{Saturated}
 use Rattle.walks.specs.Guide.{Walk, arrived, to, stuck, next, walk_after, trace_after, Report, walked_by}
-use Rattle.guidance.specs.Halt.{Reason, arrival, trace-full, cells_short, halt_by}
+use Rattle.guidance.specs.Halt.{Reason, arrival, trace_full, cells_short, halt_by}
 use Rattle.guidance.specs.Run.{to_arrived, stuck_arrived, walk_after_to, run_first}
 
 module _ (rules : List Rule) (T : Saturated) where
@@ -23,7 +23,7 @@ module _ (rules : List Rule) (T : Saturated) where
   -- After m steps, at v, the first of these holds: the run has arrived; m = t; step m + 1 would bring the cells used above c.
   pub data Halts (c t m : ℕ) (v : Walk) : Reason → Type 0 where
     has_arrived : next rules T v ≡ arrived → Halts c t m v arrival
-    is_full : (n : ℕ) (u : Walk) → next rules T v ≡ to n u → m ≡ t → Halts c t m v trace-full
+    is_full : (n : ℕ) (u : Walk) → next rules T v ≡ to n u → m ≡ t → Halts c t m v trace_full
     is_short : (n : ℕ) (u : Walk) → next rules T v ≡ to n u → (m ≡ t → ⊥) → c < length u.cells → Halts c t m v cells_short
 
   -- the least number of steps after which the walk from w halts

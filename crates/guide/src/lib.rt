@@ -1,5 +1,6 @@
 // The service guide: the rule numbers of a run from one start.
 #![tactic(auto)]
+
 ghost use Rattle.std.specs.Prelude.{◌≡◌, ◌-◌, ◌<◌, length};
 ghost use Rattle.files.specs.Start.{starts_of};
 ghost use Rattle.words.specs.Lists.{zeros};

@@ -1,5 +1,6 @@
 // The guided run from one start of a sound start file, on the table of a sound case after rounds.
 #![tactic(auto)]
+
 ghost use Rattle.std.specs.Prelude.{◌≡◌, [], ◌<◌, ◌≤◌, ◌-◌, ◌*◌, length};
 ghost use Rattle.walks.specs.Guide.{start_walk, guided};
 ghost use Rattle.files.specs.Case.{case_refusal, rules_of};

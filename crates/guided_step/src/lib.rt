@@ -1,5 +1,6 @@
 // One step of the guided run: the top of the walk with its chosen move, and the move's first derivation from the table before its round.
 #![tactic(auto)]
+
 ghost use Rattle.std.specs.Prelude.{◌≡◌, [], ◌<◌, ◌≤◌, ◌+◌, ◌*◌, length, get_or, replicate};
 ghost use Rattle.automata.specs.Automaton.{no_edge};
 ghost use Rattle.automata.specs.Derivation.{result_of};

@@ -1,5 +1,6 @@
 // The guided run on lent cells, with its halts: "a walk is tested for arrival first, then trace, then cells".
 #![tactic(auto)]
+
 ghost use Rattle.std.specs.Prelude.{◌≡◌, [], ◌<◌, ◌≤◌, ◌+◌, ◌*◌, ◌-◌, ◌^◌, length};
 ghost use Rattle.automata.specs.Automaton.{move_at, entry_edge};
 ghost use Rattle.stacks.specs.Stack.{new_cells};

@@ -1,5 +1,6 @@
 // Joins of moves: their annotation sets, which are of one order, and their rest sets, each joined.
 #![tactic(auto)]
+
 ghost use Rattle.std.specs.Prelude.{◌≡◌};
 ghost use Rattle.automata.specs.Derivation.{clash, join_move};
 ghost use Rattle.tables.specs.Records.{as_move};

@@ -1,5 +1,6 @@
 // The service judge: a word of 16 bits a start, 0 for no, 65535 for open, otherwise the round in which it was won plus 1.
 #![tactic(auto)]
+
 ghost use Rattle.std.specs.Prelude.{◌≡◌, ◌++◌, map, ◌*◌, ◌<◌, ◌≤◌, length, drop};
 ghost use Rattle.replies.specs.Numbers.{answer_word, mark_word};
 ghost use Rattle.files.specs.Start.{starts_of};

@@ -1,6 +1,7 @@
 // The text that the printing program prints for a case file and a start file. The case is saturated once, in all rounds, the words of the start file's cells are
 // worked out once, and every start is guided by them.
 #![tactic(auto)]
+
 ghost use Rattle.std.specs.Prelude.{◌≡◌, ◌+◌, ◌*◌, ◌≤◌, ◌<◌, length};
 ghost use Rattle.files.specs.Start.{starts_of};
 ghost use Rattle.services.specs.Memory.{padded, entry_width, largest};

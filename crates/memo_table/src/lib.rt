@@ -2,6 +2,7 @@
 // a state put into a row takes the place of what stood there. Each round has a table of moves of its own length, which stands in a state's
 // kind: rows of earlier rounds are told by it, and the memo table is never cleared.
 #![tactic(auto)]
+
 ghost use Rattle.std.specs.Prelude.{◌≡◌, ◌+◌, ◌*◌, ◌≤◌, length};
 ghost use Rattle.words.specs.Order.{same};
 ghost use Rattle.tables.specs.Rows.{row_at, put_row};

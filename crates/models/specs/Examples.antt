@@ -7,12 +7,10 @@ use Rattle.automata.specs.Saturation.{table_after, all_rounds}
 use Rattle.automata.specs.Models
 use Rattle.replies.specs.declared.Halt.TheVariants.{Arrived}
 use Rattle.replies.specs.declared.Reply.{Reply}
-use Rattle.replies.specs.declared.Reply.TheVariants as Reply
 use Rattle.replies.specs.declared.Reply.TheVariants.{NoRun, Open, Walked}
 use Rattle.replies.specs.declared.Replayed.{Replayed}
 use Rattle.replies.specs.declared.Replayed.TheVariants.{Refused, Accepted, FailsAt}
 use Rattle.replies.specs.declared.Brackets.{Brackets}
-use Rattle.replies.specs.declared.Brackets.TheVariants as Brackets
 use Rattle.files.specs.Case.{own_of, rules_of}
 use Rattle.files.specs.Rewriting.{rewriting}
 use Rattle.words.specs.Lists.{zeros}

@@ -1,5 +1,6 @@
 // The larger and the smaller of two numbers.
 #![tactic(auto)]
+
 ghost use Rattle.std.specs.Prelude.{◌≡◌, min, max};
 
 pub fn larger(k: u64, l: u64) -> u64

@@ -1,5 +1,6 @@
 // Whether a configuration lies in a case's target, by the case's own automaton, for a stack in cells of six bytes. Nothing is lent for it.
 #![tactic(auto)]
+
 ghost use Rattle.std.specs.Prelude.{◌≡◌};
 ghost use Rattle.automata.specs.Acceptance.{in_target};
 ghost use Rattle.files.specs.Case.{case_refusal, own_of};

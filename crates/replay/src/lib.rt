@@ -1,5 +1,6 @@
 // The service replay: whether a trace of rule numbers is a run from one start that ends in the target.
 #![tactic(auto)]
+
 ghost use Rattle.std.specs.Prelude.{◌≡◌, ◌<◌, ◌≤◌, ◌*◌, length};
 ghost use Rattle.automata.specs.Acceptance.{in_target};
 ghost use Rattle.files.specs.Case.{case_refusal, own_of, rules_of};

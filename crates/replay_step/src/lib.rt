@@ -1,5 +1,6 @@
 // One step of a replay on cells in lent bytes: whether a rule exists and applies, whether there is room for its new cells, and the step.
 #![tactic(auto)]
+
 ghost use Rattle.std.specs.Prelude.{◌≡◌, ◌<◌, ◌≤◌, ◌+◌, ◌*◌, length};
 ghost use Rattle.stacks.specs.Stack.{new_cells};
 ghost use Rattle.case_records.specs.Values.{the_operation, the_rule};

@@ -1,5 +1,6 @@
 // The replay of a trace, step by step, on cells in lent bytes.
 #![tactic(auto)]
+
 ghost use Rattle.std.specs.Prelude.{◌≡◌, ◌≤◌, ◌*◌, length};
 ghost use Rattle.services.specs.Replay.{rule_numbers};
 ghost use Rattle.results.specs.Collecting.{rules_in, RulesStand};

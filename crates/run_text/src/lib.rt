@@ -1,5 +1,6 @@
 // The text that the program `run` prints for a case file, a start file, the number of a start and a number of rounds.
 #![tactic(auto)]
+
 ghost use Rattle.std.specs.Prelude.{◌≡◌, ◌+◌, ◌*◌, ◌≤◌, length};
 ghost use Rattle.services.specs.Memory.{padded};
 ghost use Rattle.start_file.specs.Checks.{files_of};

@@ -1,5 +1,6 @@
 // The service saturate, and the table of a sound case after at most so many rounds for the services above.
 #![tactic(auto)]
+
 ghost use Rattle.std.specs.Prelude.{◌≡◌, false, ◌≤◌, length};
 ghost use Rattle.words.specs.Lists.{zeros};
 ghost use Rattle.automata.specs.Saturation.{within};

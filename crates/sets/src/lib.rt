@@ -1,5 +1,6 @@
 // Sets of states as words of 64 bits: state n is a member exactly if bit n of the word is 1.
 #![tactic(auto)]
+
 ghost use Rattle.std.specs.Prelude.{◌≡◌, true, ◌∷◌, ℕ, ◌<◌, ◌^◌, ◌-◌, ltb, leb};
 ghost use Rattle.sets.specs.Without.{without};
 ghost use Rattle.words.specs.Lists.{every};

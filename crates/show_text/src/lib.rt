@@ -1,5 +1,6 @@
 // The text that the program `show` prints for a case file, a start file and the number of a start.
 #![tactic(auto)]
+
 ghost use Rattle.std.specs.Prelude.{◌≡◌, ◌+◌, ◌≤◌, length};
 ghost use Rattle.replies.specs.Numbers.{brackets_length};
 ghost use Rattle.services.specs.Memory.{padded};

@@ -1,6 +1,7 @@
 // Tables of records in slices of words: moves (five words each), entries (three), inner edges (three) and the results of a round (six).
 // Nothing else touches the words of a table.
 #![tactic(auto)]
+
 ghost use Rattle.std.specs.Prelude.{◌≡◌, ◌<◌, ◌≤◌, ◌+◌, ◌-◌, ◌*◌, ◌^◌, length, get_or, drop, []};
 ghost use Rattle.std.proofs.Math.Seq.{paste};
 ghost use Rattle.words.specs.Order.{less};

@@ -1,5 +1,6 @@
 // Lent memory set to zero: a function for each width of a word.
 #![tactic(auto)]
+
 ghost use Rattle.std.specs.Prelude.{◌≡◌, length};
 ghost use Rattle.words.specs.Lists.{zeros};
 

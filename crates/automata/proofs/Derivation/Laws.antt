@@ -20,7 +20,7 @@ use Rattle.words.specs.Order.{same}
 use Rattle.words.specs.Order.Laws.{same_eq, eq_same}
 use Rattle.stacks.specs.Stack.{Operation, rewrite, push1, push2, copy, pop1, pop2, collapse1, collapse2}
 use Rattle.stacks.specs.System.{Rule}
-use Rattle.automata.specs.Automaton.{Automaton, Move, no_entry, edges, move_at, entry_set}
+use Rattle.automata.specs.Automaton.{Automaton, Move, no_entry, move_at, entry_set}
 use Rattle.automata.specs.Derivation.{Result, result_key, Derivation, Joins, no_joins, joins_of, readings, named, edge_sets, join_all, control_moves, control_entries, conclude, by_rewrite, by_push1, by_push2, by_copy, by_pop1, by_pop2, by_collapse1, by_collapse2, derivations_by, derivations_from, derivations, first_derivation}
 use Rattle.automata.specs.Automaton.Laws.{MoveOf, EdgeOf, EntryIs, EntryMove, entry_set_is, entry_move_set}
 use Rattle.automata.specs.Derivation.Numbers.{Paired, control_moves_in, control_moves_out, control_entries_in, control_entries_out, readings_in, readings_out, edge_choices_in, edge_choices_out}

@@ -12,8 +12,7 @@ returns-in_default c =
     (sym c.in_default.is ∙ c.next_body.ensures))
 
 pub loop-i-preserved : goal.loop-i-preserved
-loop-i-preserved c =
-    (
+loop-i-preserved c = (
   search rules,
   from_next _ _ _ _ _ _ _ _ c.loop-i-test.true c.loop-i.invariant.1 c.body_at-b.ensures.result_value
       (sym c.in-At.is ∙ c.next_body.ensures),

@@ -1,6 +1,5 @@
 -- `bytes_in::body_part` meets its contract.
 -- Assumes nothing.
-use Rattle.files.specs.Bytes.{count_of}
 use Rattle.bytes_in.specs.Records.Laws.{body_is}
 use Rattle.bytes_in.proofs.body_part.Goals as goal
 

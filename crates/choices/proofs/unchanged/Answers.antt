@@ -34,7 +34,7 @@ loop-c-preserved c =
     let walk = loop.invariant n h in
     let back = c.before-c.ensures _ n h (omega (arith, walk.within)) in
     elim c.match-candidate.branch [
-      in-To+else-not-same_joins w ↦ walked_choice _ n _ _ _ loop.c _ _ _ _ walk (omega arith) (sym (ap (candidate_of _ _ _) c.move_at.ensures) ∙ sym w.in-To.ensures) (sym w.same_joins.ensures ∙ w.if-not-same_joins.false) w.oldest-is back
+      | in-To+else-not-same_joins w ↦ walked_choice _ n _ _ _ loop.c _ _ _ _ walk (omega arith) (sym (ap (candidate_of _ _ _) c.move_at.ensures) ∙ sym w.in-To.ensures) (sym w.same_joins.ensures ∙ w.if-not-same_joins.false) w.oldest-is back
       | in_default w ↦ walked_other _ n _ _ _ loop.c _ _ _ walk (omega arith) (sym (ap (candidate_of _ _ _) c.move_at.ensures) ∙ sym w.in_default.ensures) w.oldest-is back
     ]
 

@@ -16,7 +16,6 @@ use Rattle.automata.specs.Facts.{Closed}
 use Rattle.rounds.specs.Limits.{KeepsLimits, saturate_some, within_keeps, rounds_min}
 use Rattle.rounds.specs.Ends.{rounds_end}
 use Rattle.replies.specs.declared.Replayed.{Replayed}
-use Rattle.replies.specs.declared.Replayed.TheVariants as Replayed
 use Rattle.replies.specs.declared.Brackets.TheVariants as Brackets
 use Rattle.replies.specs.Numbers.{counts_of}
 use Rattle.walks.specs.Guide.{Report, walked_by, no_run}

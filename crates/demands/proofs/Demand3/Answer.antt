@@ -32,7 +32,7 @@ use Rattle.services.specs.Guide.{GuideInput, GuideDone, accepted, guide_files, g
 use Rattle.services.proofs.Guide.Laws.{Started, walk_goes, walk_short}
 use Rattle.guidance.specs.Run.{trace_take}
 use Rattle.guidance.specs.Halt
-use Rattle.guidance.specs.Halt.{Reason, trace-full, cells_short, halt_by, is_arrival}
+use Rattle.guidance.specs.Halt.{Reason, trace_full, cells_short, halt_by, is_arrival}
 use Rattle.guidance.specs.Prefix.{FirstHalt}
 use Rattle.guidance.proofs.Prefix.{guided_prefix, guided_arrives, arrival_fits}
 use Rattle.guidance.specs.Decoration.{start_bare}
@@ -45,7 +45,7 @@ use Rattle.demands.specs.Demand3.{Walks, TooShort, AnswersRun, RunArrives}
 counts_of_halt_by : (r : Reason) (z : Counts) → counts_of (halt_by r z) ≡ z
 unfolding counts_of halt_by
 counts_of_halt_by Halt.arrival z = refl
-counts_of_halt_by trace-full z = refl
+counts_of_halt_by trace_full z = refl
 counts_of_halt_by cells_short z = refl
 
 module _ (x : GuideInput) (T : Saturated) (s : Started x T) (a : accepted T.table x.start (start_named x) ≡ true) where
@@ -218,7 +218,7 @@ module _ (x : GuideInput) (T : Saturated) (s : Started x T) (a : accepted T.tabl
       let e : length full_run ≡ arrival.steps = length_full in
       by_test (leb stops_here.steps x.trace) (λ t. leb-true _ _ t) (λ t.
       let l : x.trace < stops_here.steps = leb-false _ _ t in
-      absurd (stops_here.least x.trace trace-full l (is_full (omega arith) refl)))
+      absurd (stops_here.least x.trace trace_full l (is_full (omega arith) refl)))
 
   -- it reports a halt, and has written as many steps of the full run as it reports
   pub walk_report : (h : Halt) × (guide_walk x T ≡ walked_by h (full_trace x.case x.start x.rounds x.number (counts_of h).steps)) × ((counts_of h).steps ≤ x.trace)

@@ -20,7 +20,7 @@ use Rattle.walks.specs.Guide.{Walk, arrived, to, next, walk_after, trace_after}
 use Rattle.files.specs.Case.{case_refusal, own_of, rules_of}
 use Rattle.services.specs.Memory.{lent, entry_width}
 use Rattle.services.specs.Saturate.{Lent, saturated}
-use Rattle.guidance.specs.Halt.{Reason, arrival, trace-full, cells_short, cells_of_steps}
+use Rattle.guidance.specs.Halt.{Reason, arrival, trace_full, cells_short, cells_of_steps}
 use Rattle.guidance.specs.Run.{trace_short, run_first, run_trace, run_join, run_split, trace_take, run_cells_used, walk_after_to}
 use Rattle.guidance.specs.Prefix.{ArrivesAfter, FirstHalt, arrives_last}
 use Rattle.guidance.specs.Prefix
@@ -130,15 +130,15 @@ stops_later {rules} {first} {ns} {c} {c'} {t} {t'} s q h k =
   where
     -- a trace that is full before that halts s there
     full : t < q.steps → q.steps < s.steps → q.steps < length ns → ⊥
-    full l m n = s.least t trace-full (lt_trans l m) (is_full (lt_trans l n) refl)
+    full l m n = s.least t trace_full (lt_trans l m) (is_full (lt_trans l n) refl)
 
     sooner : q.steps < s.steps → {r : Reason} → HaltsAfter rules first ns c' t' q.steps r → ⊥
     sooner l (has_arrived e) = s.least q.steps arrival l (has_arrived e)
     sooner l (is_full m e) = by_test (eqb q.steps t)
-        (λ z. s.least q.steps trace-full l (is_full m (eqb-true _ _ z)))
+        (λ z. s.least q.steps trace_full l (is_full m (eqb-true _ _ z)))
         (λ z. let d : q.steps ≡ t → ⊥ = eqb-false _ _ z in full (omega arith) l m)
     sooner l (is_short m e g) = by_test (eqb q.steps t)
-        (λ z. s.least q.steps trace-full l (is_full m (eqb-true _ _ z)))
+        (λ z. s.least q.steps trace_full l (is_full m (eqb-true _ _ z)))
         (λ z. s.least q.steps cells_short l (is_short m (eqb-false _ _ z) (lt_of_le_of_lt h g)))
 
 module _ (rules : List Rule) (T : Saturated) (M : ℕ) (w : Walk) {v : Walk} (a : ArrivesAfter rules T M w v) where

@@ -28,7 +28,7 @@ use Rattle.services.specs.Guide.{GuideInput, GuideDone, guide_files, cells_lent,
 use Rattle.services.proofs.Guide.Laws.{GuideCase, Started, guide_cases}
 use Rattle.services.specs.Replay.{ReplayInput, ReplayDone, replay_files, rule_numbers, replay_cells, replay_service}
 use Rattle.services.proofs.Replay.Laws.{Replays, replies}
-use Rattle.guidance.specs.Halt.{Reason, arrival, trace-full, cells_short, halt_by, is_arrival}
+use Rattle.guidance.specs.Halt.{Reason, arrival, trace_full, cells_short, halt_by, is_arrival}
 use Rattle.demands.specs.Refusals.{Refusal, refusal, Returned, early_refusals, replay_refusals}
 use Rattle.demands.specs.Refusals.Laws.{unlisted, returned_before, returned_then, returned_last, applies_here, applies_not, none_applies}
 use Rattle.demands.specs.FullRun.{used, HaltsAfter, has_arrived}
@@ -123,7 +123,7 @@ fault_by y {ns} {d} e r t h = record { end = d; run = rw e r; in_target_holds = 
 arrived_by : (r : Reason) (z c : Counts) → Walked (halt_by r z) ≡ Walked (Arrived c) → (r ≡ arrival) × (z ≡ c)
 unfolding halt_by is_arrival
 arrived_by arrival z c e = (refl, cc)
-arrived_by trace-full z c e = absurd (false≢true (ap is_arrival e))
+arrived_by trace_full z c e = absurd (false≢true (ap is_arrival e))
 arrived_by cells_short z c e = absurd (false≢true (ap is_arrival e))
 
 all_steps : {rules : List Rule} {first : ℕ} {ns : List ℕ} {c t m : ℕ} → HaltsAfter rules first ns c t m arrival → m ≡ length ns

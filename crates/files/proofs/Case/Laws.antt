@@ -23,7 +23,7 @@ use Rattle.automata.specs.Automaton.{Move, Edge, Entry, no_move, no_entry, entry
 use Rattle.automata.specs.Facts.{RuleFacts, InnerFacts, TableFacts, OwnFacts, RuleBounded, Bounded, of_order, states}
 use Rattle.files.specs.Bytes.{Body, placed, bodies_placed, count_of, offset_of, records, records_of}
 use Rattle.files.specs.Bytes.Laws.{numbered, unrefused, bodies_first, placed_bodies, placed_within, length_records_of}
-use Rattle.files.specs.Codes.{our_codes, codes_right}
+use Rattle.files.specs.Codes.{our_codes}
 use Rattle.files.specs.Case.{case_bodies, code_body, form, form_of, case_placed, codes_of, head, head_right, RuleBytes, rule_right, rule_of, rule_records, EdgeBytes, edge_bytes, edge_right, edge_key, edge_records, entry_records, entries_of, final_entries, inner_edges, move_of, move_right, move_key, move_records, states1, records_right, increasing, case_tests, case_refusal, own_of, rules_of}
 use Rattle.files.specs.Case.Records.{HeadBounds, head_bounds, RuleBounds, rule_bounds, EdgeBounds, edge_bounds, AnnotationBounds, MoveBounds, move_bounds}
 use Rattle.files.specs.Case.Records.{entries_out, inner_out, inner_edges_rising}

@@ -11,7 +11,7 @@ use mathlib.Core.List.{List, [], ◌∷◌, map}
 use Rattle.std.proofs.Math.ListN.{get_or}
 use Rattle.words.specs.Sets.{join, single, part_of}
 use Rattle.words.proofs.Sets.Laws.{part_refl, part_trans, part_join_left}
-use Rattle.words.specs.Lists.{first, choices}
+use Rattle.words.specs.Lists.{choices}
 use Rattle.words.specs.Lists.Laws.{first_some}
 use Rattle.words.specs.Laws.Tests.{by_test}
 use Rattle.words.specs.Order.Laws.{same_eq}

@@ -33,8 +33,7 @@ guide_start-guided-requires c =
     let s = c.saturate_case-r in
     let p = c.requires in
     let sound = p.0 in
-    let fits = not-false s.result.fits c.if-not-r.false in
-    (
+    let fits = not-false s.result.fits c.if-not-r.false in (
       sound.sound_case,
       start_sound sound,
       tables_stand s.ensures.case_saturated sound.sound_case fits (search rules) (search rules),
@@ -51,8 +50,8 @@ returns-clause-trace_after c =
     let z = c.zero_tables.ensures in
     let there = table_there s.ensures.case_saturated (not-false s.result.fits c.if-not-r.false) in
     left_guided _ (zeros_kept z.0 s.auto.moves) (zeros_kept z.1 s.auto.entries)
-          (zeros_kept c.zero_u16.ensures g.auto.cells) p.0 p.1 there
-          (leaves_same (run_tables _ _ _ _ _ _ _ _ _ _ _) g.ensures.leaves)
+    (zeros_kept c.zero_u16.ensures g.auto.cells) p.0 p.1 there
+    (leaves_same (run_tables _ _ _ _ _ _ _ _ _ _ _) g.ensures.leaves)
 
 pub returns-clause-won : goal.returns-clause-won
 returns-clause-won c =

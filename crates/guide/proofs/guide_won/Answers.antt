@@ -26,8 +26,7 @@ guide_sound-requires c =
     let t = c.zero_tables in
     let cells = c.zero_u16 in
     let trace = c.zero_u16-2 in
-    let none = sym c.number_refusal-refusal.ensures ∙ c.if-refusal-ne0.false in
-    (
+    let none = sym c.number_refusal-refusal.ensures ∙ c.if-refusal-ne0.false in (
       sound_before _ _ _ _ _ none,
       not_past _ _ _ _ _ none (omega arith),
       zero_self _ _ t.ensures.0 t.auto.moves,

@@ -16,5 +16,5 @@ pub returns-clause-won : goal.returns-clause-won
 returns-clause-won c =
     let p = c.requires in
     c.start_accepted-won.ensures.value
-          ∙ start_since (saturated_in c.args.z _ _ _ _ _) (states_below p.2.stands) _ p.1 c.start_rounds.ensures.filled _
-          (start_listed _ _ p.3)
+    ∙ start_since (saturated_in c.args.z _ _ _ _ _) (states_below p.2.stands) _ p.1 c.start_rounds.ensures.filled _
+    (start_listed _ _ p.3)

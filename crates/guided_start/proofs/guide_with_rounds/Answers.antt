@@ -36,8 +36,7 @@ walk_from-requires c =
     let p = c.requires in
     let count = c.count_of.ensures.value ∙ sym (cells_count _) in
     let fits = c.if-most-count_of.false in
-    let lent = lent_fit _ c.cells_lent-most.ensures in
-    (
+    let lent = lent_fit _ c.cells_lent-most.ensures in (
       p.0,
       (start_names _ p.0.start_is p.1 c.start_body.ensures {words = 256} (omega arith) c.start_at-x.ensures).0,
       p.2,

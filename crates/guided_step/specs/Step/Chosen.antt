@@ -10,7 +10,7 @@ use Rattle.std.proofs.Math.ListN.{length}
 use Rattle.words.specs.Sets.{members}
 use Rattle.stacks.specs.Stack.{Operation, rewrite, push1, push2, copy, pop1, pop2, collapse1, collapse2}
 use Rattle.stacks.specs.System.{Rule}
-use Rattle.automata.specs.Automaton.{Automaton, Move, edges, move_at, entry_set, entry_edge}
+use Rattle.automata.specs.Automaton.{Automaton, Move, move_at, entry_set, entry_edge}
 use Rattle.automata.specs.Automaton.Laws.{EntryIs, EntryMove, entry_move_set}
 use Rattle.automata.specs.Derivation.{Derivation, named}
 use Rattle.automata.specs.Derivation.Numbers.{paired_state}

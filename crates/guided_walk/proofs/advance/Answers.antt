@@ -16,14 +16,13 @@ pub go_on-requires-clause-step_stands : goal.go_on-requires-clause-step_stands
 go_on-requires-clause-step_stands c =
     let pre = c.requires.0 in
     let bytes = c.type_inv.body in
-    let t = next_taken c.next_step-next.ensures c.in-To.is in
-    (
-        step_stands _ _ _ _ _ _ _ _ pre.tables_stand pre.rules_stand (λ i. omega (arith, bytes i)) t c.rule_at-rule.ensures (omega arith) (omega arith),
-        omega (arith, (rule_numbered _ _ _ t.numbered).0, pre.rules_few),
-        pre.cells_lent_holds,
-        pre.cells_few,
-        c.requires.1,
-      )
+    let t = next_taken c.next_step-next.ensures c.in-To.is in (
+      step_stands _ _ _ _ _ _ _ _ pre.tables_stand pre.rules_stand (λ i. omega (arith, bytes i)) t c.rule_at-rule.ensures (omega arith) (omega arith),
+      omega (arith, (rule_numbered _ _ _ t.numbered).0, pre.rules_few),
+      pre.cells_lent_holds,
+      pre.cells_few,
+      c.requires.1,
+    )
 
 pub returns-in-Arrived : goal.returns-in-Arrived
 returns-in-Arrived c =

@@ -22,7 +22,6 @@ use Rattle.cell_steps.specs.declared.Top.{Top}
 use Rattle.guided_step.specs.declared.Walk.{Walk}
 use Rattle.guided_step.specs.Walks.{walk_in, top_by}
 use Rattle.guided_step.specs.declared.Next.{Next}
-use Rattle.guided_step.specs.declared.Next.TheVariants as Next
 use Rattle.guided_step.specs.Step.{Taken, Gives, NextIs}
 use Rattle.guided_walk.specs.declared.Going.{Going}
 use Rattle.guided_walk.specs.declared.Going.TheVariants.{Halted, Stuck, On}

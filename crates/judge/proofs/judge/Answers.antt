@@ -32,8 +32,7 @@ pub judge_sound-requires : goal.judge_sound-requires
 judge_sound-requires c =
     let t = c.zero_tables in
     let b = c.zero_u16 in
-    let none = sym c.answers_refusal-refusal.ensures ∙ c.if-refusal-ne0.false in
-    (
+    let none = sym c.answers_refusal-refusal.ensures ∙ c.if-refusal-ne0.false in (
       sound_before _ _ _ _ _ none,
       not_below _ _ _ _ _ none (omega arith),
       zero_self _ _ t.ensures.0 t.auto.moves,

@@ -19,8 +19,7 @@ returns-then-not-r c =
 pub mark_starts-requires : goal.mark_starts-requires
 mark_starts-requires c =
     let s = c.saturate_case-r in
-    let p = c.requires in
-    (
+    let p = c.requires in (
       table_stands s.ensures.case_saturated p.0.sound_case (not-false s.result.fits c.if-not-r.false),
       omega arith,
       omega arith,

@@ -12,8 +12,7 @@ use Rattle.listing_text.proofs.sound_listing.Goals as goal
 
 pub saturate_case-r-requires : goal.saturate_case-r-requires
 unfolding zeros
-saturate_case-r-requires c =
-    (
+saturate_case-r-requires c = (
   c.requires.0.sound_case,
   record { entries_zero = refl; moves_zero = refl; inner_room = omega arith; sizes_room = omega arith },
 )

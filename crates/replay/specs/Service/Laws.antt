@@ -1,9 +1,9 @@
 -- What the service leaves is what its definition says, and meets the promises.
 -- Assumes nothing.
-use Prim.Native.Nat.{ℕ, ◌+◌, ◌*◌, ◌%◌, ◌/◌, min, ◌≤◌, ◌<◌}
-use Rattle.std.specs.Prelude.{Bool, true, false, ◌≡◌, refl, List, [], drop, eqb, leb}
+use Prim.Native.Nat.{ℕ, ◌*◌, ◌%◌, ◌/◌, min, ◌≤◌, ◌<◌}
+use Rattle.std.specs.Prelude.{Bool, true, false, ◌≡◌, refl, List, [], eqb, leb}
 use Rattle.std.proofs.Math.Path.{ap, sym}
-use Rattle.std.proofs.Common.{ap₂, ◌∙◌, subst}
+use Rattle.std.proofs.Common.{◌∙◌, subst}
 use native.Mathlib.Omega.{arith}
 use Rattle.std.proofs.Math.ListN.{length}
 use Rattle.std.proofs.Math.Seq.{drop-length}
@@ -14,7 +14,7 @@ use Rattle.stacks.specs.System.{Configuration, Rule}
 use Rattle.automata.specs.Automaton.{Automaton}
 use Rattle.automata.specs.Acceptance.{in_target}
 use Rattle.replies.specs.declared.Replayed.{Replayed}
-use Rattle.replies.specs.declared.Replayed.TheVariants.{Refused, Accepted, FailsAt}
+use Rattle.replies.specs.declared.Replayed.TheVariants.{Refused}
 use Rattle.files.specs.Bytes.{count_of}
 use Rattle.files.specs.Case.{case_refusal, own_of, rules_of}
 use Rattle.files.specs.Start.{start_refusal, starts_of, cells_of, configuration_at}

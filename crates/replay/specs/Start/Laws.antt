@@ -1,14 +1,13 @@
 -- A start of a sound start file stands in the copy of the file's cells.
 -- Assumes nothing.
-use Rattle.std.specs.Prelude.{ℕ, ◌*◌, ◌≤◌, ◌<◌, ◌≡◌, refl, List}
+use Rattle.std.specs.Prelude.{ℕ, ◌*◌, ◌≤◌, ◌<◌, ◌≡◌, List}
 use Rattle.std.proofs.Math.Path.{ap, sym, subst}
 use Rattle.std.proofs.Common.{◌∙◌, arith}
 use Rattle.std.proofs.Math.ListN.{length}
 use Rattle.std.proofs.lemmas.List.Edits.{sets}
 use Rattle.std.proofs.Math.Seq.{length-sets}
-use Rattle.walks.specs.Cell.{Cell, order2, stack_at, stacks}
+use Rattle.walks.specs.Cell.{order2, stack_at, stacks}
 use Rattle.walks.specs.Cell.Formed.{Formed, order_at}
-use Rattle.stacks.specs.System.{Configuration}
 use Rattle.files.specs.Bytes.{count_of}
 use Rattle.files.specs.Start.{Start, start_of, starts_of, cells_of, start_at, configuration_of, configuration_at}
 use Rattle.files.specs.Start.Laws.{start_places}
@@ -19,8 +18,6 @@ use Rattle.sound_files.specs.Sound.{StartSound}
 use Rattle.sound_files.specs.Sound.Laws.{cells_count}
 use Rattle.sound_files.specs.Sound.Rounds.{cells_are, start_read, start_listed}
 use Rattle.replay_cells.specs.CellBytes.Laws.{cells_in_copied}
-use Rattle.replay_step.specs.declared.Place.{Place}
-use Rattle.replay_step.specs.Place.{place_configuration}
 use Rattle.replay.specs.Start.{StartPlace}
 
 module _ (file : List ℕ) (sound : StartSound file) where

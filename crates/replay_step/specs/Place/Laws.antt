@@ -7,13 +7,13 @@ use Rattle.std.proofs.Math.Option.{none, some}
 use mathlib.Core.List.{List, ◌++◌}
 use Rattle.std.proofs.Math.ListN.{get_elem?}
 use Rattle.words.specs.Lists.Laws.{get_elem?_below, get_elem?_past}
-use Rattle.stacks.specs.Stack.{Operation, Stack2, new_cells}
+use Rattle.stacks.specs.Stack.{Operation, new_cells}
 use Rattle.stacks.specs.System.{Configuration, Rule, step}
 use Rattle.walks.specs.Cell.{Cell, order2, stack_at, stacks, cells_after, root_after}
 use Rattle.walks.specs.Cell.Formed.{order_at}
 use Rattle.walks.specs.Cell.Laws.{length_cells_after}
 use Rattle.files.specs.Case.{rule_bytes, rule_of}
-use Rattle.services.specs.Replay.{Taken, taken}
+use Rattle.services.specs.Replay.{taken}
 use Rattle.services.proofs.Replay.Laws.{taken_is}
 use Rattle.bytes_in.specs.Records.{record_at}
 use Rattle.tables.specs.Rows.{first_of}
@@ -30,7 +30,7 @@ use Rattle.replay_step.specs.declared.Stepped.{Stepped}
 use Rattle.replay_step.specs.declared.Stepped.TheVariants.{Fails, Short, To}
 use Rattle.replay_step.specs.Top.{top_in, rule_fits}
 use Rattle.replay_step.specs.Top.Laws.{StepOnCells, no_top, fits_not, fits}
-use Rattle.replay_step.specs.Place.{place_configuration, PlaceStands, Moved, RuleShort, RuleGoes, RuleAnswers, StepLacks, StepGoes, StepAnswers}
+use Rattle.replay_step.specs.Place.{place_configuration, PlaceStands, Moved, RuleShort, RuleGoes, RuleAnswers, StepAnswers}
 
 -- ---- the new cells
 

@@ -1,16 +1,15 @@
 -- A turn of the replay: the next rule number of the trace, and what its step answers.
 -- Assumes nothing.
-use Rattle.std.specs.Prelude.{ℕ, suc, ◌+◌, ◌*◌, ◌/◌, ◌≤◌, ◌<◌, ◌≡◌, refl, List, [], ◌∷◌, map, length, get_or, drop}
+use Rattle.std.specs.Prelude.{ℕ, ◌+◌, ◌*◌, ◌/◌, ◌≤◌, ◌<◌, ◌≡◌, refl, List, [], ◌∷◌, length, get_or, drop}
 use Rattle.std.proofs.Common.{ap, sym, ◌∙◌, subst, add-one, arith, drop-cons}
 use Rattle.std.proofs.lemmas.List.{length-map}
 use Rattle.stacks.specs.System.{Rule}
 use Rattle.automata.specs.Automaton.{Automaton}
-use Rattle.replies.specs.declared.Replayed.{Replayed}
 use Rattle.replies.specs.declared.Replayed.TheVariants.{Refused, FailsAt}
 use Rattle.walks.specs.Cell.Values.{get_or_map_below}
 use Rattle.files.specs.Bytes.{number, field, records}
 use Rattle.files.specs.Bytes.Laws.{length_records, records_at}
-use Rattle.services.specs.Replay.{Taken, rule_numbers, replayed}
+use Rattle.services.specs.Replay.{rule_numbers, replayed}
 use Rattle.services.proofs.Replay.Laws.{replayed_fails, replayed_short, replayed_goes}
 use Rattle.replay_step.specs.declared.Place.{Place}
 use Rattle.replay_step.specs.declared.Stepped.{Stepped}

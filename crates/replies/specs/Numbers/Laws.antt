@@ -8,7 +8,6 @@ use Rattle.replies.specs.declared.Halt.TheVariants.{Arrived, TraceFull, CellsSho
 use Rattle.replies.specs.declared.Reply.{Reply}
 use Rattle.replies.specs.declared.Reply.TheVariants.{Refused, NoRun, Open, Walked}
 use Rattle.replies.specs.declared.Replayed.{Replayed}
-use Rattle.replies.specs.declared.Replayed.TheVariants as Replayed
 use Rattle.replies.specs.Numbers.{number_of, replay_number, answer_word, open_word, mark_word, word_round}
 
 unfoldable pub IsRefusal : Reply → Type 0

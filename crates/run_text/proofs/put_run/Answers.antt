@@ -15,8 +15,7 @@ put_answer-requires c =
     let g = c.guide_won-guided in
     let long = g.auto.trace in
     let is = round_is _ _ _ _ g.ensures.won c.round_of-round.ensures in
-    let small = round_small (files_of c.args.case.now c.args.start.now) c.args.rounds c.args.number in
-    (
+    let small = round_small (files_of c.args.case.now c.args.start.now) c.args.rounds c.args.number in (
       subst (λ (k : ℕ). Bounded c.args.number k g.result.reply) (sym long) (answer_bounded _ _ _ _ g.ensures.trace_after),
       omega arith,
       text_room long c.requires,

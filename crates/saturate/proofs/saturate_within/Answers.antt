@@ -9,7 +9,6 @@ use Rattle.saturate.specs.Case.Laws.{long_enough, own_room, given, rules_stand, 
 use Rattle.case_file.specs.Forms.Laws.{holds_rules}
 use Rattle.tables.specs.Layouts.{counted_row, move_row}
 use Rattle.tables.specs.Counts.Laws.{filled_entries}
-use borrow.Author.Rules.{rules}
 use Rattle.saturate.proofs.saturate_within.Goals as goal
 
 pub returns-then-not-own_fits : goal.returns-then-not-own_fits
@@ -29,8 +28,7 @@ count_of-count-requires c = omega (arith, long_enough _ c.requires.0)
 pub saturate_tables-requires : goal.saturate_tables-requires
 saturate_tables-requires c =
     let sound = c.requires.0 in
-    let fits = sym c.own_fits.ensures ∙ c.if-not-own_fits.false in
-    (
+    let fits = sym c.own_fits.ensures ∙ c.if-not-own_fits.false in (
       given _ sound _ _ c.load_case-z.result _ _ _ c.load_case-z.ensures.moves_after (omega (arith, c.requires.1.inner_room, c.load_case-z.auto.inner)) c.load_case-z.auto.entries c.load_case-z.auto.moves fits c.load_case-z.ensures.counted,
       record {
         rules_stand = rules_stand _ sound _ _ (holds_rules _ (case_in_place _ sound) c.count_of-count.ensures.value c.put_rules.ensures);

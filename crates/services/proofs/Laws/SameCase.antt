@@ -1,6 +1,6 @@
 -- Two case files with the same refusal that decode to the same case are answered alike by every service, and print the same texts.
 -- Assumes nothing.
-use Prim.Native.Nat.{ℕ, zero, suc, ◌-◌, ◌*◌}
+use Prim.Native.Nat.{ℕ, zero, suc, ◌*◌}
 use Rattle.std.proofs.Math.Bool.{true, false, not}
 use Rattle.std.specs.Prelude.{◌≡◌, length, get_or, eqb, leb}
 use Rattle.std.proofs.Math.Path.{refl, ap, ap₂}

@@ -1,7 +1,6 @@
 -- `tables::entry_number` meets its contract.
 -- Assumes nothing.
 use mathlib.Core.Path.{sym, ◌∙◌, ap}
-use mathlib.Core.Bool.{false}
 use Rattle.automata.specs.Saturation.{is_entry}
 use Rattle.tables.specs.Laws.Searches.{number_found, number_none}
 use Rattle.tables.proofs.entry_number.Goals as goal

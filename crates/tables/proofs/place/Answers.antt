@@ -1,12 +1,10 @@
 -- `tables::place` meets its contract. The invariant: the first i rows come before x.
 -- Assumes nothing.
 use Prim.Native.Nat.{ℕ}
-use mathlib.Core.Bool.{true}
 use mathlib.Core.Path.{ap, sym, ◌∙◌}
 use mathlib.Core.List.{List}
 use native.Mathlib.Omega.{arith}
 use Rattle.words.specs.Order.{less}
-use Rattle.tables.specs.Insertion.{row_words}
 use Rattle.tables.specs.Insertion.Laws.{placed_at}
 use borrow.Author.Rules.{rules}
 use Rattle.tables.proofs.place.Goals as goal

@@ -1,6 +1,5 @@
 -- `zeroing::zero_u16` meets its contract.
 -- Assumes nothing.
-use Prim.Native.Nat.{◌-◌}
 use Rattle.zeroing.specs.Zeroed.Laws.{zeroed_none, zeroed_more}
 use Rattle.zeroing.proofs.zero_u16.Goals as goal
 
