@@ -1,6 +1,5 @@
 -- Which premises have to be looked at, by what the last round added.
 -- Assumes nothing.
-pub mod Laws
 use Rattle.std.specs.Prelude.{ℕ, ◌≤◌, ◌<◌, Bool, true, false, ◌||◌, length}
 use mathlib.Core.List.{Memᴰ}
 use Rattle.automata.specs.Automaton.{Automaton, move_at, entry_set}

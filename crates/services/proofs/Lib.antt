@@ -4,3 +4,4 @@ pub mod Laws
 pub mod Judge
 pub mod Guide
 pub mod Told
+pub mod Parts

@@ -1,19 +1,12 @@
 -- No two stacks print alike: a stack, and what follows its text, can be told from the whole.
 -- Assumes nothing.
-use Rattle.std.specs.Prelude.{ℕ, ◌<◌, ◌≡◌, refl, List, [], ◌∷◌, ◌++◌, get_or, drop}
+use Rattle.std.specs.Prelude.{ℕ, ◌<◌, ◌≡◌, refl, List, [], ◌∷◌, ◌++◌, get_or}
 use Rattle.std.proofs.Common.{ap, sym, ◌∙◌, subst, append_assoc, arith}
 use Rattle.stacks.specs.Stack.{Stack1, nil1, cons1, Stack2, nil2, cons2, Annotation, of1, of2}
 use Rattle.services.specs.Listing.{ascii, decimal}
 use Rattle.services.specs.Listing.Decimal.{decimal_first, decimal_told}
+use Rattle.services.proofs.Parts.{first, rest, order1_parts, order2_parts, order1_rest, order2_rest}
 use Rattle.services.specs.Brackets.{between, symbols_text, stacks_text, annotation_text, stack_text}
-
--- ---- bytes at the front
-
-first : {b c : ℕ} {x y : List ℕ} → (b ∷ x) ≡ (c ∷ y) → b ≡ c
-first e = ap (λ (l : List ℕ). get_or l 0 0) e
-
-rest : {b c : ℕ} {x y : List ℕ} → (b ∷ x) ≡ (c ∷ y) → x ≡ y
-rest e = ap (drop 1) e
 
 -- ---- a text and what follows it, byte by byte
 
@@ -33,14 +26,6 @@ stacks_parts : (w : Stack1) (t : Stack2) (x : List ℕ) → stacks_text (cons2 w
 unfolding stacks_text ascii
 stacks_parts w t x =
     ap (λ (l : List ℕ). 91 ∷ l) (append_assoc (symbols_text w ++ (93 ∷ [])) (stacks_text t) x ∙ append_assoc (symbols_text w) (93 ∷ []) (stacks_text t ++ x))
-
-order1_parts : (s : Stack1) (x : List ℕ) → annotation_text (of1 s) ++ x ≡ 49 ∷ 123 ∷ 91 ∷ (symbols_text s ++ (93 ∷ 125 ∷ x))
-unfolding annotation_text ascii
-order1_parts s x = ap (λ (l : List ℕ). 49 ∷ 123 ∷ 91 ∷ l) (append_assoc (symbols_text s) (93 ∷ 125 ∷ []) x)
-
-order2_parts : (t : Stack2) (x : List ℕ) → annotation_text (of2 t) ++ x ≡ 50 ∷ 123 ∷ 91 ∷ (stacks_text t ++ (93 ∷ 125 ∷ x))
-unfolding annotation_text ascii
-order2_parts t x = ap (λ (l : List ℕ). 50 ∷ 123 ∷ 91 ∷ l) (append_assoc (stacks_text t) (93 ∷ 125 ∷ []) x)
 
 -- ---- what can be told
 
@@ -87,12 +72,12 @@ mutual
 
   pub annotation_told : (u : Annotation) (v : Annotation) (x y : List ℕ) → annotation_text u ++ x ≡ annotation_text v ++ y → (u ≡ v) × (x ≡ y)
   annotation_told (of1 s) (of1 r) x y e =
-      let (m, f) = symbols_told s r _ _ (rest (rest (rest (sym (order1_parts s x) ∙ e ∙ order1_parts r y)))) in
+      let (m, f) = symbols_told s r _ _ (order1_rest s r x y e) in
       (ap of1 m, rest f)
   annotation_told (of1 s) (of2 r) x y e = absurd (omega (arith, first (sym (order1_parts s x) ∙ e ∙ order2_parts r y)))
   annotation_told (of2 t) (of1 r) x y e = absurd (omega (arith, first (sym (order2_parts t x) ∙ e ∙ order1_parts r y)))
   annotation_told (of2 t) (of2 r) x y e =
-      let (m, f) = stacks_told t r _ _ (rest (rest (rest (sym (order2_parts t x) ∙ e ∙ order2_parts r y)))) in
+      let (m, f) = stacks_told t r _ _ (order2_rest t r x y e) in
       (ap of2 m, rest f)
 
 stack_parts : (t : Stack2) (x : List ℕ) → stack_text t ++ x ≡ 91 ∷ (stacks_text t ++ (93 ∷ x))

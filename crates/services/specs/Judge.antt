@@ -1,5 +1,6 @@
 -- The service judge.
 -- Assumes nothing.
+pub mod Laws
 use Rattle.std.specs.Prelude.{ℕ, Bool, true, false, List, [], ◌∷◌, ◌++◌, map, length, eqb, ltb}
 use Rattle.std.proofs.Math.Option.{none, some}
 use Rattle.automata.specs.Saturation.{Saturated, adds_move, rounds_added}

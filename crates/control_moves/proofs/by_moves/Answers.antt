@@ -1,6 +1,6 @@
 -- `control_moves::by_moves` meets its contract.
 -- Assumes nothing.
-use Rattle.control_moves.specs.First.Laws.{source_held, unsettled_held, held_below, settled_can}
+use Rattle.control_moves.proofs.First.Laws.{source_held, unsettled_held, held_below, settled_can}
 use borrow.Author.Rules.{rules}
 use Rattle.control_moves.proofs.by_moves.Goals as goal
 

@@ -5,7 +5,7 @@ use native.Mathlib.Omega.{arith}
 use Rattle.tables.specs.Rows.Laws.{length_rows_in}
 use Rattle.tables.specs.Layouts.{move_row}
 use Rattle.premises.specs.Steps.Laws.{moves_more, moves_all}
-use Rattle.control_moves.specs.First.Laws.{below_past}
+use Rattle.control_moves.proofs.First.Laws.{below_past}
 use Rattle.control_moves.proofs.by_newer.Goals as goal
 
 pub loop-i-init : goal.loop-i-init

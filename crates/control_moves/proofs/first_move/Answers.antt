@@ -1,6 +1,6 @@
 -- `control_moves::first_move` meets its contract.
 -- Assumes nothing.
-use Rattle.control_moves.specs.First.Laws.{first_newer, first_none}
+use Rattle.control_moves.proofs.First.Laws.{first_newer, first_none}
 use Rattle.control_moves.proofs.first_move.Goals as goal
 
 pub returns-then-has_symbol : goal.returns-then-has_symbol

@@ -1,6 +1,6 @@
 -- `control_moves::reads_new` meets its contract.
 -- Assumes nothing.
-use Rattle.control_moves.specs.First.Laws.{reads_rewritten, reads_pushed1, reads_pushed2, reads_moves_lem, reads_entries}
+use Rattle.control_moves.proofs.First.Laws.{reads_rewritten, reads_pushed1, reads_pushed2, reads_moves_lem, reads_entries}
 use Rattle.control_moves.proofs.reads_new.Goals as goal
 
 pub returns-then-has_symbol : goal.returns-then-has_symbol

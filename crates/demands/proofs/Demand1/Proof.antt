@@ -26,7 +26,8 @@ use Rattle.services.specs.Memory.Laws.{padded_none, length_padded, length_move_t
 use Rattle.services.specs.Saturate.{Lent, saturated, SaturateDone, saturate_refused, saturate_filled, saturate_service}
 use Rattle.services.proofs.Saturate.Laws.{SaturateCase, case_refused, size_exceeded, filled, saturate_cases}
 use Rattle.services.specs.Judge.{JudgeInput, JudgeDone, judge_files, judge_lent, mark, judge_left, judge_service, more_to_add}
-use Rattle.services.proofs.Judge.Laws.{JudgeCase, start_refused, answers_short, judged, judge_cases}
+use Rattle.services.specs.Judge.Laws.{JudgeCase, start_refused, answers_short, judged}
+use Rattle.services.proofs.Judge.Laws.{judge_cases}
 use Rattle.services.specs.Guide.{GuideInput, GuideDone, accepted, guide_files, guide_lent, start_named, guide_walk, guide_left, refused, guide_service, open_start}
 use Rattle.services.proofs.Guide.Laws.{GuideCase, Started, start_missing, no_run_holds, cells_short, walked, guide_cases, walk_goes, walk_short, is_open}
 use Rattle.services.specs.Replay.{ReplayInput, ReplayDone, replay_files, replay_run, replay_service}

@@ -26,7 +26,8 @@ use Rattle.services.specs.Memory.Laws.{get_or_padded}
 use Rattle.services.specs.Saturate.{Lent, SaturateDone, saturated, saturate_refused, saturate_filled, saturate_service}
 use Rattle.services.proofs.Saturate.Laws.{SaturateCase, case_refused, size_exceeded, filled, saturate_cases}
 use Rattle.services.specs.Judge.{JudgeInput, JudgeDone, judge_lent, judge_left, judge_service, judge_files}
-use Rattle.services.proofs.Judge.Laws.{JudgeCase, start_refused, answers_short, judged, judge_cases}
+use Rattle.services.specs.Judge.Laws.{JudgeCase, start_refused, answers_short, judged}
+use Rattle.services.proofs.Judge.Laws.{judge_cases}
 use Rattle.services.specs.Guide.{GuideInput, GuideDone, accepted, guide_files, guide_lent, start_named, guide_walk, guide_left, refused, guide_service, open_start}
 use Rattle.services.proofs.Guide.Laws.{GuideCase, Started, start_missing, no_run_holds, cells_short, walked, guide_cases, walk_goes, is_open}
 use Rattle.demands.specs.Reach.{Runs, WonIn, Marks, round_table, accepted_in, AddsMove, AddsNothing, Yes}

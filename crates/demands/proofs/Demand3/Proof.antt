@@ -14,7 +14,8 @@ use Rattle.files.specs.Case.{case_refusal}
 use Rattle.files.specs.Start.{start_refusal, starts_of, start_at}
 use Rattle.services.specs.Saturate.{saturated}
 use Rattle.services.specs.Judge.{JudgeInput, JudgeDone, judge_lent, judge_files, judge_left, judge_service}
-use Rattle.services.proofs.Judge.Laws.{JudgeCase, case_refused, start_refused, answers_short, size_exceeded, judged, judge_cases}
+use Rattle.services.specs.Judge.Laws.{JudgeCase, case_refused, start_refused, answers_short, size_exceeded, judged}
+use Rattle.services.proofs.Judge.Laws.{judge_cases}
 use Rattle.services.specs.Guide.{GuideInput, GuideDone, accepted, guide_files, guide_lent, start_named, guide_walk, guide_left, refused, guide_service, open_start}
 use Rattle.services.proofs.Guide.Laws.{GuideCase, Started, start_missing, no_run_holds, cells_short, walked, guide_cases, walk_goes, walk_short, is_open}
 use Rattle.demands.specs.Reach.{accepted_in, Yes}

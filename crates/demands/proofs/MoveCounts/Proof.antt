@@ -24,7 +24,8 @@ use Rattle.services.specs.Memory.Counts.{third_word_lem, with_counts_at, largest
 use Rattle.services.specs.Saturate.{Lent, saturated, SaturateDone, saturate_refused, saturate_filled, saturate_service}
 use Rattle.services.proofs.Saturate.Laws.{SaturateCase, case_refused, size_exceeded, filled, saturate_cases}
 use Rattle.services.specs.Judge.{JudgeDone, judge_lent, judge_left, judge_service}
-use Rattle.services.proofs.Judge.Laws.{JudgeCase, start_refused, answers_short, judged, judge_cases}
+use Rattle.services.specs.Judge.Laws.{JudgeCase, start_refused, answers_short, judged}
+use Rattle.services.proofs.Judge.Laws.{judge_cases}
 use Rattle.services.specs.Listing.{ascii, digits_before, decimal, listing_lent, listing_judge, size_line, largest_count, most_line, start_lines, judged_text, listing_text}
 use Rattle.services.specs.Listing.Decimal.{decimal_told}
 use Rattle.demands.specs.Size.Laws.{saturated_table_lem}

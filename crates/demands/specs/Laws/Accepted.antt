@@ -31,7 +31,8 @@ use Rattle.services.specs.Memory.{lent, padded}
 use Rattle.services.specs.Memory.Laws.{get_or_padded}
 use Rattle.services.specs.Saturate.{Lent, saturated}
 use Rattle.services.specs.Judge.{JudgeInput, JudgeDone, judge_files, judge_lent, won, mark, judge_left, judge_service, more_to_add}
-use Rattle.services.proofs.Judge.Laws.{JudgeCase, case_refused, start_refused, answers_short, size_exceeded, judged, judge_cases}
+use Rattle.services.specs.Judge.Laws.{JudgeCase, case_refused, start_refused, answers_short, size_exceeded, judged}
+use Rattle.services.proofs.Judge.Laws.{judge_cases}
 use Rattle.services.specs.Guide.{GuideInput, accepted, guide_lent, start_named}
 use Rattle.services.proofs.Guide.Laws.{Started}
 use Rattle.services.specs.Listing.{listing_judge, round_won}

@@ -25,7 +25,7 @@ use Rattle.files.specs.Case.{case_placed, codes_of, head, head_right, rule_right
 use Rattle.files.specs.Case.{records_right, increasing, case_tests, case_refusal}
 use Rattle.files.specs.Start.{Files, start_placed, starts_of, start_right, CellBytes, cell_records, cell_right, cells_right, start_file_right, start_tests, start_refusal}
 use Rattle.services.proofs.Saturate.Laws.{case_numbered}
-use Rattle.services.proofs.Judge.Laws.{start_numbered}
+use Rattle.services.specs.Judge.Laws.{start_numbered}
 use Rattle.demands.specs.Refusals.{Refusal, Returned, SomeFails, BoundBroken, SecondEntry, NotIncreasing, CellWrong, StartOrCellWrong, case_refusals, start_refusals}
 use Rattle.demands.specs.Refusals.Codes.{codes_wrong}
 

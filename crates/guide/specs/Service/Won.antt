@@ -17,7 +17,8 @@ use Rattle.services.specs.Memory.{padded}
 use Rattle.services.specs.Memory.Laws.{get_or_padded}
 use Rattle.services.specs.Saturate.{saturated}
 use Rattle.services.specs.Judge.{JudgeInput, JudgeDone, judge_files, judge_lent, judge_left, mark}
-use Rattle.services.proofs.Judge.Laws.{JudgeCase, case_refused, start_refused, answers_short, size_exceeded, judged, judge_cases}
+use Rattle.services.specs.Judge.Laws.{JudgeCase, case_refused, start_refused, answers_short, size_exceeded, judged}
+use Rattle.services.proofs.Judge.Laws.{judge_cases}
 use Rattle.sound_files.specs.Refusal.{FilesSound, number_refusal}
 use Rattle.sound_files.specs.Refusal.Laws.{before_below}
 use Rattle.sound_files.specs.Sound.Laws.{starts_few}

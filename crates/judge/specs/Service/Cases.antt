@@ -9,7 +9,8 @@ use Rattle.files.specs.Case.{case_refusal}
 use Rattle.files.specs.Start.{start_refusal, starts_of}
 use Rattle.services.specs.Saturate.{saturated}
 use Rattle.services.specs.Judge.{JudgeInput, JudgeDone, judge_files, judge_lent, judge_left, judge_service, mark}
-use Rattle.services.proofs.Judge.Laws.{JudgeCase, judge_cases, case_refused, start_refused, answers_short, size_exceeded, judged}
+use Rattle.services.specs.Judge.Laws.{JudgeCase, case_refused, start_refused, answers_short, size_exceeded, judged}
+use Rattle.services.proofs.Judge.Laws.{judge_cases}
 use Rattle.sound_files.specs.Refusal.{FilesSound, answers_refusal}
 use Rattle.sound_files.specs.Refusal.Laws.{before_case, before_start, before_below, before_past}
 

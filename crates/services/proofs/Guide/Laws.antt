@@ -18,7 +18,7 @@ use Rattle.files.specs.Start.{start_tests, start_refusal, starts_of, cells_of}
 use Rattle.services.specs.Saturate.{saturated, size_tests}
 use Rattle.services.proofs.Saturate.Laws.{size_refused, size_passed, case_first, case_passed}
 use Rattle.services.specs.Judge.{more_to_add}
-use Rattle.services.proofs.Judge.Laws.{start_first, start_passed}
+use Rattle.services.specs.Judge.Laws.{start_first, start_passed}
 use Rattle.services.specs.Guide.{GuideInput, accepted, guide_lent, guide_files, number_tests, guide_refusal, cells_lent, start_named, guide_walk, open_start, guide_run}
 use Rattle.services.specs.Guide.{GuideDone, guide_left, refused, guide_answer, guide_service}
 

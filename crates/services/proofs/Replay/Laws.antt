@@ -22,7 +22,7 @@ use Rattle.files.specs.Bytes.Laws.{first_hit_fails, first_hit_passes}
 use Rattle.files.specs.Case.{case_refusal}
 use Rattle.files.specs.Start.{start_tests, start_refusal, starts_of, cells_of}
 use Rattle.services.proofs.Saturate.Laws.{case_first, case_passed}
-use Rattle.services.proofs.Judge.Laws.{start_first, start_passed}
+use Rattle.services.specs.Judge.Laws.{start_first, start_passed}
 use Rattle.services.specs.Guide.{number_tests}
 use Rattle.services.specs.Replay.{ReplayInput, replay_files, replay_cells, trace_tests, cell_tests, replay_refusal, Taken, taken, replayed, replay_run, replay_reply}
 use Rattle.services.specs.Replay.{ReplayDone, replay_service}

@@ -10,7 +10,7 @@ use Rattle.files.specs.Bytes.Laws.{first_hit_fails, first_hit_passes}
 use Rattle.files.specs.Case.{Head, case_tests, case_refusal, head}
 use Rattle.files.specs.Start.{Files, start_tests, start_refusal, starts_of}
 use Rattle.services.proofs.Saturate.Laws.{case_first, case_passed}
-use Rattle.services.proofs.Judge.Laws.{start_first, start_passed}
+use Rattle.services.specs.Judge.Laws.{start_first, start_passed}
 use Rattle.services.specs.Guide.{number_tests}
 use Rattle.start_file.specs.Checks.{files_of, refusal_for}
 use Rattle.start_file.specs.Checks.Laws.{refusal_is}
