@@ -4,6 +4,7 @@ pub mod Laws
 use Rattle.std.specs.Prelude.{ℕ, ◌*◌, ◌≤◌, ◌<◌, List, length}
 use Rattle.words.proofs.Sets.Laws.{All}
 use Rattle.tables.specs.declared.Table.{Table}
+use Rattle.tables.specs.declared.view.Tables.{Tables}
 use Rattle.tables.specs.Rows.{row_at}
 use Rattle.tables.specs.Layouts.{move_row, entry_row, edge_row}
 use Rattle.tables.specs.Held.{EdgesStand, EntriesStand}
@@ -30,3 +31,7 @@ pub record TablesNamed (z : Table) (inner entries moves : List ℕ) : Type 0 whe
   pub edges_named : EdgesNamed z inner entries
   pub moves_named : MovesNamed z moves
   pub finals_named : FinalsNamed z
+
+-- the same by the tables as one value
+abbrev pub NamedIn : Tables → Type 0
+NamedIn t = TablesNamed t.table t.inner.now t.entries.now t.moves.now

@@ -9,21 +9,21 @@ ghost use Rattle.rounds.specs.Won.{final_round, symbol_round, above_round};
 ghost use Rattle.tables.specs.Rows.{rows_in};
 ghost use Rattle.tables.specs.Records.{as_move};
 ghost use Rattle.tables.specs.Layouts.{move_row};
-ghost use Rattle.tables.specs.Held.{edges_in, EdgesStand, EntriesStand};
+ghost use Rattle.tables.specs.Held.{edges_in};
 ghost use Rattle.saturation.specs.Layout.{size_row};
-ghost use Rattle.saturation.specs.Held.{saturated_in};
+ghost use Rattle.saturation.specs.Held.{saturated_on};
 ghost use Rattle.walks.specs.Cell.Formed.{Formed};
 ghost use Rattle.cell_memory.specs.Memory.{cell_of};
 ghost use Rattle.acceptance_words.specs.Rows.{round_in};
 ghost use Rattle.acceptance.specs.Put.{with_move, RowZero, RowPut};
-ghost use Rattle.acceptance.specs.Named.{MovesNamed, EdgesNamed, TablesNamed};
+ghost use Rattle.acceptance.specs.Named.{MovesNamed, EdgesNamed, NamedIn};
 ghost use Rattle.acceptance.specs.Cells.{annotation_order_at, PartsBelow, cell_round, RoundsFilled};
 ghost use Rattle.start_records.specs.Body.{cells_in};
 
 use cell_memory::Cell;
 use limits::Limits;
 use replies::Acceptance;
-use tables::{Move, Table};
+use tables::{Move, Tables};
 
 // ---- the words of a cell, by those of the cells before it
 
@@ -32,15 +32,12 @@ fn round_of(sizes: &[u64], k: usize, from: usize, i: usize) -> usize
     requires { (k * 2 ≤ length sizes.now) × (from ≤ round_of (rows_in size_row k sizes.now) i) }
     ensures { result ≡ round_of (rows_in size_row k sizes.now) i }
 {
-    let mut r = from;
-    while r < k {
-        let size = saturation::size_at(sizes, r);
-        if (i as u64) < size.moves {
+    for r in from..k {
+        if (i as u64) < saturation::size_at(sizes, r).moves {
             return r;
         }
-        r += 1;
     }
-    r
+    k
 }
 
 // Cell i is symbol a on s, annotated by u of order k: what a move of this round adds to its words.
@@ -57,8 +54,7 @@ fn put_move(m: Move, round: usize, a: u64, k: u64, u: usize, s: usize, rounds: &
 
 // Cell i is symbol a on s, annotated by u of order k: its words, where they are zero before.
 fn put_symbol(
-    z: Table,
-    moves: &[u64],
+    tables: &Tables<'_>,
     sizes: &[u64],
     count: usize,
     a: u64,
@@ -68,45 +64,29 @@ fn put_symbol(
     rounds: &mut [u16],
     i: usize,
 )
-    requires { MovesNamed z moves.now × (count * 2 ≤ length sizes.now) × (count < 65535) × (u < i) × (s < i) × (i * 64 + 64 ≤ length rounds.old) × RowZero rounds.old i }
+    requires { MovesNamed tables.now.table tables.now.moves.now × (count * 2 ≤ length sizes.now) × (count < 65535) × (u < i) × (s < i)
+        × (i * 64 + 64 ≤ length rounds.old) × RowZero rounds.old i }
     ensures { RowPut rounds.old i (symbol_round (rows_in size_row count sizes.now) a k (round_in rounds.old u)
-        (round_in rounds.old s) (rows_in move_row z.moves moves.now)) rounds.new }
+        (round_in rounds.old s) (rows_in move_row tables.now.table.moves tables.now.moves.now)) rounds.new }
 {
     let mut round: usize = 0;
-    let mut n: usize = 0;
-    while n < z.moves {
+    for n in 0..tables.table.moves {
         round = round_of(sizes, count, round, n);
-        put_move(tables::move_at(moves, n), round, a, k, u, s, rounds, i);
-        n += 1;
+        put_move(tables.move_at(n), round, a, k, u, s, rounds, i);
     }
 }
 
 // Cell i is w on t: its words, where they are zero before.
-fn put_above(
-    z: Table,
-    inner: &[u64],
-    entries: &[u64],
-    w: usize,
-    t: usize,
-    rounds: &mut [u16],
-    i: usize,
-)
-    requires { EdgesStand z inner.now × EntriesStand z entries.now × EdgesNamed z inner.now entries.now × (w < i) × (t < i)
+fn put_above(tables: &Tables<'_>, w: usize, t: usize, rounds: &mut [u16], i: usize)
+    requires { EdgesNamed tables.now.table tables.now.inner.now tables.now.entries.now × (w < i) × (t < i)
         × (i * 64 + 64 ≤ length rounds.old) × RowZero rounds.old i }
     ensures { RowPut rounds.old i (above_round (round_in rounds.old w) (round_in rounds.old t)
-        (edges_in z inner.now entries.now)) rounds.new }
+        (edges_in tables.now.table tables.now.inner.now tables.now.entries.now)) rounds.new }
 {
-    let edges = z.edges + z.entries;
-    let mut n: usize = 0;
-    while n < edges {
-        let e = tables::edge_of(z, inner, entries, n);
-        acceptance_words::put_earlier(
-            rounds,
-            i,
-            e.state,
-            acceptance_words::edge_accepted(rounds, e, w, t),
-        );
-        n += 1;
+    for n in 0..tables.edge_count() {
+        let e = tables.edge_of(n);
+        let won = acceptance_words::edge_accepted(rounds, e, w, t);
+        acceptance_words::put_earlier(rounds, i, e.state, won);
     }
 }
 
@@ -115,19 +95,14 @@ fn put_final(set: u64, rounds: &mut [u16], i: usize)
     requires { (i * 64 + 64 ≤ length rounds.old) × RowZero rounds.old i }
     ensures { RowPut rounds.old i (final_round set) rounds.new }
 {
-    let mut q: u64 = 0;
-    while q < Limits::STATES1 as u64 {
+    for q in 0..Limits::STATES1 as u64 {
         acceptance_words::put_earlier(rounds, i, q, acceptance_words::final_accepted(set, q));
-        q += 1;
     }
 }
 
 // Cell i, where a symbol's annotation is of order k: its words by those of the cells before it, where they are zero before.
 fn put_cell(
-    z: Table,
-    inner: &[u64],
-    entries: &[u64],
-    moves: &[u64],
+    tables: &Tables<'_>,
     sizes: &[u64],
     count: usize,
     cell: Cell,
@@ -135,19 +110,19 @@ fn put_cell(
     rounds: &mut [u16],
     i: usize,
 )
-    requires { TablesNamed z inner.now entries.now moves.now × (count * 2 ≤ length sizes.now) × (count < 65535) × PartsBelow i (cell_of cell)
+    requires { NamedIn tables.now × (count * 2 ≤ length sizes.now) × (count < 65535) × PartsBelow i (cell_of cell)
         × (i * 64 + 64 ≤ length rounds.old) × RowZero rounds.old i }
     ensures { RowPut rounds.old i
-        (cell_round (saturated_in z inner.now entries.now moves.now count sizes.now) k rounds.old (cell_of cell))
+        (cell_round (saturated_on tables.now count sizes.now) k rounds.old (cell_of cell))
         rounds.new }
 {
     match cell {
-        Cell::Empty1 => put_final(z.final1, rounds, i),
+        Cell::Empty1 => put_final(tables.table.final1, rounds, i),
         Cell::Symbol(a, u, s) => put_symbol(
-            z, moves, sizes, count, a as u64, k, u as usize, s as usize, rounds, i,
+            tables, sizes, count, a as u64, k, u as usize, s as usize, rounds, i,
         ),
-        Cell::Empty2 => put_final(z.final2, rounds, i),
-        Cell::Above(w, t) => put_above(z, inner, entries, w as usize, t as usize, rounds, i),
+        Cell::Empty2 => put_final(tables.table.final2, rounds, i),
+        Cell::Above(w, t) => put_above(tables, w as usize, t as usize, rounds, i),
     }
 }
 
@@ -159,36 +134,30 @@ pub fn annotation_order(body: &[u8], n: usize, cell: Cell) -> u64
     ensures { result ≡ annotation_order_at (cells_in n body.now) (cell_of cell) }
 {
     match cell {
-        Cell::Empty1 => 0,
         Cell::Symbol(_, u, _) => start_records::order_at(body, n, u as usize),
-        Cell::Empty2 => 0,
-        Cell::Above(_, _) => 0,
+        _ => 0,
     }
 }
 
 // Writes the words of the first n cells in the body, which refer to cells before them, for the saturated table in these tables and sizes. They
 // are zero before.
+// Kept (5): `sizes` and `count` stand beside the tables, as for `guided_start::guide_start`; `own_target` makes its sizes itself.
 pub fn fill_rounds(
-    z: Table,
-    inner: &[u64],
-    entries: &[u64],
-    moves: &[u64],
+    tables: &Tables<'_>,
     sizes: &[u64],
     count: usize,
     body: &[u8],
     n: usize,
     rounds: &mut [u16],
 )
-    requires { TablesNamed z inner.now entries.now moves.now × (count * 2 ≤ length sizes.now) × (count < 65535) × (n * 6 ≤ length body.now)
+    requires { NamedIn tables.now × (count * 2 ≤ length sizes.now) × (count < 65535) × (n * 6 ≤ length body.now)
         × Formed (cells_in n body.now) × (n * 64 ≤ length rounds.old) × (rounds.old ≡ zeros (length rounds.old)) }
-    ensures { RoundsFilled (saturated_in z inner.now entries.now moves.now count sizes.now)
+    ensures { RoundsFilled (saturated_on tables.now count sizes.now)
         (cells_in n body.now) rounds.old rounds.new n }
 {
-    let mut i: usize = 0;
-    while i < n {
+    for i in 0..n {
         let cell = start_records::cell_at(body, i);
         let k = annotation_order(body, n, cell);
-        put_cell(z, inner, entries, moves, sizes, count, cell, k, rounds, i);
-        i += 1;
+        put_cell(tables, sizes, count, cell, k, rounds, i);
     }
 }

@@ -20,25 +20,23 @@ use tables::{Edge, Move};
 fn earlier(a: Acceptance, b: Acceptance) -> Acceptance
     ensures { result ≡ won.earlier a b }
 {
-    match a {
-        Acceptance::Never => b,
-        Acceptance::Since(m) => match b {
-            Acceptance::Never => Acceptance::Since(m),
-            Acceptance::Since(n) => Acceptance::Since(numbers::smaller(m, n)),
-        },
+    match (a, b) {
+        (Acceptance::Never, _) => b,
+        (_, Acceptance::Never) => a,
+        (Acceptance::Since(m), Acceptance::Since(n)) => Acceptance::Since(m.min(n)),
     }
 }
 
+// Kept (2): no plainer as one with `earlier`: they differ in what `Never` does.
+//
 // The later of two answers.
 pub fn later(a: Acceptance, b: Acceptance) -> Acceptance
     ensures { result ≡ won.later a b }
 {
-    match a {
-        Acceptance::Never => Acceptance::Never,
-        Acceptance::Since(m) => match b {
-            Acceptance::Never => Acceptance::Never,
-            Acceptance::Since(n) => Acceptance::Since(numbers::larger(m, n)),
-        },
+    match (a, b) {
+        (Acceptance::Never, _) => a,
+        (_, Acceptance::Never) => b,
+        (Acceptance::Since(m), Acceptance::Since(n)) => Acceptance::Since(m.max(n)),
     }
 }
 
@@ -46,10 +44,7 @@ pub fn later(a: Acceptance, b: Acceptance) -> Acceptance
 pub fn is_won(a: Acceptance) -> bool
     ensures { result ≡ is_won a }
 {
-    match a {
-        Acceptance::Never => false,
-        Acceptance::Since(_) => true,
-    }
+    matches!(a, Acceptance::Since(_))
 }
 
 // The word of an answer.
@@ -75,7 +70,7 @@ pub fn accepted(rounds: &[u16], cell: usize, state: u64) -> Acceptance
     if word == 0 {
         return Acceptance::Never;
     }
-    Acceptance::Since((word - 1) as u64)
+    Acceptance::Since(u64::from(word - 1))
 }
 
 // Since when the cell is accepted from every state of the set.

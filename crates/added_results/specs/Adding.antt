@@ -2,7 +2,7 @@
 -- Assumes nothing.
 pub mod Laws
 pub mod Exist
-use Rattle.std.specs.Prelude.{ℕ, ◌+◌, ◌*◌, ◌≤◌, ◌<◌, max, Bool, true, false, ◌≡◌, List, length}
+use Rattle.std.specs.Prelude.{ℕ, ◌+◌, ◌*◌, ◌≤◌, ◌<◌, max, ◌≡◌, List, length, Option, Some, None}
 use Rattle.automata.specs.Automaton.{Automaton, Move, Entry, move_at}
 use Rattle.automata.specs.Facts.{states}
 use Rattle.automata.specs.Derivation.{Result}
@@ -12,7 +12,7 @@ use Rattle.tables.specs.declared.Table.{Table}
 use Rattle.tables.specs.Rows.{rows_in}
 use Rattle.tables.specs.Layouts.{entry_row, move_row}
 use Rattle.tables.specs.Held.{automaton_of}
-use Rattle.tables.specs.Counts.{CountsAre}
+use Rattle.tables.specs.Counts.{CountsAre, CountsStand}
 use Rattle.tables.specs.Laws.Filled.{Filled}
 
 -- From the first n rows of table t, entry e has number i, and t' has it, if i is below `most`. Counts by walking stay so, where entry n has no moves if it
@@ -48,10 +48,18 @@ pub record Grows (z : Table) (entries moves : List ℕ) (xs : List Result) (z' :
   pub entries_long : length entries' ≡ length entries
   pub moves_long : length moves' ≡ length moves
 
--- The results xs were added, or there is no room for their entries.
-pub record Added (z : Table) (most : ℕ) (entries moves : List ℕ) (xs : List Result) (fits : Bool) (z' : Table) (entries' moves' : List ℕ) : Type 0 where
-  pub grows : fits ≡ true → Grows z entries moves xs z' entries' moves'
-  pub within : fits ≡ true → z'.entries ≤ most
-  pub over : fits ≡ false → (inner : List ℕ) → most < length (add_all (automaton_of z inner entries moves) xs).entries
+-- There is no room for the entries of the results xs.
+pub record Over (z : Table) (most : ℕ) (entries moves : List ℕ) (xs : List Result) (entries' moves' : List ℕ) : Type 0 where
+  pub over : (inner : List ℕ) → most < length (add_all (automaton_of z inner entries moves) xs).entries
   pub entries_long : length entries' ≡ length entries
   pub moves_long : length moves' ≡ length moves
+
+-- The results xs were added, with at most so many entries, or there is no room for their entries.
+abbrev pub Added : Table → ℕ → List ℕ → List ℕ → List Result → Option Table → List ℕ → List ℕ → Type 0
+Added z most entries moves xs (Some z') entries' moves' = Grows z entries moves xs z' entries' moves' × (z'.entries ≤ most)
+Added z most entries moves xs None entries' moves' = Over z most entries moves xs entries' moves'
+
+-- The entries of the table, or of the last before there was no room, have the numbers of their moves.
+abbrev pub CountsKept : Option Table → List ℕ → List ℕ → Type 0
+CountsKept (Some t) entries moves = CountsStand t entries moves
+CountsKept None entries moves = (t : Table) × CountsStand t entries moves

@@ -11,13 +11,12 @@ ghost use Rattle.answer_text.specs.Bounds.{Bounded};
 use replies::{Halt, Reply};
 
 // The steps of a walk.
+#[tactic(auto, unfolding(replies::specs::Numbers::counts_of))]
 fn steps_of(halt: Halt) -> u64
     ensures { result ≡ (counts_of halt).steps }
 {
     match halt {
-        Halt::Arrived(c) => c.steps,
-        Halt::TraceFull(c) => c.steps,
-        Halt::CellsShort(c) => c.steps,
+        Halt::Arrived(c) | Halt::TraceFull(c) | Halt::CellsShort(c) => c.steps,
     }
 }
 
@@ -42,8 +41,7 @@ pub fn put_answer(text: &mut [u8], number: usize, round: u64, reply: Reply, trac
 {
     match reply {
         Reply::Refused(n) => text::put_refused(text, 0, n),
-        Reply::NoRun => text::put_reply_line(text, 0, number as u64, round, reply),
-        Reply::Open => text::put_reply_line(text, 0, number as u64, round, reply),
+        Reply::NoRun | Reply::Open => text::put_reply_line(text, 0, number as u64, round, reply),
         Reply::Walked(halt) => put_walk(text, number, round, halt, trace),
     }
 }

@@ -1,7 +1,10 @@
 -- The service brackets: its input and what it leaves, as the values of the code give them.
 -- Assumes nothing.
 pub mod Laws
-use Rattle.std.specs.Prelude.{ℕ, List}
+use Rattle.std.specs.Prelude.{ℕ, List, Result, Ok, Err}
+use Rattle.replies.specs.declared.Refusal.{Refusal}
+use Rattle.replies.specs.Numbers.{number_for}
+use Rattle.replies.specs.declared.Brackets.TheVariants.{Refused, Printed}
 use Rattle.replies.specs.declared.Brackets.{Brackets}
 use Rattle.services.specs.Brackets.{BracketsInput, BracketsDone}
 
@@ -10,3 +13,8 @@ brackets_input case start number text = record { case = case; start = start; num
 
 abbrev pub brackets_done : Brackets → List ℕ → BracketsDone
 brackets_done reply text = record { reply = reply; text = text }
+
+-- the reply with a text's length, or of a refusal
+abbrev pub the_reply : Result ℕ Refusal → Brackets
+the_reply (Ok n) = Printed n
+the_reply (Err r) = Refused (number_for r)

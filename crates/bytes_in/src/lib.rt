@@ -4,18 +4,10 @@
 ghost use Rattle.std.specs.Prelude.{◌≡◌, ◌<◌, ◌≤◌, ◌+◌, ◌*◌, ◌^◌, length, get_or};
 ghost use Rattle.files.specs.Bytes.{field, count_of, offset_of, line_right, bodies_placed};
 ghost use Rattle.files.specs.Bytes;
-ghost use Rattle.bytes_in.specs.Contents.{the_body, next_body, body_in, bodies_from, bodies_in};
-ghost use Rattle.bytes_in.specs.Records.{body_of};
+ghost use Rattle.bytes_in.specs.Contents.{the_body, the_bodies, next_body};
+ghost use Rattle.bytes_in.specs.Records.{body_of, record_at};
 
 use limits::Limits;
-
-// The byte as a number.
-fn wide(x: u8) -> u64
-    ensures value { result ≡ x }
-    ensures small { result < 256 }
-{
-    x as u64
-}
 
 // The byte at a place.
 pub fn byte_at(b: &[u8], at: usize) -> u64
@@ -23,7 +15,7 @@ pub fn byte_at(b: &[u8], at: usize) -> u64
     ensures value { result ≡ get_or b.now at 0 }
     ensures small { result < 256 }
 {
-    wide(b[at])
+    u64::from(b[at])
 }
 
 // Two bytes from a place on.
@@ -32,9 +24,7 @@ pub fn number2(b: &[u8], at: usize) -> u64
     ensures value { result ≡ field at 2 b.now }
     ensures small { result < 2 ^ 16 }
 {
-    let low = byte_at(b, at);
-    let high = byte_at(b, at + 1);
-    low + 256 * high
+    u64::from(u16::from_le_bytes([b[at], b[at + 1]]))
 }
 
 // Four bytes from a place on.
@@ -43,9 +33,7 @@ fn number4(b: &[u8], at: usize) -> u64
     ensures value { result ≡ field at 4 b.now }
     ensures small { result < 2 ^ 32 }
 {
-    let low = number2(b, at);
-    let high = number2(b, at + 2);
-    low + 65536 * high
+    u64::from(u32::from_le_bytes([b[at], b[at + 1], b[at + 2], b[at + 3]]))
 }
 
 // Eight bytes from a place on.
@@ -53,9 +41,16 @@ pub fn number8(b: &[u8], at: usize) -> u64
     requires { at + 8 ≤ length b.now }
     ensures { result ≡ field at 8 b.now }
 {
-    let low = number4(b, at);
-    let high = number4(b, at + 4);
-    low + 4294967296 * high
+    u64::from_le_bytes([
+        b[at],
+        b[at + 1],
+        b[at + 2],
+        b[at + 3],
+        b[at + 4],
+        b[at + 5],
+        b[at + 6],
+        b[at + 7],
+    ])
 }
 
 // ---- tables of contents
@@ -63,17 +58,10 @@ pub fn number8(b: &[u8], at: usize) -> u64
 // A body's kind, its least and most number of records, and the bytes of a record.
 #[derive(Clone, Copy)]
 pub struct Body {
-    pub kind: u64,
-    pub least: u64,
-    pub most: u64,
-    pub size: u64,
-}
-
-// Where the body after this one begins, or that this one's line is wrong.
-#[derive(Clone, Copy)]
-enum NextBody {
-    At(usize),
-    Wrong,
+    pub kind: u16,
+    pub least: u16,
+    pub most: u16,
+    pub size: u16,
 }
 
 // The number of records that line n gives.
@@ -99,83 +87,47 @@ fn line_right(file: &[u8], n: usize, offset: usize, b: Body) -> bool
     requires { 9 + 8 * n ≤ length file.now }
     ensures { result ≡ line_right file.now n offset (the_body b) }
 {
-    if number2(file, 1 + Limits::LINE_BYTES * n) != b.kind {
-        return false;
-    }
+    let kind = number2(file, 1 + Limits::LINE_BYTES * n);
     let count = number2(file, 3 + Limits::LINE_BYTES * n);
-    if count < b.least {
-        return false;
-    }
-    if b.most < count {
-        return false;
-    }
-    offset_of(file, n) == offset
+    let place = offset_of(file, n);
+    let many = u64::from(b.least) <= count && count <= u64::from(b.most);
+    kind == u64::from(b.kind) && many && place == offset
 }
 
-// Where the body after that of line n begins, which itself begins at the offset.
-fn next_body(file: &[u8], n: usize, offset: usize, b: Body) -> NextBody
-    requires { (9 + 8 * n ≤ length file.now) × (b.size < 2 ^ 16) }
+// Where the body after that of line n begins, which itself begins at the offset; none where the line is wrong.
+fn next_body(file: &[u8], n: usize, offset: usize, b: Body) -> Option<usize>
+    requires { 9 + 8 * n ≤ length file.now }
     ensures { result ≡ next_body file.now n offset (the_body b) }
 {
     if line_right(file, n, offset, b) {
-        let size = b.size as usize;
-        let records = count_of(file, n) * size;
-        NextBody::At(offset_of(file, n) + records)
+        let records = count_of(file, n) * usize::from(b.size);
+        Some(offset_of(file, n) + records)
     } else {
-        NextBody::Wrong
+        None
     }
 }
 
-fn wide16(x: u16) -> u64
-    ensures value { result ≡ x }
-    ensures small { result < 2 ^ 16 }
+// The bodies of the table stand one after another, the first at this offset, and end where the file ends.
+fn bodies_placed(file: &[u8], table: &[Body], first: usize) -> bool
+    requires { 1 + 8 * length table.now ≤ length file.now }
+    ensures { result ≡ bodies_placed file.now 0 first (the_bodies table.now) }
 {
-    x as u64
-}
-
-// Body number i of a table with four numbers a body.
-fn body_at(table: &[u16], i: usize) -> Body
-    requires { 4 * i + 4 ≤ length table.now }
-    ensures result_value { the_body result ≡ body_in table.now i }
-    ensures small { result.size < 2 ^ 16 }
-{
-    let at = 4 * i;
-    Body {
-        kind: wide16(table[at]),
-        least: wide16(table[at + 1]),
-        most: wide16(table[at + 2]),
-        size: wide16(table[at + 3]),
-    }
-}
-
-// The first n bodies of the table stand one after another, the first at this offset, and end where the file ends.
-fn bodies_placed(file: &[u8], table: &[u16], n: usize, first: usize) -> bool
-    requires { (4 * n ≤ length table.now) × (1 + 8 * n ≤ length file.now) }
-    ensures { result ≡ bodies_placed file.now 0 first (bodies_from n 0 table.now) }
-{
-    let mut i: usize = 0;
     let mut offset = first;
-    while i < n {
-        let b = body_at(table, i);
-        let NextBody::At(next) = next_body(file, i, offset, b) else {
+    for i in 0..table.len() {
+        let Some(next) = next_body(file, i, offset, table[i]) else {
             return false;
         };
         offset = next;
-        i += 1;
     }
     offset == file.len()
 }
 
 // The bodies of the table are in place, after the first byte and a line of contents for each.
-pub fn placed(file: &[u8], table: &[u16]) -> bool
-    ensures { result ≡ Bytes.placed (bodies_in table.now) file.now }
+pub fn placed(file: &[u8], table: &[Body]) -> bool
+    ensures { result ≡ Bytes.placed (the_bodies table.now) file.now }
 {
-    let n = table.len() / 4;
-    let contents = 1 + Limits::LINE_BYTES * n;
-    if file.len() < contents {
-        return false;
-    }
-    bodies_placed(file, table, n, contents)
+    let contents = 1 + Limits::LINE_BYTES * table.len();
+    contents <= file.len() && bodies_placed(file, table, contents)
 }
 
 // The body of line n, with records of this size.
@@ -186,4 +138,15 @@ pub fn body_part(file: &[u8], n: usize, size: usize) -> &[u8]
     let a = offset_of(file, n);
     let e = a + count_of(file, n) * size;
     &file[a..e]
+}
+
+// Record number i of a body, with records of this size.
+pub fn record(body: &[u8], i: usize, size: usize) -> &[u8]
+    requires { i * size + size ≤ length body.now }
+    ensures value { result.now ≡ record_at size i body.now }
+    ensures long { length result.now ≡ size }
+{
+    let a = i * size;
+    let e = a + size;
+    &body[a..e]
 }

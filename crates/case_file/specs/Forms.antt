@@ -1,17 +1,20 @@
 -- Forms by numbers, and a file's rules in our codes.
 -- Assumes nothing.
 pub mod Laws
-use Rattle.std.specs.Prelude.{ℕ, ◌*◌, ◌≤◌, Bool, not, ◌≡◌, List, map, length, eqb}
+use Rattle.std.specs.Prelude.{ℕ, ◌*◌, ◌≤◌, Bool, not, ◌≡◌, List, [], ◌∷◌, ◌++◌, map, length, eqb, Option as Answer, Some, None}
 use Rattle.std.proofs.Math.Option.{Option, none, some}
+use Rattle.case_file.specs.declared.Form.{Form as FormValue}
+use Rattle.case_file.specs.declared.Form.TheVariants.{Plain, Coded}
 use Rattle.files.specs.Bytes.{count_of, records, records_of}
 use Rattle.files.specs.Codes.{in_our_codes}
 use Rattle.files.specs.Writing.{flat}
-use Rattle.files.specs.Case.{Form, form, codes_of, rule_bytes, rule_records}
+use Rattle.files.specs.Case.{case_bodies, code_body, Form, form, codes_of, rule_bytes, rule_records}
 
--- the lines of a form's contents, 0 for none
-unfoldable pub lines_of : Option Form → ℕ
-lines_of none = 0
-lines_of (some f) = length f.bodies
+-- the form that an answer of the code stands for
+unfoldable pub the_form : Answer FormValue → Option Form
+the_form None = none
+the_form (Some Plain) = some (record { bodies = case_bodies; codes = 0 })
+the_form (Some Coded) = some (record { bodies = case_bodies ++ code_body 8 ∷ []; codes = 8 })
 
 -- the codes of a form's record
 unfoldable pub codes_in : Option Form → ℕ

@@ -5,6 +5,7 @@ ghost use Rattle.std.specs.Prelude.{◌≡◌, true, [], ◌∷◌, map, ◌<◌
 ghost use Rattle.words.specs.Lists.{every};
 ghost use Rattle.words.specs.Order.{rising};
 ghost use Rattle.std.proofs.lemmas.List.Edits.{sets};
+ghost use Rattle.replies.specs.Numbers.{refusal_code};
 ghost use Rattle.files.specs.Bytes.{records};
 ghost use Rattle.files.specs.Codes.{codes_right};
 ghost use Rattle.files.specs.Case;
@@ -13,74 +14,77 @@ ghost use Rattle.files.specs.Case.{edge_bytes, edge_right, edge_records, entries
 ghost use Rattle.bytes_in.specs.Records.{body_of};
 ghost use Rattle.case_records.specs.Values.{the_head, the_edge};
 ghost use Rattle.case_records.specs.Keys.{edge_order};
-ghost use Rattle.case_file.specs.Forms.{lines_of, codes_in, has_codes, our_rules};
+ghost use Rattle.case_file.specs.Forms.{the_form, has_codes, our_rules};
 
-use case_records::{Edge, Head};
+use bytes_in::Body;
+use case_records::{Edge, Head, RightHead};
 use limits::Limits;
+use replies::Refusal;
 
-// Kind, least and most number of records and bytes of a record of each body.
-const BODIES: [u16; 20] = [
-    1,
-    1,
-    1,
-    Limits::HEAD_BYTES as u16,
-    2,
-    0,
-    Limits::RULES as u16,
-    Limits::RULE_BYTES as u16,
-    3,
-    0,
-    Limits::EDGES as u16,
-    Limits::EDGE_BYTES as u16,
-    4,
-    0,
-    Limits::MOVES as u16,
-    Limits::MOVE_BYTES as u16,
-    5,
-    1,
-    1,
-    Limits::OPERATIONS as u16,
+// The bodies of a case, the last only where it has a record of operation codes.
+const BODIES: [Body; Limits::CODED_CONTENTS] = [
+    Body {
+        kind: 1,
+        least: 1,
+        most: 1,
+        size: Limits::HEAD_BYTES as u16,
+    },
+    Body {
+        kind: 2,
+        least: 0,
+        most: Limits::RULES as u16,
+        size: Limits::RULE_BYTES as u16,
+    },
+    Body {
+        kind: 3,
+        least: 0,
+        most: Limits::EDGES as u16,
+        size: Limits::EDGE_BYTES as u16,
+    },
+    Body {
+        kind: 4,
+        least: 0,
+        most: Limits::MOVES as u16,
+        size: Limits::MOVE_BYTES as u16,
+    },
+    Body {
+        kind: 5,
+        least: 1,
+        most: 1,
+        size: Limits::OPERATIONS as u16,
+    },
 ];
 
-// How a case is written: the lines of its contents, which no case has 0 of, and the codes in its record of operation codes, 0 without one.
+// How a case is written: without or with a record of operation codes.
 #[derive(Clone, Copy)]
-struct Form {
-    lines: usize,
-    codes: usize,
+enum Form {
+    Plain,
+    Coded,
 }
 
 // The form by the first byte.
-fn form_of(first: u64) -> Form
-    ensures lines_value { result.lines ≡ lines_of (form_of first) }
-    ensures codes_value { result.codes ≡ codes_in (form_of first) }
+fn form_of(first: u64) -> Option<Form>
+    ensures { the_form result ≡ form_of first }
 {
-    if first == Limits::CASE_FIRST {
-        return Form {
-            lines: Limits::CASE_CONTENTS,
-            codes: 0,
-        };
+    match first {
+        Limits::CASE_FIRST => Some(Form::Plain),
+        Limits::CODED_FIRST => Some(Form::Coded),
+        _ => None,
     }
-    if first == Limits::CODED_FIRST {
-        return Form {
-            lines: Limits::CODED_CONTENTS,
-            codes: Limits::OPERATIONS,
-        };
-    }
-    Form { lines: 0, codes: 0 }
 }
 
 // The first byte, the contents, the counts and the length are right.
 fn case_placed(file: &[u8]) -> bool
     ensures { result ≡ case_placed file.now }
 {
-    if file.len() == 0 {
+    if file.is_empty() {
         return false;
     }
-    let lines = form_of(bytes_in::byte_at(file, 0)).lines;
-    if lines == 0 {
-        return false;
+    match form_of(bytes_in::byte_at(file, 0)) {
+        Some(Form::Plain) => bytes_in::placed(file, &BODIES[..Limits::CASE_CONTENTS]),
+        Some(Form::Coded) => bytes_in::placed(file, &BODIES[..Limits::CODED_CONTENTS]),
+        None => false,
     }
-    bytes_in::placed(file, &BODIES[0..4 * lines])
 }
 
 // Every rule of the body keeps its bounds.
@@ -88,46 +92,23 @@ fn rules_right(h: Head, body: &[u8], n: usize) -> bool
     requires { (n * 5 ≤ length body.now) × (n ≤ 256) }
     ensures { result ≡ every (rule_right (the_head h)) (map rule_bytes (records n 5 body.now)) }
 {
-    let mut i: usize = 0;
-    while i < n {
-        let a = i * Limits::RULE_BYTES;
-        let e = a + Limits::RULE_BYTES;
-        if !case_records::rule_right(h, &body[a..e]) {
-            return false;
-        }
-        i += 1;
-    }
-    true
+    (0..n).all(|i| case_records::rule_right(h, bytes_in::record(body, i, Limits::RULE_BYTES)))
 }
 
 // Every edge of the body keeps its bounds.
-fn edges_right(h: Head, body: &[u8], n: usize) -> bool
-    requires { (n * 4 ≤ length body.now) × (n ≤ 64) × (head_right (the_head h) ≡ true) }
-    ensures { result ≡ every (edge_right (the_head h)) (map edge_bytes (records n 4 body.now)) }
+fn edges_right(h: RightHead, body: &[u8], n: usize) -> bool
+    requires { (n * 4 ≤ length body.now) × (n ≤ 64) }
+    ensures { result ≡ every (edge_right (the_head h.head)) (map edge_bytes (records n 4 body.now)) }
 {
-    let mut i: usize = 0;
-    while i < n {
-        if !case_records::edge_right(h, case_records::edge_at(body, i)) {
-            return false;
-        }
-        i += 1;
-    }
-    true
+    (0..n).all(|i| case_records::edge_right(h, case_records::edge_at(body, i)))
 }
 
 // Every move of the body keeps its bounds, where there are so many order-1 states.
-fn moves_right(h: Head, states: u64, body: &[u8], n: usize) -> bool
-    requires { (n * 19 ≤ length body.now) × (n ≤ 1024) × (head_right (the_head h) ≡ true) }
-    ensures { result ≡ every (move_right (the_head h) states) (map move_of (records n 19 body.now)) }
+fn moves_right(h: RightHead, states: u64, body: &[u8], n: usize) -> bool
+    requires { (n * 19 ≤ length body.now) × (n ≤ 1024) }
+    ensures { result ≡ every (move_right (the_head h.head) states) (map move_of (records n 19 body.now)) }
 {
-    let mut i: usize = 0;
-    while i < n {
-        if !case_records::move_right(h, states, case_records::move_at(body, i)) {
-            return false;
-        }
-        i += 1;
-    }
-    true
+    (0..n).all(|i| case_records::move_right(h, states, case_records::move_at(body, i)))
 }
 
 // 1 for an edge of a control, which is an entry, and 0 for one of an inner state.
@@ -135,10 +116,7 @@ pub fn entry_count(h: Head, e: Edge) -> u64
     ensures value { result ≡ length (entries_of (the_head h) (the_edge e ∷ [])) }
     ensures upper_bound { result ≤ 1 }
 {
-    if e.state < h.controls {
-        return 1;
-    }
-    0
+    u64::from(e.state < h.controls)
 }
 
 // The number of entries among the edges of the body.
@@ -147,11 +125,9 @@ fn entries_in(h: Head, body: &[u8], n: usize) -> u64
     ensures value { result ≡ length (entries_of (the_head h) (map edge_bytes (records n 4 body.now))) }
     ensures upper_bound { result ≤ 64 }
 {
-    let mut i: usize = 0;
     let mut count: u64 = 0;
-    while i < n {
+    for i in 0..n {
         count += entry_count(h, case_records::edge_at(body, i));
-        i += 1;
     }
     count
 }
@@ -161,16 +137,10 @@ fn edges_rising(h: Head, body: &[u8], n: usize) -> bool
     requires { (n * 4 ≤ length body.now) × (n ≤ 64) }
     ensures { result ≡ rising (edge_order (the_head h)) (map edge_bytes (records n 4 body.now)) }
 {
-    let mut i: usize = 0;
-    while i + 1 < n {
-        let x = case_records::edge_at(body, i);
-        let y = case_records::edge_at(body, i + 1);
-        if !case_records::edge_before(h, x, y) {
-            return false;
-        }
-        i += 1;
-    }
-    true
+    (1..n).all(|i| {
+        let before = case_records::edge_at(body, i - 1);
+        case_records::edge_before(h, before, case_records::edge_at(body, i))
+    })
 }
 
 // The moves of the body are strictly increasing.
@@ -178,19 +148,14 @@ fn moves_rising(body: &[u8], n: usize) -> bool
     requires { (n * 19 ≤ length body.now) × (n ≤ 1024) }
     ensures { result ≡ rising move_key (map move_of (records n 19 body.now)) }
 {
-    let mut i: usize = 0;
-    while i + 1 < n {
-        let x = case_records::move_at(body, i);
-        let y = case_records::move_at(body, i + 1);
-        if !case_records::move_before(x, y) {
-            return false;
-        }
-        i += 1;
-    }
-    true
+    (1..n).all(|i| {
+        let before = case_records::move_at(body, i - 1);
+        case_records::move_before(before, case_records::move_at(body, i))
+    })
 }
 
 // ---- the file's bodies
+// Kept (2): document 01 names this form, a part of the file for each body (DECISIONS, 18): the parts go by names.
 
 // The head of a file whose bodies are in place.
 pub fn head_of(file: &[u8]) -> Head
@@ -229,7 +194,7 @@ fn has_codes(file: &[u8]) -> bool
     requires { case_placed file.now ≡ true }
     ensures { result ≡ has_codes file.now }
 {
-    form_of(bytes_in::byte_at(file, 0)).codes != 0
+    bytes_in::byte_at(file, 0) == Limits::CODED_FIRST
 }
 
 // The record of operation codes of a file that has one.
@@ -245,10 +210,7 @@ fn file_codes_right(file: &[u8]) -> bool
     requires { case_placed file.now ≡ true }
     ensures { result ≡ codes_right (codes_of file.now) }
 {
-    if has_codes(file) {
-        return operations::codes_right(code_record(file));
-    }
-    true
+    !has_codes(file) || operations::codes_right(code_record(file))
 }
 
 // Writes the rules of a file whose bodies are in place, in our codes.
@@ -277,9 +239,9 @@ fn file_rules_right(h: Head, file: &[u8]) -> bool
 }
 
 // Every edge of the file keeps its bounds.
-fn file_edges_right(h: Head, file: &[u8]) -> bool
-    requires { (case_placed file.now ≡ true) × (head_right (the_head h) ≡ true) }
-    ensures { result ≡ every (edge_right (the_head h)) (edge_records file.now) }
+fn file_edges_right(h: RightHead, file: &[u8]) -> bool
+    requires { case_placed file.now ≡ true }
+    ensures { result ≡ every (edge_right (the_head h.head)) (edge_records file.now) }
 {
     edges_right(
         h,
@@ -310,9 +272,9 @@ fn states_of(h: Head, file: &[u8]) -> u64
 }
 
 // Every move of the file keeps its bounds, where there are so many order-1 states.
-fn file_moves_right(h: Head, states: u64, file: &[u8]) -> bool
-    requires { (case_placed file.now ≡ true) × (head_right (the_head h) ≡ true) }
-    ensures { result ≡ every (move_right (the_head h) states) (move_records file.now) }
+fn file_moves_right(h: RightHead, states: u64, file: &[u8]) -> bool
+    requires { case_placed file.now ≡ true }
+    ensures { result ≡ every (move_right (the_head h.head) states) (move_records file.now) }
 {
     moves_right(
         h,
@@ -327,17 +289,13 @@ fn records_right(h: Head, file: &[u8]) -> bool
     requires { (case_placed file.now ≡ true) × (head_right (the_head h) ≡ true) × (the_head h ≡ Case.head file.now) }
     ensures { result ≡ records_right file.now }
 {
-    if !file_rules_right(h, file) {
-        return false;
-    }
-    if !file_edges_right(h, file) {
-        return false;
-    }
     let states = states_of(h, file);
-    if (Limits::STATES1 as u64) < states {
-        return false;
-    }
-    file_moves_right(h, states, file)
+    let few = states <= Limits::STATES1 as u64;
+    let right = RightHead { head: h };
+    file_rules_right(h, file)
+        && file_edges_right(right, file)
+        && few
+        && file_moves_right(right, states, file)
 }
 
 // Edges, entries and moves are strictly increasing.
@@ -345,35 +303,30 @@ fn records_rising(h: Head, file: &[u8]) -> bool
     requires { (case_placed file.now ≡ true) × (the_head h ≡ Case.head file.now) }
     ensures { result ≡ increasing file.now }
 {
-    if edges_rising(
-        h,
-        edge_body(file),
-        bytes_in::count_of(file, Limits::EDGE_BODY),
-    ) {
-        return moves_rising(move_body(file), bytes_in::count_of(file, Limits::MOVE_BODY));
-    }
-    false
+    let edges = bytes_in::count_of(file, Limits::EDGE_BODY);
+    let moves = bytes_in::count_of(file, Limits::MOVE_BODY);
+    edges_rising(h, edge_body(file), edges) && moves_rising(move_body(file), moves)
 }
 
-// 0 for a sound case, else its refusal: from 1 to 4, or 12.
-pub fn check_case(file: &[u8]) -> u64
-    ensures { result ≡ case_refusal file.now }
+// The refusal of a case that is not sound: 1 to 4, or 12.
+pub fn check_case(file: &[u8]) -> Result<(), Refusal>
+    ensures { refusal_code result ≡ case_refusal file.now }
 {
     if !case_placed(file) {
-        return 1;
+        return Err(Refusal::CaseContents);
     }
     let h = head_of(file);
     if !case_records::head_right(h) {
-        return 2;
+        return Err(Refusal::CaseHead);
     }
     if !file_codes_right(file) {
-        return 12;
+        return Err(Refusal::ToolCodes);
     }
     if !records_right(h, file) {
-        return 3;
+        return Err(Refusal::CaseRecords);
     }
     if !records_rising(h, file) {
-        return 4;
+        return Err(Refusal::CaseOrder);
     }
-    0
+    Ok(())
 }

@@ -4,10 +4,6 @@ pub mod Laws
 use Rattle.std.specs.Prelude.{ℕ, Bool, true, false, List, [], ◌∷◌, eqb, ltb}
 use Rattle.files.specs.Case.{Head, EdgeBytes}
 
--- the order of two keys that begin with x and y, by the order of their rests
-unfoldable pub less_then : ℕ → ℕ → Bool → Bool
-less_then x y rest = elim (ltb x y) [ true ↦ true | false ↦ elim (eqb x y) [ true ↦ rest | false ↦ false ] ]
-
 -- the second byte as it counts in the order of edges: that of an entry does not
 unfoldable pub order_byte : Head → EdgeBytes → ℕ
 order_byte h x = elim (ltb x.state h.P) [ true ↦ 0 | false ↦ x.first ]

@@ -9,15 +9,18 @@ ghost use Rattle.bytes_in.specs.Records.{record_at};
 ghost use Rattle.case_records.specs.Values.{the_head, the_operation, code_of, the_rule, the_edge};
 ghost use Rattle.tables.specs.Records.{as_move};
 ghost use Rattle.case_records.specs.Bounds.{first_right};
-ghost use Rattle.case_records.specs.Keys.{less_then, order_byte, edge_order};
+ghost use Rattle.case_records.specs.Keys.{order_byte, edge_order};
+
+mod rules;
 
 use limits::Limits;
+pub use rules::Rules;
 use tables::Move;
 
 // ---- values
 
 // The numbers of controls P, inner order-2 states I, inner order-1 states J and symbols A, and the final sets.
-#[derive(Clone, Copy)]
+#[derive(Clone, Copy, PartialEq, Eq)]
 pub struct Head {
     pub controls: u64,
     pub inner2: u64,
@@ -27,8 +30,15 @@ pub struct Head {
     pub final1: u64,
 }
 
-// The eight operations; the first three name a symbol b.
+// A head whose numbers and final sets are in range.
 #[derive(Clone, Copy)]
+pub struct RightHead {
+    pub head: Head,
+    ghost right: { head_right (the_head head) ≡ true },
+}
+
+// The eight operations; the first three name a symbol b.
+#[derive(Clone, Copy, PartialEq, Eq)]
 pub enum Operation {
     Rewrite(u64),
     Push1(u64),
@@ -41,7 +51,7 @@ pub enum Operation {
 }
 
 // The rule (p, a, operation, b, p').
-#[derive(Clone, Copy)]
+#[derive(Clone, Copy, PartialEq, Eq)]
 pub struct Rule {
     pub control: u64,
     pub symbol: u64,
@@ -50,7 +60,7 @@ pub struct Rule {
 }
 
 // An edge's order-2 state, its order-1 state or 254 or 255 (`first`, the second byte) and its set S.
-#[derive(Clone, Copy)]
+#[derive(Clone, Copy, PartialEq, Eq)]
 pub struct Edge {
     pub state: u64,
     pub first: u64,
@@ -75,6 +85,7 @@ pub fn read_head(b: &[u8]) -> Head
 }
 
 // The operation of our code, from 1 to 8.
+// Kept (4): `From` takes one value, and the operation needs b beside the code.
 fn operation_of(code: u64, b: u64) -> Operation
     ensures { the_operation result ≡ operation_of code b }
 {
@@ -91,6 +102,7 @@ fn operation_of(code: u64, b: u64) -> Operation
 }
 
 // Our code of the operation.
+// Kept (4): `u64::from(op)` is no plainer, since it does not say that the number is our code.
 pub fn code_of(op: Operation) -> u64
     ensures { result ≡ code_of (the_operation op) }
 {
@@ -148,14 +160,14 @@ fn read_move(b: &[u8]) -> Move
     }
 }
 
+// Kept (2): tried as a trait of records; the impl for `tables::Move` is refused here (orphan-impl), and each reader is one line.
+
 // Record number i of body 2, in our codes.
 pub fn rule_at(body: &[u8], i: usize) -> Rule
     requires { i * 5 + 5 ≤ length body.now }
     ensures { the_rule result ≡ rule_of (rule_bytes (record_at 5 i body.now)) }
 {
-    let a = i * Limits::RULE_BYTES;
-    let e = a + Limits::RULE_BYTES;
-    read_rule(&body[a..e])
+    read_rule(bytes_in::record(body, i, Limits::RULE_BYTES))
 }
 
 // Record number i of body 3.
@@ -163,9 +175,7 @@ pub fn edge_at(body: &[u8], i: usize) -> Edge
     requires { i * 4 + 4 ≤ length body.now }
     ensures { the_edge result ≡ edge_bytes (record_at 4 i body.now) }
 {
-    let a = i * Limits::EDGE_BYTES;
-    let e = a + Limits::EDGE_BYTES;
-    read_edge(&body[a..e])
+    read_edge(bytes_in::record(body, i, Limits::EDGE_BYTES))
 }
 
 // Record number i of body 4.
@@ -173,9 +183,7 @@ pub fn move_at(body: &[u8], i: usize) -> Move
     requires { i * 19 + 19 ≤ length body.now }
     ensures { as_move result ≡ move_of (record_at 19 i body.now) }
 {
-    let a = i * Limits::MOVE_BYTES;
-    let e = a + Limits::MOVE_BYTES;
-    read_move(&body[a..e])
+    read_move(bytes_in::record(body, i, Limits::MOVE_BYTES))
 }
 
 // ---- bounds
@@ -201,38 +209,17 @@ fn inner2(h: Head, s: u64) -> bool
     requires { (h.controls ≤ 8) × (h.inner2 ≤ 8) }
     ensures { result ≡ Case.inner2 (the_head h) s }
 {
-    if sets::none_below(s, h.controls) {
-        return existing2(h, s);
-    }
-    false
+    sets::none_below(s, h.controls) && existing2(h, s)
 }
 
 // The numbers and the final sets are in range: the final order-2 set may name controls.
 pub fn head_right(h: Head) -> bool
     ensures { result ≡ head_right (the_head h) }
 {
-    if h.controls < 1 {
-        return false;
-    }
-    if Limits::CONTROLS < h.controls {
-        return false;
-    }
-    if Limits::INNER2 < h.inner2 {
-        return false;
-    }
-    if Limits::INNER1 < h.inner1 {
-        return false;
-    }
-    if h.symbols < 1 {
-        return false;
-    }
-    if Limits::SYMBOLS < h.symbols {
-        return false;
-    }
-    if existing2(h, h.final2) {
-        return inner1(h, h.final1);
-    }
-    false
+    let controls = 1 <= h.controls && h.controls <= Limits::CONTROLS;
+    let inner = h.inner2 <= Limits::INNER2 && h.inner1 <= Limits::INNER1;
+    let symbols = 1 <= h.symbols && h.symbols <= Limits::SYMBOLS;
+    controls && inner && symbols && existing2(h, h.final2) && inner1(h, h.final1)
 }
 
 // The record of body 2, in our codes, names a control, a symbol, a code, a right b and a control.
@@ -240,23 +227,13 @@ pub fn rule_right(h: Head, b: &[u8]) -> bool
     requires { length b.now ≡ 5 }
     ensures { result ≡ rule_right (the_head h) (rule_bytes b.now) }
 {
+    let control = bytes_in::byte_at(b, 0);
+    let symbol = bytes_in::byte_at(b, 1);
     let code = bytes_in::byte_at(b, 2);
-    if h.controls <= bytes_in::byte_at(b, 0) {
-        return false;
-    }
-    if h.symbols <= bytes_in::byte_at(b, 1) {
-        return false;
-    }
-    if code < 1 {
-        return false;
-    }
-    if (Limits::OPERATIONS as u64) < code {
-        return false;
-    }
-    if h.controls <= bytes_in::byte_at(b, 4) {
-        return false;
-    }
-    operations::operand_right(code, h.symbols, bytes_in::byte_at(b, 3))
+    let next = bytes_in::byte_at(b, 4);
+    let exist = control < h.controls && symbol < h.symbols && next < h.controls;
+    let known = 1 <= code && code <= Limits::OPERATIONS as u64;
+    exist && known && operations::operand_right(code, h.symbols, bytes_in::byte_at(b, 3))
 }
 
 // Whether the second byte is right for the state: 254 or 255 for a control, and an inner order-1 state for an inner state.
@@ -264,105 +241,60 @@ fn first_right(h: Head, e: Edge) -> bool
     ensures { result ≡ first_right (the_head h) (the_edge e) }
 {
     if e.state < h.controls {
-        if e.first == Limits::FINAL_MARK {
-            return true;
-        }
-        return e.first == Limits::ENTRY_MARK;
+        matches!(e.first, Limits::FINAL_MARK | Limits::ENTRY_MARK)
+    } else {
+        e.first < h.inner1
     }
-    e.first < h.inner1
 }
 
 // The edge names a state, a right second byte and inner order-2 states.
-pub fn edge_right(h: Head, e: Edge) -> bool
-    requires { head_right (the_head h) ≡ true }
-    ensures { result ≡ edge_right (the_head h) (the_edge e) }
+pub fn edge_right(right: RightHead, e: Edge) -> bool
+    ensures { result ≡ edge_right (the_head right.head) (the_edge e) }
 {
-    if first_right(h, e) {
-        if h.controls + h.inner2 <= e.state {
-            return false;
-        }
-        return inner2(h, e.s);
-    }
-    false
+    let h = right.head;
+    first_right(h, e) && e.state < h.controls + h.inner2 && inner2(h, e.s)
 }
 
 // B is empty exactly at order 0, and names inner states of the annotation's order.
-fn annotation_right(h: Head, order: u64, b: u64) -> bool
-    requires { head_right (the_head h) ≡ true }
-    ensures { result ≡ annotation_right (the_head h) order b }
+fn annotation_right(right: RightHead, order: u64, b: u64) -> bool
+    ensures { result ≡ annotation_right (the_head right.head) order b }
 {
-    if order == 0 {
-        return b == 0;
-    }
-    if b == 0 {
-        return false;
-    }
     match order {
-        1 => inner1(h, b),
-        2 => inner2(h, b),
+        0 => b == 0,
+        1 => b != 0 && inner1(right.head, b),
+        2 => b != 0 && inner2(right.head, b),
         _ => false,
     }
 }
 
 // The move names an order-1 state, of which there are n, a symbol, a right B and inner order-1 states.
-pub fn move_right(h: Head, n: u64, m: Move) -> bool
-    requires { head_right (the_head h) ≡ true }
-    ensures { result ≡ move_right (the_head h) n (as_move m) }
+pub fn move_right(right: RightHead, n: u64, m: Move) -> bool
+    ensures { result ≡ move_right (the_head right.head) n (as_move m) }
 {
-    if n <= m.state {
-        return false;
-    }
-    if h.symbols <= m.symbol {
-        return false;
-    }
-    if annotation_right(h, m.order, m.b) {
-        return inner1(h, m.r);
-    }
-    false
+    let h = right.head;
+    m.state < n && m.symbol < h.symbols && annotation_right(right, m.order, m.b) && inner1(h, m.r)
 }
 
 // ---- order
-
-// The order of two keys that begin with x and y, the order of their rests being known.
-fn key_before(x: u64, y: u64, rest: bool) -> bool
-    ensures { result ≡ less_then x y rest }
-{
-    if x < y {
-        return true;
-    }
-    if x == y {
-        return rest;
-    }
-    false
-}
 
 // The second byte as it counts in the order of edges: that of an entry does not, so that a second entry for the same state and S does not
 // come after the first.
 fn order_byte(h: Head, e: Edge) -> u64
     ensures { result ≡ order_byte (the_head h) (the_edge e) }
 {
-    if e.state < h.controls {
-        return 0;
-    }
-    e.first
+    if e.state < h.controls { 0 } else { e.first }
 }
 
 // The edge x comes before y: by (state, S, second byte), and entries by (state, S).
 pub fn edge_before(h: Head, x: Edge, y: Edge) -> bool
     ensures { result ≡ less (edge_order (the_head h) (the_edge x)) (edge_order (the_head h) (the_edge y)) }
 {
-    let first = key_before(order_byte(h, x), order_byte(h, y), false);
-    let s = key_before(x.s, y.s, first);
-    key_before(x.state, y.state, s)
+    (x.state, x.s, order_byte(h, x)) < (y.state, y.s, order_byte(h, y))
 }
 
 // The move x comes before y by (state, symbol, order, B, R).
 pub fn move_before(x: Move, y: Move) -> bool
     ensures { result ≡ less (move_key (as_move x)) (move_key (as_move y)) }
 {
-    let r = key_before(x.r, y.r, false);
-    let b = key_before(x.b, y.b, r);
-    let order = key_before(x.order, y.order, b);
-    let symbol = key_before(x.symbol, y.symbol, order);
-    key_before(x.state, y.state, symbol)
+    (x.state, x.symbol, x.order, x.b, x.r) < (y.state, y.symbol, y.order, y.b, y.r)
 }

@@ -45,10 +45,8 @@ fn load_inner(h: Head, body: &[u8], n: usize, t: &mut [u64]) -> usize
     ensures value { result ≡ length (inner_edges (the_head h) (map edge_bytes (records n 4 body.now))) }
     ensures upper_bound { result ≤ n }
 {
-    let mut i = n;
     let mut k: usize = 0;
-    while 0 < i {
-        i -= 1;
+    for i in (0..n).rev() {
         k = add_inner(h, case_records::edge_at(body, i), t, k);
     }
     k
@@ -69,9 +67,10 @@ fn add_entry(h: Head, e: case_records::Edge, t: &mut [u64], k: usize) -> usize
             s: e.s,
         };
         tables::put_entry(t, k, x);
-        return k + 1;
+        k + 1
+    } else {
+        k
     }
-    k
 }
 
 // Writes the entries among the n edges of the body. Answers their number.
@@ -80,11 +79,9 @@ fn load_entries(h: Head, body: &[u8], n: usize, t: &mut [u64]) -> usize
     ensures t_after { t.new ≡ written entry_row t.old 0 (entries_of (the_head h) (map edge_bytes (records n 4 body.now))) }
     ensures value { result ≡ length (entries_of (the_head h) (map edge_bytes (records n 4 body.now))) }
 {
-    let mut i: usize = 0;
     let mut k: usize = 0;
-    while i < n {
+    for i in 0..n {
         k = add_entry(h, case_records::edge_at(body, i), t, k);
-        i += 1;
     }
     k
 }
@@ -96,12 +93,11 @@ fn final_entry(h: Head, e: case_records::Edge, r: u64) -> u64
     requires { e.state < h.controls → r < 64 }
     ensures { result ≡ set_of (final_entries (the_head h) r (the_edge e ∷ [])) }
 {
-    if e.state < h.controls {
-        if e.first == Limits::FINAL_MARK {
-            return sets::one_bit(r);
-        }
+    if e.state < h.controls && e.first == Limits::FINAL_MARK {
+        sets::one_bit(r)
+    } else {
+        0
     }
-    0
 }
 
 // The set of the final entries among the n edges of the body, as order-1 states.
@@ -109,14 +105,12 @@ fn final_entries(h: Head, body: &[u8], n: usize) -> u64
     requires { (n * 4 ≤ length body.now) × (n ≤ 64) × (h.inner1 + length (entries_of (the_head h) (map edge_bytes (records n 4 body.now))) ≤ 64) }
     ensures { result ≡ set_of (final_entries (the_head h) h.inner1 (map edge_bytes (records n 4 body.now))) }
 {
-    let mut i: usize = 0;
     let mut r = h.inner1;
     let mut set: u64 = 0;
-    while i < n {
+    for i in 0..n {
         let e = case_records::edge_at(body, i);
         set = sets::join(set, final_entry(h, e, r));
         r += case_file::entry_count(h, e);
-        i += 1;
     }
     set
 }
@@ -128,14 +122,11 @@ fn count_move(entries: &mut [u64], n: usize, inner1: u64, r: u64)
     requires { (n * entry_width ≤ length entries.old) × ((i : ℕ) → i < n → (row_at counted_row entries.old i).moves + 1 < 2 ^ 64) }
     ensures { entries.new ≡ move_counted inner1 n r entries.old }
 {
-    if r < inner1 {
-        return;
+    if let Some(k) = r.checked_sub(inner1) {
+        if k < n as u64 {
+            tables::raise_count(entries, k as usize);
+        }
     }
-    let k = (r - inner1) as usize;
-    if n <= k {
-        return;
-    }
-    tables::raise_count(entries, k);
 }
 
 // Writes the n moves of the body, and counts each with its entry. There are `known` entries, from order-1 state `inner1` on, without moves.
@@ -145,12 +136,10 @@ fn load_moves(body: &[u8], n: usize, t: &mut [u64], inner1: u64, known: usize, e
     ensures entries_after { entries.new ≡ written counted_row entries.old 0
         (with_counts (map move_of (records n 19 body.now)) inner1 (rows_in entry_row known entries.old)) }
 {
-    let mut i: usize = 0;
-    while i < n {
+    for i in 0..n {
         let m = case_records::move_at(body, i);
         tables::put_move(t, i, m);
         count_move(entries, known, inner1, m.state);
-        i += 1;
     }
 }
 

@@ -2,25 +2,17 @@
 #![tactic(auto)]
 
 ghost use Rattle.std.specs.Prelude.{◌≡◌, ◌<◌, ◌≤◌, ◌+◌, ◌*◌, [], ◌∷◌, length};
-ghost use Rattle.std.proofs.lemmas.List.Edits.{sets};
-ghost use Rattle.cell_memory.specs.Memory.{cell_in, choice_in, with_cell, with_choice, with_choices};
+ghost use Rattle.cell_memory.specs.Memory.{cell_in, choice_in, fields, with_cell, with_choice, with_choices};
 
 use limits::Limits;
 
 // A cell by value.
-#[derive(Clone, Copy)]
+#[derive(Clone, Copy, PartialEq, Eq)]
 pub enum Cell {
     Empty1,
     Symbol(u16, u16, u16),
     Empty2,
     Above(u16, u16),
-}
-
-// A 16-bit word as a number.
-fn wide(x: u16) -> u64
-    ensures { result ≡ x }
-{
-    x as u64
 }
 
 // Cell i.
@@ -29,8 +21,7 @@ pub fn cell_at(cells: &[u16], i: usize) -> Cell
     ensures { result ≡ cell_in cells.now i }
 {
     let at = i * Limits::CELL_WORDS;
-    let kind = wide(cells[at]);
-    match kind {
+    match u64::from(cells[at]) {
         Limits::SYMBOL_CELL => Cell::Symbol(cells[at + 1], cells[at + 2], cells[at + 3]),
         Limits::EMPTY2_CELL => Cell::Empty2,
         Limits::ABOVE_CELL => Cell::Above(cells[at + 2], cells[at + 3]),
@@ -51,15 +42,16 @@ pub fn choice_at(cells: &[u16], i: usize, q: u64) -> u16
     }
 }
 
-// The four fields of the cell whose words begin at `at`.
-fn put_fields(cells: &mut [u16], at: usize, kind: u16, symbol: u16, first: u16, second: u16)
-    requires { at + 4 ≤ length cells.old }
-    ensures { cells.new ≡ sets cells.old at (kind ∷ symbol ∷ first ∷ second ∷ []) }
+// The kind, symbol, first and second of a cell.
+fn fields_of(cell: Cell) -> [u16; Limits::FIELD_WORDS]
+    ensures { result ≡ fields cell }
 {
-    cells[at] = kind;
-    cells[at + 1] = symbol;
-    cells[at + 2] = first;
-    cells[at + 3] = second;
+    match cell {
+        Cell::Empty1 => [Limits::EMPTY1_CELL as u16, 0, 0, 0],
+        Cell::Symbol(a, u, s) => [Limits::SYMBOL_CELL as u16, a, u, s],
+        Cell::Empty2 => [Limits::EMPTY2_CELL as u16, 0, 0, 0],
+        Cell::Above(w, t) => [Limits::ABOVE_CELL as u16, 0, w, t],
+    }
 }
 
 // Cell i is this cell, with no choice for any state.
@@ -68,14 +60,10 @@ pub fn put_cell(cells: &mut [u16], i: usize, cell: Cell)
     ensures { cells.new ≡ with_cell cells.old i cell }
 {
     let at = i * Limits::CELL_WORDS;
+    let choices = at + Limits::FIELD_WORDS;
     let end = at + Limits::CELL_WORDS;
-    zeroing::zero_u16(&mut cells[at..end]);
-    match cell {
-        Cell::Empty1 => put_fields(cells, at, Limits::EMPTY1_CELL as u16, 0, 0, 0),
-        Cell::Symbol(a, u, s) => put_fields(cells, at, Limits::SYMBOL_CELL as u16, a, u, s),
-        Cell::Empty2 => put_fields(cells, at, Limits::EMPTY2_CELL as u16, 0, 0, 0),
-        Cell::Above(w, t) => put_fields(cells, at, Limits::ABOVE_CELL as u16, 0, w, t),
-    }
+    cells[at..choices].copy_from_slice(&fields_of(cell));
+    cells[choices..end].fill(0);
 }
 
 // The choice of cell i for state q is n.
@@ -93,9 +81,6 @@ pub fn put_choices(cells: &mut [u16], i: usize, choices: &[u16])
     ensures { cells.new ≡ with_choices cells.old i choices.now }
 {
     let from = i * Limits::CELL_WORDS + Limits::FIELD_WORDS;
-    let mut q: usize = 0;
-    while q < Limits::STATES1 {
-        cells[from + q] = choices[q];
-        q += 1;
-    }
+    let end = from + Limits::STATES1;
+    cells[from..end].copy_from_slice(choices);
 }

@@ -43,12 +43,10 @@ pub fn root_after(op: Operation, n: usize, x: Top) -> usize
 {
     match op {
         Operation::Rewrite(_) => n + 1,
-        Operation::Push1(_) => n + 2,
-        Operation::Push2(_) => n + 2,
+        Operation::Push1(_) | Operation::Push2(_) => n + 2,
         Operation::Copy => n + 3,
-        Operation::Pop1 => n,
+        Operation::Pop1 | Operation::Collapse1 => n,
         Operation::Pop2 => x.below as usize,
-        Operation::Collapse1 => n,
         Operation::Collapse2 => x.annotation as usize,
     }
 }
@@ -76,7 +74,7 @@ fn pushed(n: u16, x: Top, b: u16, annotation: u16, i: usize) -> Cell
     }
     let new_top = Top {
         symbol: b,
-        annotation: annotation,
+        annotation,
         rest: n,
         below: x.below,
     };
@@ -91,12 +89,7 @@ fn copied(n: u16, x: Top, i: usize) -> Cell
     if i < 2 {
         return topping(n, x, i);
     }
-    let upper = Top {
-        symbol: x.symbol,
-        annotation: x.annotation,
-        rest: x.rest,
-        below: n + 1,
-    };
+    let upper = Top { below: n + 1, ..x };
     topping(n + 2, upper, i - 2)
 }
 
@@ -109,9 +102,7 @@ pub fn new_cell(op: Operation, n: u16, x: Top, i: usize) -> Cell
         Operation::Rewrite(b) => {
             let rewritten = Top {
                 symbol: b as u16,
-                annotation: x.annotation,
-                rest: x.rest,
-                below: x.below,
+                ..x
             };
             topping(n, rewritten, i)
         }
@@ -119,9 +110,8 @@ pub fn new_cell(op: Operation, n: u16, x: Top, i: usize) -> Cell
         Operation::Push2(b) => pushed(n, x, b as u16, x.below, i),
         Operation::Copy => copied(n, x, i),
         Operation::Pop1 => Cell::Above(x.rest, x.below),
-        Operation::Pop2 => Cell::Empty1,
         Operation::Collapse1 => Cell::Above(x.annotation, x.below),
-        Operation::Collapse2 => Cell::Empty1,
+        Operation::Pop2 | Operation::Collapse2 => Cell::Empty1,
     }
 }
 
@@ -132,11 +122,8 @@ fn put_cells(cells: &mut [u16], n: usize, op: Operation, x: Top)
     requires { ((n + new_cells (the_operation op)) * 68 ≤ length cells.old) × (n ≤ 4096) × (symbol_of (the_operation op) < 2 ^ 16) }
     ensures { cells.new ≡ with_cells cells.old n (cells_after (the_operation op) n x.symbol x.annotation x.rest x.below) }
 {
-    let count = new_cells(op);
-    let mut i: usize = 0;
-    while i < count {
+    for i in 0..new_cells(op) {
         cell_memory::put_cell(cells, n + i, new_cell(op, n as u16, x, i));
-        i += 1;
     }
 }
 
@@ -187,19 +174,19 @@ fn put_chosen(
 {
     match op {
         Operation::Rewrite(_) => choose_top(cells, n, choice),
-        Operation::Push1(_) => choose_pushed(cells, n, choice, chosen),
-        Operation::Push2(_) => choose_pushed(cells, n, choice, chosen),
+        Operation::Push1(_) | Operation::Push2(_) => choose_pushed(cells, n, choice, chosen),
         Operation::Copy => choose_copied(cells, n, choice, edges, chosen),
-        Operation::Pop1 => cell_memory::put_choice(cells, n, choice.control, choice.edge),
-        Operation::Pop2 => {}
-        Operation::Collapse1 => cell_memory::put_choice(cells, n, choice.control, choice.edge),
-        Operation::Collapse2 => {}
+        Operation::Pop1 | Operation::Collapse1 => {
+            cell_memory::put_choice(cells, n, choice.control, choice.edge)
+        }
+        Operation::Pop2 | Operation::Collapse2 => {}
     }
 }
 
 // ---- a step
 
 // The new cells of the operation, from cell n on, with their choices.
+// Kept (5): what may not change: it takes any two lent slices of 64 words.
 pub fn put_step(
     cells: &mut [u16],
     n: usize,

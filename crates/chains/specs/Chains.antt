@@ -2,7 +2,12 @@
 -- word 2,048 + i the element before element i with the same key: as a number plus 1, and 0 where there is none.
 -- Assumes nothing.
 pub mod Laws
-use Rattle.std.specs.Prelude.{ℕ, zero, suc, ◌+◌, ◌≤◌, ◌<◌, true, false, ◌≡◌, List, length, get_or, eqb}
+use Rattle.std.specs.Prelude.{ℕ, zero, suc, ◌+◌, ◌≤◌, ◌<◌, true, false, ◌≡◌, List, length, get_or, eqb, Option, Some, None}
+
+-- an element as its number plus 1, and none as 0
+abbrev pub number_after : Option ℕ → ℕ
+number_after None = 0
+number_after (Some i) = i + 1
 
 -- the last of the first n elements whose key is k, as its number plus 1; 0 where there is none
 unfoldable pub last_below : (ℕ → ℕ) → ℕ → ℕ → ℕ

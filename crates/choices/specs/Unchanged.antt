@@ -16,10 +16,6 @@ pub record Unchanged (A : Automaton) (q a : ℕ) (j : Joins) (c : ℕ) : Type 0 
   pub all_leave : 0 < c → (i : ℕ) → Memᴰ i (moves_of A q a) → (k : Joins) → join_move j (move_at A i) ≡ some k → k ≡ j
   pub one_leaves : 0 < c → Memᴰ (c - 1) (moves_of A q a) × (join_move j (move_at A (c - 1)) ≡ some j)
 
--- j and k are the same joins
-unfoldable pub same_joins : Joins → Joins → Bool
-same_joins j k = eqb j.order k.order && eqb j.B k.B && eqb j.R k.R
-
 -- the joins with move i, where it is a choice of state q on symbol a
 abbrev pub choice_at : List ℕ → ℕ → ℕ → Joins → ℕ → Option Joins
 choice_at moves q a j i = candidate_of q a j (row_at move_row moves i)

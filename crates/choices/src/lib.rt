@@ -9,35 +9,14 @@ ghost use Rattle.tables.specs.Rows.{rows_in};
 ghost use Rattle.tables.specs.Layouts.{move_row};
 ghost use Rattle.tables.specs.Held.{MovesStand};
 ghost use Rattle.move_index.specs.Keys.{ByState};
+ghost use Rattle.chains.specs.Chains.{number_after};
 ghost use Rattle.joins.specs.Joining.{as_joins};
-ghost use Rattle.choices.specs.Unchanged.{same_joins, Unchanged};
+ghost use Rattle.choices.specs.Unchanged.{Unchanged};
 
-use joins::{Joined, Joins};
+use joins::Joins;
 use limits::Limits;
 
-// Whether x and y are the same joins.
-fn same_joins(x: Joins, y: Joins) -> bool
-    ensures { result ≡ same_joins (as_joins x) (as_joins y) }
-{
-    if x.order != y.order {
-        return false;
-    }
-    if x.b != y.b {
-        return false;
-    }
-    x.r == y.r
-}
-
-// Whether x is a choice, and not the same as y.
-fn is_other(x: Joined, y: Joined) -> bool {
-    let Joined::To(k) = x else {
-        return false;
-    };
-    let Joined::To(l) = y else {
-        return true;
-    };
-    !same_joins(k, l)
-}
+// Kept (5): `move_index::MovesIndexed` would ask more than this clause does: entries, and chains by all words; so in the two functions below.
 
 // How many choices state q has, of which equal ones that follow each other count once; `most` where there are as many or more. A guide for
 // the order of work alone: no result depends on it, so nothing is said of it.
@@ -53,18 +32,18 @@ fn count(
     requires { MovesStand z moves.now × ByState z.moves moves.now states.now }
 {
     let mut n: usize = 0;
-    let mut latest = Joined::Nothing;
-    let mut c = chains::last(states, move_index::state_key(q, a));
-    while 0 < c {
+    let mut latest = None;
+    let mut next = chains::last(states, move_index::state_key(q, a));
+    while let Some(i) = next {
         if most <= n {
             return most;
         }
-        let x = joins::candidate(tables::move_at(moves, c - 1), q, a, j);
-        if is_other(x, latest) {
+        let x = joins::candidate(tables::move_at(moves, i), q, a, j);
+        if x.is_some() && x != latest {
             n += 1;
             latest = x;
         }
-        c = chains::before(states, c - 1);
+        next = chains::before(states, i);
     }
     n
 }
@@ -94,22 +73,28 @@ pub fn fewest(z: tables::Table, moves: &[u64], states: &[u16], left: u64, a: u64
     best
 }
 
-// Whether the choices of state q all leave j as it is: 0 where they do not or where there is none, otherwise 1 more than the number of the
-// oldest of them.
-pub fn unchanged(z: tables::Table, moves: &[u64], states: &[u16], q: u64, a: u64, j: Joins) -> usize
+// The oldest of the choices of state q, where they all leave j as it is.
+pub fn unchanged(
+    z: tables::Table,
+    moves: &[u64],
+    states: &[u16],
+    q: u64,
+    a: u64,
+    j: Joins,
+) -> Option<usize>
     requires { MovesStand z moves.now × ByState z.moves moves.now states.now }
-    ensures { (A : Automaton) → A.moves ≡ rows_in move_row z.moves moves.now → Unchanged A q a (as_joins j) result }
+    ensures { (A : Automaton) → A.moves ≡ rows_in move_row z.moves moves.now → Unchanged A q a (as_joins j) (number_after result) }
 {
-    let mut oldest: usize = 0;
-    let mut c = chains::last(states, move_index::state_key(q, a));
-    while 0 < c {
-        if let Joined::To(k) = joins::candidate(tables::move_at(moves, c - 1), q, a, j) {
-            if !same_joins(k, j) {
-                return 0;
+    let mut oldest = None;
+    let mut next = chains::last(states, move_index::state_key(q, a));
+    while let Some(i) = next {
+        if let Some(k) = joins::candidate(tables::move_at(moves, i), q, a, j) {
+            if k != j {
+                return None;
             }
-            oldest = c;
+            oldest = next;
         }
-        c = chains::before(states, c - 1);
+        next = chains::before(states, i);
     }
     oldest
 }

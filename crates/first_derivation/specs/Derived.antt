@@ -3,7 +3,7 @@
 pub mod Laws
 pub mod Small
 pub mod Choices
-use Rattle.std.specs.Prelude.{ℕ, ◌<◌, ◌^◌, ◌≡◌, List}
+use Rattle.std.specs.Prelude.{ℕ, ◌<◌, ◌^◌, ◌≡◌, List, get_or, None, Some, Option as Found}
 use Rattle.std.proofs.Math.Option.{Option, none, some, map}
 use Rattle.std.proofs.Math.ListN.{get_elem?}
 use Rattle.stacks.specs.Stack.{Operation, pop2}
@@ -14,8 +14,7 @@ use Rattle.walks.specs.Guide.{first_or_zero}
 use Rattle.results.specs.Collecting.{rule_in}
 use Rattle.first_reading.specs.First.{is_some}
 use Rattle.first_reading.specs.Answer.{written_all, Answers}
-use Rattle.first_derivation.specs.declared.First.{First}
-use Rattle.first_derivation.specs.declared.First.TheVariants.{Missing, Found}
+use Rattle.first_derivation.specs.declared.Derivation.{Derivation as DerivationWords}
 use Rattle.first_derivation.specs.Search.{derived, by_rule}
 use Rattle.first_derivation.specs.Premises.{edge_states, read_states}
 
@@ -35,15 +34,15 @@ pub record StepNumbers : Type 0 where
   pub rule : ℕ
   pub premise : ℕ
 
-abbrev pub found_in : First → Option StepNumbers
-found_in Missing = none
-found_in (Found n i) = some (record { rule = n; premise = i })
+abbrev pub found_in : Found DerivationWords → Option StepNumbers
+found_in None = none
+found_in (Some d) = some (record { rule = d.rule; premise = d.premise })
 
 abbrev pub step_of : Derivation → StepNumbers
 step_of d = record { rule = d.rule; premise = first_or_zero d.premise }
 
 -- The search for the first derivation of x answers r, and writes what it chose.
-pub record FindsFirst (A : Automaton) (rules : List Rule) (x : Result) (r : First) (es₀ es ms₀ ms : List ℕ) : Type 0 where
+pub record FindsFirst (A : Automaton) (rules : List Rule) (x : Result) (r : Found DerivationWords) (es₀ es ms₀ ms : List ℕ) : Type 0 where
   pub numbers : found_in r ≡ map step_of (first_derivation A rules x)
   pub written : Answers (first_derivation A rules x) (derivation_edges A rules) (derivation_moves A rules) (is_some (found_in r)) es₀ es ms₀ ms
 
@@ -52,6 +51,10 @@ pub record StatesSmall (A : Automaton) : Type 0 where
   pub rests_small : (i : ℕ) → (move_at A i).R < 2 ^ 64
   pub sets_small : (r : ℕ) → entry_set A r < 2 ^ 64
   pub firsts_small : (e : ℕ) → (edge_at A e).first < 64
+
+-- Words of 64 bits.
+pub record WordsFit (words : List ℕ) : Type 0 where
+  pub fits : (j : ℕ) → get_or words j 0 < 2 ^ 64
 
 -- what rule n of a body gives
 unfoldable pub rule_gives : Automaton → Result → List ℕ → ℕ → Option Derivation

@@ -4,7 +4,7 @@ pub mod Laws
 pub mod Moves
 pub mod Loops
 pub mod Rules
-use Rattle.std.specs.Prelude.{ℕ, Bool, ◌&&◌, ◌||◌, ◌≡◌, List, [], get_or, eqb}
+use Rattle.std.specs.Prelude.{ℕ, Bool, ◌&&◌, ◌||◌, ◌≡◌, List, [], get_or, eqb, None, Some, Option as Found}
 use Rattle.std.proofs.Math.Option.{Option, none, some, map}
 use Rattle.words.specs.Sets.{members}
 use Rattle.words.specs.Order.{same}
@@ -16,8 +16,6 @@ use Rattle.walks.specs.Guide.{first_or_zero}
 use Rattle.first_reading.specs.First.{only_if, is_some}
 use Rattle.first_reading.specs.Answer.{written_all, Answer, Answers}
 use Rattle.first_reading.specs.Search.{joins_key, wanted, Numbers, only_moves, first_reading}
-use Rattle.first_derivation.specs.declared.Premise.{Premise}
-use Rattle.first_derivation.specs.declared.Premise.TheVariants.{Nothing, By}
 use Rattle.first_derivation.specs.Search.{PremiseNumbers, with_premise, by_move, by_entry, first_move, first_step, by_rule}
 
 -- a move of an entry with set S gives x by a rewrite
@@ -92,26 +90,26 @@ abbrev pub TriesPremise : Automaton → ℕ → Result → Operation → ℕ →
 TriesPremise A a x op p' b i t es₀ es ms₀ ms = Answers (move_gives A a x op p' b i) (step_edges A op) (step_moves A op) t es₀ es ms₀ ms
 
 -- the number of the premise that was found (0 where the rule has none): in the code, and by the definition
-abbrev pub premise_in : Premise → Option ℕ
-premise_in Nothing = none
-premise_in (By i) = some i
+abbrev pub premise_in : Found ℕ → Option ℕ
+premise_in None = none
+premise_in (Some i) = some i
 
 abbrev pub premise_of : Option PremiseNumbers → Option ℕ
 premise_of o = map (λ s. first_or_zero s.premise) o
 
 -- A search for a step by the operation answers r: the number of the step's premise, or nothing; and it writes what it chose.
-pub record Finds (A : Automaton) (op : Operation) (o : Option PremiseNumbers) (r : Premise) (es₀ es ms₀ ms : List ℕ) : Type 0 where
+pub record Finds (A : Automaton) (op : Operation) (o : Option PremiseNumbers) (r : Found ℕ) (es₀ es ms₀ ms : List ℕ) : Type 0 where
   pub number : premise_in r ≡ premise_of o
   pub written : Answers o (step_edges A op) (step_moves A op) (is_some (premise_in r)) es₀ es ms₀ ms
 
 -- It is the search for the first move on b of an entry of p' that gives x.
-abbrev pub FindsMove : Automaton → ℕ → Result → Operation → ℕ → ℕ → Premise → List ℕ → List ℕ → List ℕ → List ℕ → Type 0
+abbrev pub FindsMove : Automaton → ℕ → Result → Operation → ℕ → ℕ → Found ℕ → List ℕ → List ℕ → List ℕ → List ℕ → Type 0
 FindsMove A a x op p' b r es₀ es ms₀ ms = Finds A op (first_move A a x op p' b) r es₀ es ms₀ ms
 
 -- It is the search for the first step to x by a rule on a with this operation, to control p'.
-abbrev pub FindsStep : Automaton → ℕ → Result → Operation → ℕ → Premise → List ℕ → List ℕ → List ℕ → List ℕ → Type 0
+abbrev pub FindsStep : Automaton → ℕ → Result → Operation → ℕ → Found ℕ → List ℕ → List ℕ → List ℕ → List ℕ → Type 0
 FindsStep A a x op p' r es₀ es ms₀ ms = Finds A op (first_step A a x op p') r es₀ es ms₀ ms
 
 -- It is the search for the first step to x by this rule.
-abbrev pub FindsByRule : Automaton → Result → Rule → Premise → List ℕ → List ℕ → List ℕ → List ℕ → Type 0
+abbrev pub FindsByRule : Automaton → Result → Rule → Found ℕ → List ℕ → List ℕ → List ℕ → List ℕ → Type 0
 FindsByRule A x ρ r es₀ es ms₀ ms = Finds A ρ.operation (by_rule A x ρ) r es₀ es ms₀ ms

@@ -10,7 +10,6 @@ use Rattle.automata.specs.Automaton.{Automaton, move_at, edge_at}
 use Rattle.automata.specs.Derivation.{Result, Joins, join_move, named}
 use Rattle.tables.specs.declared.Table.{Table}
 use Rattle.tables.specs.Rows.{rows_in}
-use Rattle.tables.specs.Held.{EdgesStand, EntriesStand, MovesStand}
 use Rattle.tables.specs.Layouts.{move_row}
 use Rattle.first_reading.specs.First.{only_if}
 use Rattle.first_reading.specs.Answer.{written_all, Answer, Answers}
@@ -31,13 +30,15 @@ unfoldable pub followed : Automaton → ℕ → List ℕ → Joins → ℕ → �
 followed A a goal j S q qs names s e = only_if (eqb (edge_at A e).state q)
     (map (with_edge e) (first_edges A a goal j S qs (join names (single (edge_at A e).first)) (join s (edge_at A e).S)))
 
--- What is asked of the tables: that they are in their slices, and their sizes.
-pub record TablesWithin (z : Table) (inner entries moves : List ℕ) : Type 0 where
-  pub edges_stand : EdgesStand z inner
-  pub entries_stand : EntriesStand z entries
-  pub moves_stand : MovesStand z moves
+-- What is asked of the sizes of the tables.
+pub record TablesFew (z : Table) : Type 0 where
   pub edges_few : z.edges ≤ 64
   pub moves_few : z.moves ≤ 1024
+
+-- There is a word for the number of each state's edge, and one for the number of each state's move.
+pub record WordsForEach (edges chosen : List ℕ) : Type 0 where
+  pub word_for_each_edge : length edges ≡ 64
+  pub word_for_each_move : length chosen ≡ 64
 
 -- how the edges and the moves that are chosen are written: the edges for these states, the moves for those that the edges and `names` name
 unfoldable pub writes_edges : List ℕ → Numbers → List ℕ → List ℕ
@@ -52,12 +53,6 @@ writes_moves A names n ws = written_all (members (join names (named A n.edges)))
 pub record ReadyToRead (n : ℕ) (moves chosen : List ℕ) : Type 0 where
   pub moves_lent : n * 5 ≤ length moves
   pub moves_few : n ≤ 1024
-  pub word_for_each_move : length chosen ≡ 64
-
--- The tables are in their slices, and there are a word for the number of each state's edge and one for that of each state's move.
-pub record ReadyToSearch (z : Table) (inner entries moves edges chosen : List ℕ) : Type 0 where
-  pub tables_within : TablesWithin z inner entries moves
-  pub word_for_each_edge : length edges ≡ 64
   pub word_for_each_move : length chosen ≡ 64
 
 -- The search for a reading of a from the states qs answers t, and makes the words ms of ms₀.

@@ -5,45 +5,34 @@
 ghost use Rattle.std.specs.Prelude.{◌≡◌, ◌<◌, ◌≤◌, ◌+◌, ◌*◌, length};
 ghost use Rattle.words.specs.Sets.{members};
 ghost use Rattle.words.specs.Order.{same};
-ghost use Rattle.tables.specs.Held.{automaton_of};
 ghost use Rattle.tables.specs.Records.{as_move, as_result};
 ghost use Rattle.joins.specs.Joining.{the_joins, as_joined};
 ghost use Rattle.first_reading.specs.Search.{joins_key, wanted, within};
-ghost use Rattle.first_reading.specs.Words.{moves_in, ReadyToRead, ReadyToSearch, TriesMove, FindsReading, FollowsEdge, FindsEdges};
+ghost use Rattle.first_reading.specs.Words.{moves_in, ReadyToRead, TablesFew, WordsForEach, TriesMove, FindsReading, FollowsEdge, FindsEdges};
+ghost use Rattle.tables.specs.View.{automaton_in};
 ghost use Rattle.first_reading.specs.Reach.{reach_with, can_fill};
 
-use joins::{Joined, Joins};
+use joins::Joins;
 use limits::Limits;
 use sets::Split;
-use tables::{Move, Result, Table};
+use tables::{Move, Result, Tables};
 
 // The joins, where there are any and their sets are parts of those of x.
-fn parts_within(j: Joined, x: Result) -> Joined
+fn parts_within(j: Option<Joins>, x: Result) -> Option<Joins>
     ensures { as_joined result ≡ within (as_result x) (as_joined j) }
 {
-    let Joined::To(k) = j else {
-        return Joined::Nothing;
-    };
-    if !sets::part_of(k.b, x.b) {
-        return Joined::Nothing;
+    let k = j?;
+    if !(sets::part_of(k.b, x.b) && sets::part_of(k.r, x.r)) {
+        return None;
     }
-    if !sets::part_of(k.r, x.r) {
-        return Joined::Nothing;
-    }
-    Joined::To(k)
+    Some(k)
 }
 
 // Whether these joins are those of x.
 pub fn is_wanted(order: u64, b: u64, r: u64, x: Result) -> bool
     ensures { result ≡ same (joins_key (the_joins order b r)) (wanted (as_result x)) }
 {
-    if order != x.order {
-        return false;
-    }
-    if b != x.b {
-        return false;
-    }
-    r == x.r
+    order == x.order && b == x.b && r == x.r
 }
 
 // What moves reach together: the states that they are of, and their sets, joined.
@@ -59,14 +48,11 @@ fn reach_with(z: Reach, m: Move, a: u64, left: u64, order: u64, b: u64, r: u64, 
     ensures { result ≡ reach_with a (as_result x) left (the_joins order b r) z (as_move m) }
 {
     let q = m.state;
-    if (Limits::WORD_BITS as u64) <= q {
-        return z;
-    }
-    if !sets::has(left, q) {
+    if (Limits::WORD_BITS as u64) <= q || !sets::has(left, q) {
         return z;
     }
     let j = Joins { order, b, r };
-    let Joined::To(_) = parts_within(joins::candidate(m, q, a, j), x) else {
+    let Some(_) = parts_within(joins::candidate(m, q, a, j), x) else {
         return z;
     };
     Reach {
@@ -92,20 +78,14 @@ fn can_fill(
     ensures { result ≡ can_fill (moves_in n moves.now) a (as_result x) left (the_joins order b r) }
 {
     let mut z = Reach { states: 0, b, r };
-    let mut i: usize = 0;
-    while i < n {
+    for i in 0..n {
         z = reach_with(z, tables::move_at(moves, i), a, left, order, b, r, x);
-        i += 1;
     }
-    if !sets::part_of(left, z.states) {
-        return false;
-    }
-    if !sets::part_of(x.b, z.b) {
-        return false;
-    }
-    sets::part_of(x.r, z.r)
+    sets::part_of(left, z.states) && sets::part_of(x.b, z.b) && sets::part_of(x.r, z.r)
 }
 
+// Kept (5): the joins are carried as plain words order, b and r here and in the three searches below: DECISIONS.md, 18.
+//
 // Reads on with move i for a state, the others being left. On success the numbers of the moves stand in `chosen`.
 #[cycle(readings)]
 fn read_with(
@@ -127,7 +107,7 @@ fn read_with(
     let m = tables::move_at(moves, i);
     let q = part.member;
     let j = Joins { order, b, r };
-    let Joined::To(k) = parts_within(joins::candidate(m, q, a, j), x) else {
+    let Some(k) = parts_within(joins::candidate(m, q, a, j), x) else {
         return false;
     };
     if first_reading(moves, n, a, part.others, k.order, k.b, k.r, x, chosen) {
@@ -163,12 +143,10 @@ pub fn first_reading(
         return false;
     }
     let part = sets::least_member(left);
-    let mut i: usize = 0;
-    while i < n {
+    for i in 0..n {
         if read_with(moves, n, a, part, i, order, b, r, x, chosen) {
             return true;
         }
-        i += 1;
     }
     false
 }
@@ -177,10 +155,7 @@ pub fn first_reading(
 // `chosen`.
 #[cycle(edges)]
 fn follow(
-    z: Table,
-    inner: &[u64],
-    entries: &[u64],
-    moves: &[u64],
+    tables: &Tables<'_>,
     a: u64,
     part: Split,
     e: usize,
@@ -193,13 +168,14 @@ fn follow(
     edges: &mut [u16],
     chosen: &mut [u16],
 ) -> bool
-    requires { ReadyToSearch z inner.now entries.now moves.now edges.old chosen.old
-        × (e < z.edges + z.entries) × (part.member < 64) }
-    ensures { FollowsEdge (automaton_of z inner.now entries.now moves.now) a (as_result x) (the_joins order b r)
+    requires { TablesFew tables.now.table
+        × (e < tables.now.table.edges + tables.now.table.entries) × (part.member < 64)
+        × WordsForEach edges.old chosen.old }
+    ensures { FollowsEdge (automaton_in tables.now) a (as_result x) (the_joins order b r)
         part.member (members part.others) names s e result edges.old edges.new chosen.old chosen.new }
 {
     let q = part.member;
-    let g = tables::edge_of(z, inner, entries, e);
+    let g = tables.edge_of(e);
     if g.state != q {
         return false;
     }
@@ -209,10 +185,7 @@ fn follow(
     }
     let named = sets::join(names, sets::one_bit(g.first));
     if first_edges(
-        z,
-        inner,
-        entries,
-        moves,
+        tables,
         a,
         part.others,
         named,
@@ -234,12 +207,11 @@ fn follow(
 // The first choice of an edge for each of the states left whose sets, joined to s, are that of x, with the first reading of a from the
 // states that these edges and `names` name, joined to (order, b, r): whether there is one. On success the numbers of the edges stand in
 // `edges` and those of the moves in `chosen`.
+//
+// Kept (5): what may not change: these functions take any two lent slices of 64 words.
 #[cycle(edges)]
 pub fn first_edges(
-    z: Table,
-    inner: &[u64],
-    entries: &[u64],
-    moves: &[u64],
+    tables: &Tables<'_>,
     a: u64,
     left: u64,
     names: u64,
@@ -251,26 +223,20 @@ pub fn first_edges(
     edges: &mut [u16],
     chosen: &mut [u16],
 ) -> bool
-    requires { ReadyToSearch z inner.now entries.now moves.now edges.old chosen.old }
-    ensures { FindsEdges (automaton_of z inner.now entries.now moves.now) a (as_result x) (the_joins order b r)
+    requires { TablesFew tables.now.table × WordsForEach edges.old chosen.old }
+    ensures { FindsEdges (automaton_in tables.now) a (as_result x) (the_joins order b r)
         (members left) names s result edges.old edges.new chosen.old chosen.new }
 {
     if left == 0 {
-        if s != x.s {
-            return false;
-        }
-        return first_reading(moves, z.moves, a, names, order, b, r, x, chosen);
+        let (moves, n) = (tables.moves, tables.table.moves);
+        return s == x.s && first_reading(moves, n, a, names, order, b, r, x, chosen);
     }
     let part = sets::least_member(left);
-    let n = z.edges + z.entries;
-    let mut e: usize = 0;
-    while e < n {
-        if follow(
-            z, inner, entries, moves, a, part, e, names, s, order, b, r, x, edges, chosen,
-        ) {
+    let n = tables.edge_count();
+    for e in 0..n {
+        if follow(tables, a, part, e, names, s, order, b, r, x, edges, chosen) {
             return true;
         }
-        e += 1;
     }
     false
 }

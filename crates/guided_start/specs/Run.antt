@@ -8,6 +8,8 @@ use Rattle.replies.specs.declared.Halt.TheVariants.{CellsShort}
 use Rattle.walks.specs.Guide.{Report}
 use Rattle.services.specs.Guide.{GuideInput, guide_run}
 use Rattle.tables.specs.declared.Table.{Table}
+use Rattle.tables.specs.declared.view.Tables.{Tables}
+use Rattle.saturation.specs.declared.after_rounds.AfterRounds.{AfterRounds}
 use Rattle.saturation.specs.Held.{saturated_in}
 
 abbrev pub guide_input : List ℕ → List ℕ → ℕ → ℕ → ℕ → ℕ → ℕ → ℕ → GuideInput
@@ -22,6 +24,14 @@ table_input case start number moves entries cells trace = guide_input case start
 abbrev pub guided_from : List ℕ → List ℕ → ℕ → Table → List ℕ → List ℕ → List ℕ → ℕ → List ℕ → ℕ → ℕ → Report
 guided_from case start number z inner entries moves k sizes cells trace =
     guide_run (table_input case start number (length moves) (length entries) cells trace) (saturated_in z inner entries moves k sizes)
+
+-- the same by the tables as one value
+abbrev pub guided_on : List ℕ → List ℕ → ℕ → Tables → ℕ → List ℕ → ℕ → ℕ → Report
+guided_on case start number t k sizes cells trace = guided_from case start number t.table t.inner.now t.entries.now t.moves.now k sizes cells trace
+
+-- the same by the tables after rounds as one value
+abbrev pub guided_by : List ℕ → List ℕ → ℕ → AfterRounds → ℕ → ℕ → Report
+guided_by case start number r cells trace = guided_on case start number r.tables r.count r.sizes.now cells trace
 
 -- the cells that so many words lend, of which at most 4,096 count
 abbrev pub lent_cells : ℕ → ℕ

@@ -3,6 +3,7 @@
 pub mod Laws
 use Rattle.std.specs.Prelude.{ℕ, ◌*◌, ◌≤◌, List, length}
 use Rattle.tables.specs.declared.Table.{Table}
+use Rattle.tables.specs.declared.view.Tables.{Tables}
 use Rattle.acceptance.specs.Named.{TablesNamed}
 use Rattle.least_choices.specs.Starts.{Few}
 
@@ -12,3 +13,7 @@ pub record TablesStand (z : Table) (inner entries moves : List ℕ) (k : ℕ) (s
   pub few : Few z
   pub sizes_lent : k * 2 ≤ length sizes
   pub sizes_few : k ≤ 1025
+
+-- the same by the tables as one value
+abbrev pub StandsOn : Tables → ℕ → List ℕ → Type 0
+StandsOn t k sizes = TablesStand t.table t.inner.now t.entries.now t.moves.now k sizes

@@ -9,19 +9,21 @@ ghost use Rattle.words.specs.Lists.{zeros};
 ghost use Rattle.replies.specs.Numbers.{answer_word};
 ghost use Rattle.rounds.specs.Won.{round2};
 ghost use Rattle.services.specs.Judge.{more_to_add};
-ghost use Rattle.tables.specs.Held.{automaton_of};
-ghost use Rattle.saturation.specs.Held.{saturated_in};
+ghost use Rattle.tables.specs.View.{automaton_in};
+ghost use Rattle.saturation.specs.Held.{saturated_by, saturated_on};
 ghost use Rattle.guided_walk.specs.Turns.{Leaves};
 ghost use Rattle.sound_files.specs.Sound.{StartSound};
-ghost use Rattle.guided_start.specs.Tables.{TablesStand};
-ghost use Rattle.guided_start.specs.Run.{guided_from, lent_cells, short_at_start, unaccepted};
-ghost use Rattle.guided_start.specs.Walk.{Ready};
+ghost use Rattle.guided_start.specs.Tables.{StandsOn};
+ghost use Rattle.guided_start.specs.Run.{guided_by, guided_on, lent_cells, short_at_start, unaccepted};
+ghost use Rattle.guided_start.specs.Walk.{ReadyBy};
 
+use case_records::Rules;
 use guided_step::Walk;
 use limits::Limits;
 use replies::{Acceptance, Counts, Halt, Reply};
+use saturation::AfterRounds;
 use start_records::Start;
-use tables::Table;
+use tables::Tables;
 
 // Since when the start is accepted, and what guide answers.
 #[derive(Clone, Copy)]
@@ -30,6 +32,8 @@ pub struct Guided {
     pub reply: Reply,
 }
 
+// Kept (1): the promise of this function: 0 where there is none, which the texts print.
+//
 // The round of an answer, and 0 where there is none.
 pub fn round_of(won: Acceptance) -> u64
     ensures { result ≡ answer_word won - 1 }
@@ -40,21 +44,20 @@ pub fn round_of(won: Acceptance) -> u64
     }
 }
 
+// Kept (2): one line, as in `replay`; one function for both would take the size of a cell, which each crate knows alone.
+//
 // The cells that so many words lend, of which at most 4,096 count.
 fn cells_lent(words: usize) -> usize
     ensures { result ≡ lent_cells words }
 {
-    numbers::smaller((words / Limits::CELL_WORDS) as u64, Limits::CELLS as u64) as usize
+    (words / Limits::CELL_WORDS).min(Limits::CELLS)
 }
 
 // The answer for a start that is not accepted: open while a round more would add a move, otherwise that there is no run.
 fn not_accepted(more: bool) -> Reply
     ensures { result ≡ unaccepted more }
 {
-    if more {
-        return Reply::Open;
-    }
-    Reply::NoRun
+    if more { Reply::Open } else { Reply::NoRun }
 }
 
 // Short before any step, with 0 steps and 0 cells.
@@ -70,59 +73,47 @@ fn walk_from(
     case: &[u8],
     start: &[u8],
     x: Start,
-    z: Table,
-    inner: &[u64],
-    entries: &[u64],
-    moves: &[u64],
-    sizes: &[u64],
-    k: usize,
+    run: &AfterRounds<'_>,
     rounds: &[u16],
     cells: &mut [u16],
     most: usize,
     trace: &mut [u16],
 ) -> Reply
-    requires { Ready case.now start.now z inner.now entries.now moves.now k sizes.now rounds.now × (x.root < 256)
+    requires { ReadyBy case.now start.now run.now rounds.now × (x.root < 256)
         × (trace.old ≡ zeros (length trace.old)) × (length (cells_of start.now) ≤ most) × (most * 68 ≤ length cells.old) × (most ≤ 4096) }
     ensures { Leaves
-        (guided (rules_of case.now) (saturated_in z inner.now entries.now moves.now k sizes.now)
-        most (length trace.old) []
-        (start_walk (automaton_of z inner.now entries.now moves.now) (cells_of start.now) x.control x.root))
+        (guided (rules_of case.now) (saturated_by run.now) most (length trace.old) []
+        (start_walk (automaton_in run.now.tables) (cells_of start.now) x.control x.root))
         (length trace.old) result trace.new }
 {
     let body = start_file::cell_body(start);
     let n = bytes_in::count_of(start, Limits::CELL_BODY);
-    least_choices::put_start_cells(z, inner, entries, moves, body, n, rounds, cells);
-    let mut rules = [0u8; Limits::RULE_TABLE];
-    case_file::put_rules(case, &mut rules);
-    let count = bytes_in::count_of(case, Limits::RULE_BODY);
+    least_choices::put_start_cells(&run.tables, body, n, rounds, cells);
+    let mut table = [0u8; Limits::RULE_TABLE];
+    case_file::put_rules(case, &mut table);
+    let rules = Rules {
+        body: &table,
+        count: bytes_in::count_of(case, Limits::RULE_BODY),
+    };
     let w = Walk::start(x.control, x.root as u16, n);
-    guided_walk::walk(
-        z, inner, entries, moves, &rules, count, sizes, k, cells, most, trace, w,
-    )
+    guided_walk::walk(run, &rules, cells, most, trace, w)
 }
 
-// Guides from one start of a sound start file, for a sound case whose table after rounds stands in these tables, its sizes in the first k rows, to
-// which a round more would add a move or not, and the words of the start file's cells. The trace is all zero before. What the cells hold after it is left free: the service zeroes them.
+// Guides from one start of a sound start file, for a sound case, on its tables after rounds, to which a round more would add a move or not, and
+// the words of the start file's cells. The trace is all zero before. What the cells hold after it is left free: the service zeroes them.
 pub fn guide_with_rounds(
     case: &[u8],
     start: &[u8],
     number: usize,
-    z: Table,
-    inner: &[u64],
-    entries: &[u64],
-    moves: &[u64],
-    sizes: &[u64],
-    k: usize,
+    run: &AfterRounds<'_>,
     more: bool,
     rounds: &[u16],
     cells: &mut [u16],
     trace: &mut [u16],
 ) -> Reply
-    requires { Ready case.now start.now z inner.now entries.now moves.now k sizes.now rounds.now × (number < length (starts_of start.now))
-        × (trace.old ≡ zeros (length trace.old)) × (more ≡ more_to_add case.now (saturated_in z inner.now entries.now moves.now k sizes.now)) }
-    ensures { Leaves
-        (guided_from case.now start.now number z inner.now entries.now moves.now k sizes.now
-        (length cells.old) (length trace.old)) (length trace.old) result trace.new }
+    requires { ReadyBy case.now start.now run.now rounds.now × (number < length (starts_of start.now))
+        × (trace.old ≡ zeros (length trace.old)) × (more ≡ more_to_add case.now (saturated_by run.now)) }
+    ensures { Leaves (guided_by case.now start.now number run.now (length cells.old) (length trace.old)) (length trace.old) result trace.new }
 {
     if !acceptance_words::is_won(sound_files::start_accepted(start, number, rounds)) {
         return not_accepted(more);
@@ -132,44 +123,39 @@ pub fn guide_with_rounds(
         return short_at_start();
     }
     let x = start_records::start_at(start_file::start_body(start), number);
-    walk_from(
-        case, start, x, z, inner, entries, moves, sizes, k, rounds, cells, most, trace,
-    )
+    walk_from(case, start, x, run, rounds, cells, most, trace)
 }
 
-// Guides from one start of a sound start file, for a sound case whose table after rounds stands in these tables, its sizes in the first k rows, to
-// which a round more would add a move or not. The trace is all zero before. What the cells hold after it is left free: the service zeroes them.
-pub fn guide_start(
+// Guides from one start of a sound start file, for a sound case, on its tables after rounds, to which a round more would add a move or not. The
+// trace is all zero before. What the cells hold after it is left free: the service zeroes them.
+// Kept (5): `sizes` and `count` stand beside the tables. Tried: guide made the AfterRounds, whose proof does not cover a field that holds other borrows.
+pub fn guide_start<'a>(
     case: &[u8],
     start: &[u8],
     number: usize,
-    z: Table,
-    inner: &[u64],
-    entries: &[u64],
-    moves: &[u64],
-    sizes: &[u64],
-    k: usize,
+    tables: &Tables<'a>,
+    sizes: &'a [u64],
+    count: usize,
     more: bool,
     cells: &mut [u16],
     trace: &mut [u16],
 ) -> Guided
-    requires { (case_refusal case.now ≡ 0) × StartSound start.now × TablesStand z inner.now entries.now moves.now k sizes.now
-        × (number < length (starts_of start.now)) × (trace.old ≡ zeros (length trace.old))
-        × (more ≡ more_to_add case.now (saturated_in z inner.now entries.now moves.now k sizes.now)) }
-    ensures leaves { Leaves
-        (guided_from case.now start.now number z inner.now entries.now moves.now k sizes.now
-        (length cells.old) (length trace.old)) (length trace.old) result.reply trace.new }
-    ensures won { result.won ≡ round2 (saturated_in z inner.now entries.now moves.now k sizes.now)
+    requires { (case_refusal case.now ≡ 0) × StartSound start.now × StandsOn tables.now count sizes.now × (number < length (starts_of start.now))
+        × (trace.old ≡ zeros (length trace.old)) × (more ≡ more_to_add case.now (saturated_on tables.now count sizes.now)) }
+    ensures leaves { Leaves (guided_on case.now start.now number tables.now count sizes.now (length cells.old) (length trace.old))
+        (length trace.old) result.reply trace.new }
+    ensures won { result.won ≡ round2 (saturated_on tables.now count sizes.now)
         (configuration_of start.now (start_at start.now number)).stack (start_at start.now number).control }
 {
     let mut rounds = [0u16; Limits::START_CELLS * Limits::STATES1];
-    sound_files::start_rounds(z, inner, entries, moves, sizes, k, start, &mut rounds);
+    sound_files::start_rounds(tables, sizes, count, start, &mut rounds);
     let won = sound_files::start_accepted(start, number, &rounds);
-    let reply = guide_with_rounds(
-        case, start, number, z, inner, entries, moves, sizes, k, more, &rounds, cells, trace,
-    );
-    Guided {
-        won: won,
-        reply: reply,
-    }
+    let tables = *tables;
+    let run = AfterRounds {
+        tables,
+        sizes,
+        count,
+    };
+    let reply = guide_with_rounds(case, start, number, &run, more, &rounds, cells, trace);
+    Guided { won, reply }
 }

@@ -3,7 +3,7 @@
 -- Assumes nothing.
 pub mod Laws
 pub mod Chosen
-use Rattle.std.specs.Prelude.{ℕ, ◌<◌, ◌≡◌, List}
+use Rattle.std.specs.Prelude.{ℕ, ◌<◌, ◌≡◌, List, Option as Found}
 use Rattle.std.proofs.Math.Option.{some}
 use Rattle.std.proofs.Math.ListN.{get_elem?}
 use Rattle.stacks.specs.Stack.{Operation}
@@ -14,14 +14,14 @@ use Rattle.automata.specs.Saturation.{Saturated, before}
 use Rattle.walks.specs.Guide as walks
 use Rattle.cell_steps.specs.declared.Top.{Top}
 use Rattle.cell_steps.specs.Steps.Choices.{top_state, root_edge, HoldsNumbers}
-use Rattle.first_derivation.specs.declared.First.{First}
+use Rattle.first_derivation.specs.declared.Derivation.{Derivation as DerivationWords}
 use Rattle.first_derivation.specs.Derived.{FindsFirst}
 use Rattle.guided_step.specs.declared.Next.{Next}
 use Rattle.guided_step.specs.declared.Next.TheVariants.{Arrived, Stuck, To}
 use Rattle.guided_step.specs.Walks.{top_by}
 
 -- The first derivation is found of the result that move i stands for, from the table before the move's round.
-abbrev pub FindsBefore : List Rule → Saturated → ℕ → First → List ℕ → List ℕ → List ℕ → List ℕ → Type 0
+abbrev pub FindsBefore : List Rule → Saturated → ℕ → Found DerivationWords → List ℕ → List ℕ → List ℕ → List ℕ → Type 0
 FindsBefore rules T i r es₀ es ms₀ ms = FindsFirst (before T i) rules (result_of T.table (move_at T.table i)) r es₀ es ms₀ ms
 
 -- What is written into cells for premise p is small: the state that chooses it, its number, and the edge that the new root chooses.

@@ -1,13 +1,14 @@
 -- A step on lent cells: what is asked of its numbers, and the walk after it.
 -- Assumes nothing.
 pub mod Laws
-use Rattle.std.specs.Prelude.{ℕ, ◌+◌, ◌-◌, ◌≤◌, ◌<◌, ◌^◌, ◌≡◌, List, [], ◌++◌}
+use Rattle.std.specs.Prelude.{ℕ, ◌+◌, ◌-◌, ◌≤◌, ◌<◌, ◌^◌, ◌≡◌, List, [], ◌++◌, get_or}
 use Rattle.stacks.specs.Stack.{Operation, new_cells}
 use Rattle.automata.specs.Automaton.{Automaton, move_at, entry_edge}
 use Rattle.walks.specs.Cell.{cells_after, root_after}
 use Rattle.walks.specs.Guide as walks
 use Rattle.tables.specs.declared.Table.{Table}
-use Rattle.tables.specs.Held.{automaton_of, MovesStand}
+use Rattle.tables.specs.declared.view.Tables.{Tables}
+use Rattle.tables.specs.Held.{automaton_of}
 use Rattle.cell_memory.specs.Memory.{guided_in}
 use Rattle.cell_steps.specs.declared.Top.{Top}
 use Rattle.cell_steps.specs.declared.Choice.{Choice}
@@ -19,6 +20,10 @@ use Rattle.guided_step.specs.Walks.{walk_in}
 -- the automaton as far as the choices of new cells depend on it: its moves and the number of its inner edges
 abbrev pub moves_only : Table → List ℕ → Automaton
 moves_only z moves = automaton_of z [] [] moves
+
+-- the same by the tables as one value
+abbrev pub moves_held : Tables → Automaton
+moves_held t = moves_only t.table t.moves.now
 
 -- ---- the choices of new cells
 
@@ -41,11 +46,9 @@ module _ (A : Automaton) (p' p : ℕ) where
 -- ---- a step by an operation to control p' from premise number p
 
 -- What is asked of its numbers, at top x.
-pub record StepStands (z : Table) (moves : List ℕ) (op : Operation) (p' p : ℕ) (x : Top) : Type 0 where
-  pub moves_stand : MovesStand z moves
-  pub edges_few : z.edges ≤ 64
+pub record StepStands (A : Automaton) (op : Operation) (p' p : ℕ) (x : Top) : Type 0 where
   pub premise_small : p < 1024
-  pub state_small : top_state (moves_only z moves) op p < 64
+  pub state_small : top_state A op p < 64
   pub control_small : p' < 64
   pub symbol_small : symbol_of op < 2 ^ 16
   pub annotation_small : x.annotation < 2 ^ 16
@@ -67,3 +70,7 @@ pub record Steps (A : Automaton) (op : Operation) (p' p : ℕ) (x : Top) (es ms 
   pub walk_is : walk_in v cells' ≡ stepped A op p' p x es ms w cells
   pub cells_more : v.cells ≡ w.cells + new_cells op
   pub steps_more : v.steps ≡ w.steps + 1
+
+-- Bytes.
+pub record BytesFit (bytes : List ℕ) : Type 0 where
+  pub fits : (i : ℕ) → get_or bytes i 0 < 256

@@ -16,7 +16,7 @@ use Rattle.services.specs.Memory.{padded}
 use Rattle.words.specs.Lists.{zeros}
 use Rattle.tables.specs.declared.Table.{Table}
 use Rattle.results.specs.Collecting.{RulesStand}
-use Rattle.first_reading.specs.Words.{TablesWithin}
+use Rattle.first_reading.specs.Words.{TablesFew}
 use Rattle.cell_steps.specs.declared.Top.{Top}
 use Rattle.guided_step.specs.declared.Walk.{Walk}
 use Rattle.guided_step.specs.Walks.{walk_in}
@@ -24,12 +24,11 @@ use Rattle.guided_walk.specs.declared.Going.{Going}
 use Rattle.guided_walk.specs.declared.Going.TheVariants.{Halted, Stuck, On}
 use Rattle.guided_walk.specs.Stepped.{Steps}
 
--- What is asked of the tables, the rules, the sizes and the lent cells.
-pub record RunStands (z : Table) (inner entries moves body : List ℕ) (count : ℕ) (sizes : List ℕ) (k : ℕ) (cells : List ℕ) (most : ℕ) : Type 0 where
-  pub tables_stand : TablesWithin z inner entries moves
+-- What is asked of the tables, the rules and the lent cells.
+pub record RunStands (z : Table) (body : List ℕ) (count : ℕ) (cells : List ℕ) (most : ℕ) : Type 0 where
+  pub tables_few : TablesFew z
   pub rules_stand : RulesStand count body
   pub rules_few : count ≤ 256
-  pub sizes_lent : k * 2 ≤ length sizes
   pub cells_lent_holds : most * 68 ≤ length cells
   pub cells_few : most ≤ 4096
 

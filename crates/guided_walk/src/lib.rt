@@ -6,21 +6,22 @@ ghost use Rattle.automata.specs.Automaton.{move_at, entry_edge};
 ghost use Rattle.stacks.specs.Stack.{new_cells};
 ghost use Rattle.walks.specs.Guide.{guided};
 ghost use Rattle.words.specs.Lists.{zeros};
-ghost use Rattle.tables.specs.Held.{MovesStand};
 ghost use Rattle.case_records.specs.Values.{the_operation};
-ghost use Rattle.results.specs.Collecting.{rules_in};
+ghost use Rattle.results.specs.Collecting.{rules_held};
 ghost use Rattle.cell_steps.specs.Steps.Choices.{top_state};
+ghost use Rattle.first_reading.specs.Words.{WordsForEach};
 ghost use Rattle.guided_step.specs.Walks.{walk_in};
-ghost use Rattle.saturation.specs.Held.{saturated_in};
-ghost use Rattle.guided_walk.specs.Stepped.{moves_only, move_choice, entry_choice, no_choice, choice_by, StepStands, Steps};
+ghost use Rattle.saturation.specs.Held.{saturated_by};
+ghost use Rattle.guided_walk.specs.Stepped.{moves_only, moves_held, BytesFit, move_choice, entry_choice, no_choice, choice_by, StepStands, Steps};
 ghost use Rattle.guided_walk.specs.Turns.{RunStands, Leaves, counts_in, Walking, StepAnswers, TurnAnswers};
 
-use case_records::{Operation, Rule};
+use case_records::{Operation, Rule, Rules};
 use cell_steps::{Choice, Top};
 use guided_step::{Next, Walk};
 use limits::Limits;
 use replies::{Counts, Halt, Reply};
-use tables::Table;
+use saturation::AfterRounds;
+use tables::{Table, Tables};
 
 // ---- a step
 
@@ -32,27 +33,18 @@ fn entry_edge(z: Table, entry: u64) -> u16
     (z.edges as u64 + entry) as u16
 }
 
-// The number of the entry that order-1 state r is, and 0 where it is none.
-fn entry_of_state(z: Table, r: u64) -> u64
-    ensures { result ≡ r - z.inner1 }
-{
-    if r < z.inner1 {
-        return 0;
-    }
-    r - z.inner1
-}
-
 // The choices of the new cells where the premise is a move.
-fn by_move(z: Table, moves: &[u64], next: u64, premise: u64) -> Choice
-    requires { MovesStand z moves.now × (z.edges ≤ 64) × (premise < 1024) × ((move_at (moves_only z moves.now) premise).state < 64) }
-    ensures { result ≡ move_choice (moves_only z moves.now) next premise }
+fn by_move(tables: &Tables<'_>, next: u64, premise: u64) -> Choice
+    requires { (tables.now.table.edges ≤ 64) × (premise < 1024) × ((move_at (moves_held tables.now) premise).state < 64) }
+    ensures { result ≡ move_choice (moves_held tables.now) next premise }
 {
-    let m = tables::move_of(z, moves, premise as usize);
+    let z = tables.table;
+    let m = tables.move_of(premise as usize);
     Choice {
         state: m.state,
         number: premise as u16,
         control: next,
-        edge: entry_edge(z, entry_of_state(z, m.state)),
+        edge: entry_edge(z, m.state.saturating_sub(z.inner1)),
     }
 }
 
@@ -83,26 +75,22 @@ fn by_none(next: u64, premise: u64) -> Choice
 }
 
 // The choices of the operation's new cells.
-fn by_operation(z: Table, moves: &[u64], op: Operation, next: u64, premise: u64) -> Choice
-    requires { MovesStand z moves.now × (z.edges ≤ 64) × (premise < 1024) × (top_state (moves_only z moves.now) (the_operation op) premise < 64) }
-    ensures { result ≡ choice_by (moves_only z moves.now) next premise (the_operation op) }
+fn by_operation(tables: &Tables<'_>, op: Operation, next: u64, premise: u64) -> Choice
+    requires { (tables.now.table.edges ≤ 64) × (premise < 1024) × (top_state (moves_held tables.now) (the_operation op) premise < 64) }
+    ensures { result ≡ choice_by (moves_held tables.now) next premise (the_operation op) }
 {
     match op {
-        Operation::Rewrite(_) => by_move(z, moves, next, premise),
-        Operation::Push1(_) => by_move(z, moves, next, premise),
-        Operation::Push2(_) => by_move(z, moves, next, premise),
-        Operation::Copy => by_move(z, moves, next, premise),
-        Operation::Pop1 => by_entry(z, next, premise),
-        Operation::Pop2 => by_none(next, premise),
-        Operation::Collapse1 => by_entry(z, next, premise),
-        Operation::Collapse2 => by_none(next, premise),
+        Operation::Rewrite(_) | Operation::Push1(_) | Operation::Push2(_) | Operation::Copy => {
+            by_move(tables, next, premise)
+        }
+        Operation::Pop1 | Operation::Collapse1 => by_entry(tables.table, next, premise),
+        Operation::Pop2 | Operation::Collapse2 => by_none(next, premise),
     }
 }
 
 // Writes the new cells of a step with their choices, and answers the walk after it.
 fn take_step(
-    z: Table,
-    moves: &[u64],
+    tables: &Tables<'_>,
     op: Operation,
     next: u64,
     premise: u64,
@@ -112,13 +100,13 @@ fn take_step(
     edges: &[u16],
     chosen: &[u16],
 ) -> Walk
-    requires step_stands { StepStands z moves.now (the_operation op) next premise x × ((w.cells + new_cells (the_operation op)) * 68 ≤ length cells.old)
-        × (w.cells ≤ 4096) × (w.steps + 1 < 2 ^ 64) }
-    requires edges_len { (length edges.now ≡ 64) × (length chosen.now ≡ 64) }
-    ensures { Steps (moves_only z moves.now) (the_operation op) next premise x edges.now chosen.now w cells.old result cells.new }
+    requires step_stands { StepStands (moves_held tables.now) (the_operation op) next premise x × (tables.now.table.edges ≤ 64)
+        × ((w.cells + new_cells (the_operation op)) * 68 ≤ length cells.old) × (w.cells ≤ 4096) × (w.steps + 1 < 2 ^ 64) }
+    requires edges_len { WordsForEach edges.now chosen.now }
+    ensures { Steps (moves_held tables.now) (the_operation op) next premise x edges.now chosen.now w cells.old result cells.new }
 {
     let n = w.cells;
-    let choice = by_operation(z, moves, op, next, premise);
+    let choice = by_operation(tables, op, next, premise);
     cell_steps::put_step(cells, n, op, x, choice, edges, chosen);
     Walk {
         control: next,
@@ -130,6 +118,8 @@ fn take_step(
 
 // ---- a turn
 
+// Kept (4): no plainer as `From<Walk> for Counts`, for which `guided_step` would need `replies`.
+//
 // The counts of a walk.
 fn counts(w: Walk) -> Counts
     ensures { result ≡ counts_in w }
@@ -150,8 +140,7 @@ enum Going {
 
 // A step by this rule, where there is room for it in the trace and the cells.
 fn go_on(
-    z: Table,
-    moves: &[u64],
+    tables: &Tables<'_>,
     rule: Rule,
     n: u64,
     premise: u64,
@@ -163,11 +152,11 @@ fn go_on(
     edges: &[u16],
     chosen: &[u16],
 ) -> Going
-    requires step_stands { StepStands z moves.now (the_operation rule.operation) rule.next premise x × (n < 2 ^ 16) × (most * 68 ≤ length cells.old)
-        × (most ≤ 4096) × Walking most w trace.old }
-    requires edges_len { (length edges.now ≡ 64) × (length chosen.now ≡ 64) }
-    ensures { StepAnswers most (moves_only z moves.now) (the_operation rule.operation) rule.next n premise x edges.now
-        chosen.now w cells.old trace.old result cells.new trace.new }
+    requires step_stands { StepStands (moves_held tables.now) (the_operation rule.operation) rule.next premise x × (tables.now.table.edges ≤ 64)
+        × (n < 2 ^ 16) × (most * 68 ≤ length cells.old) × (most ≤ 4096) × Walking most w trace.old }
+    requires edges_len { WordsForEach edges.now chosen.now }
+    ensures { StepAnswers most (moves_held tables.now) (the_operation rule.operation) rule.next n premise x edges.now chosen.now
+        w cells.old trace.old result cells.new trace.new }
 {
     let steps = w.steps;
     if trace.len() <= steps {
@@ -178,52 +167,46 @@ fn go_on(
         return Going::Halted(Halt::CellsShort(counts(w)));
     }
     trace[steps] = n as u16;
-    Going::On(take_step(z, moves, op, rule.next, premise, x, cells, w, edges, chosen))
+    Going::On(take_step(tables, op, rule.next, premise, x, cells, w, edges, chosen))
 }
+
+// The bytes of a slice are below 256. Nothing is done: the type says so, and the symbol of a rule is small by it.
+fn bytes_fit(body: &[u8])
+    ensures { BytesFit body.now }
+{}
 
 // One turn of the walk.
 fn advance(
-    z: Table,
-    inner: &[u64],
-    entries: &[u64],
-    moves: &[u64],
-    body: &[u8],
-    count: usize,
-    sizes: &[u64],
-    k: usize,
+    run: &AfterRounds<'_>,
+    rules: &Rules<'_>,
     cells: &mut [u16],
     most: usize,
     trace: &mut [u16],
     w: Walk,
 ) -> Going
-    requires { RunStands z inner.now entries.now moves.now body.now count sizes.now k cells.old most × Walking most w trace.old }
-    ensures { TurnAnswers (rules_in count body.now)
-        (saturated_in z inner.now entries.now moves.now k sizes.now) most w cells.old
-        trace.old result cells.new trace.new }
+    requires { RunStands run.now.tables.table rules.now.body.now rules.now.count cells.old most × Walking most w trace.old }
+    ensures { TurnAnswers (rules_held rules.now) (saturated_by run.now) most w cells.old trace.old result cells.new trace.new }
 {
     let mut edges = [0u16; Limits::STATES1];
     let mut chosen = [0u16; Limits::STATES1];
-    let next = guided_step::next_step(
-        z,
-        inner,
-        entries,
-        moves,
-        body,
-        count,
-        sizes,
-        k,
-        cells,
-        w,
-        &mut edges,
-        &mut chosen,
-    );
-    match next {
+    match guided_step::next_step(run, rules, cells, w, &mut edges, &mut chosen) {
         Next::Arrived => Going::Halted(Halt::Arrived(counts(w))),
         Next::Stuck => Going::Stuck,
         Next::To(x, n, premise) => {
-            let rule = case_records::rule_at(body, n as usize);
+            bytes_fit(rules.body);
+            let rule = rules.rule_at(n as usize);
             go_on(
-                z, moves, rule, n, premise, x, cells, most, trace, w, &edges, &chosen,
+                &run.tables,
+                rule,
+                n,
+                premise,
+                x,
+                cells,
+                most,
+                trace,
+                w,
+                &edges,
+                &chosen,
             )
         }
     }
@@ -232,34 +215,24 @@ fn advance(
 // The guided run: what it answers, with the numbers of its steps' rules in the trace. The cells of the walk stand before it, and the trace is
 // all zero.
 pub fn walk(
-    z: Table,
-    inner: &[u64],
-    entries: &[u64],
-    moves: &[u64],
-    body: &[u8],
-    count: usize,
-    sizes: &[u64],
-    k: usize,
+    run: &AfterRounds<'_>,
+    rules: &Rules<'_>,
     cells: &mut [u16],
     most: usize,
     trace: &mut [u16],
     w: Walk,
 ) -> Reply
-    requires run_stands { RunStands z inner.now entries.now moves.now body.now count sizes.now k cells.old most }
+    requires run_stands { RunStands run.now.tables.table rules.now.body.now rules.now.count cells.old most }
     requires cells_le_most { (w.cells ≤ most) × (w.steps ≡ 0) × (trace.old ≡ zeros (length trace.old)) }
-    ensures { Leaves (guided (rules_in count body.now)
-        (saturated_in z inner.now entries.now moves.now k sizes.now) most (length trace.old) []
+    ensures { Leaves (guided (rules_held rules.now) (saturated_by run.now) most (length trace.old) []
         (walk_in w cells.old)) (length trace.old) result trace.new }
 {
     let mut v = w;
     loop {
-        let going = advance(
-            z, inner, entries, moves, body, count, sizes, k, cells, most, trace, v,
-        );
-        match going {
+        match advance(run, rules, cells, most, trace, v) {
             Going::Halted(h) => return Reply::Walked(h),
             Going::Stuck => {
-                zeroing::zero_u16(trace);
+                zeroing::zero(trace);
                 return Reply::NoRun;
             }
             Going::On(next) => v = next,

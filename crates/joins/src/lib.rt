@@ -9,56 +9,40 @@ ghost use Rattle.joins.specs.Joining.{as_joins, as_joined, candidate_of};
 use tables::Move;
 
 // Joined annotation sets, of one order, and joined rest sets.
-#[derive(Clone, Copy)]
+#[derive(Clone, Copy, PartialEq, Eq)]
 pub struct Joins {
     pub order: u64,
     pub b: u64,
     pub r: u64,
 }
 
-// What a move is joined to, or nothing where it does not join.
-#[derive(Clone, Copy)]
-pub enum Joined {
-    Nothing,
-    To(Joins),
-}
-
 // Whether one order is 1 and the other 2.
 fn clashes(k: u64, l: u64) -> bool
     ensures { result ≡ clash k l }
 {
-    if k == 0 {
-        return false;
-    }
-    if l == 0 {
-        return false;
-    }
-    k != l
+    k != 0 && l != 0 && k != l
 }
 
 // The joins with the sets of a move, unless orders clash.
-fn join_move(j: Joins, m: Move) -> Joined
+fn join_move(j: Joins, m: Move) -> Option<Joins>
     ensures { as_joined result ≡ join_move (as_joins j) (as_move m) }
 {
     if clashes(j.order, m.order) {
-        return Joined::Nothing;
+        return None;
     }
-    Joined::To(Joins {
-        order: numbers::larger(j.order, m.order),
+    Some(Joins {
+        order: j.order.max(m.order),
         b: sets::join(j.b, m.b),
         r: sets::join(j.r, m.r),
     })
 }
 
 // The joins with the sets of a move, where it is one of state q on symbol a and orders do not clash.
-pub fn candidate(m: Move, q: u64, a: u64, j: Joins) -> Joined
+pub fn candidate(m: Move, q: u64, a: u64, j: Joins) -> Option<Joins>
     ensures { as_joined result ≡ candidate_of q a (as_joins j) (as_move m) }
 {
-    if m.state != q {
-        return Joined::Nothing;
-    }
-    if m.symbol != a {
-        return Joined::Nothing;
+    if m.state != q || m.symbol != a {
+        return None;
     }
     join_move(j, m)
 }

@@ -4,7 +4,9 @@ pub mod Cases
 pub mod Left
 pub mod Demands
 pub mod Words
-use Rattle.std.specs.Prelude.{ℕ, List}
+use Rattle.std.specs.Prelude.{ℕ, List, Result, Ok, Err}
+use Rattle.replies.specs.declared.Refusal.{Refusal}
+use Rattle.replies.specs.Numbers.{number_for}
 use Rattle.replies.specs.declared.Judged.{Judged}
 use Rattle.services.specs.Judge.{JudgeInput, JudgeDone}
 
@@ -19,3 +21,8 @@ judge_done reply moves entries answers =
 -- the reply of a refusal
 abbrev pub the_refused : ℕ → Judged
 the_refused code = record { code = code; rounds = 0 }
+
+-- the reply with the number of rounds, or of a refusal
+abbrev pub the_reply : Result ℕ Refusal → Judged
+the_reply (Ok rounds) = record { code = 0; rounds = rounds }
+the_reply (Err r) = the_refused (number_for r)

@@ -12,10 +12,11 @@ use Rattle.walks.specs.Cell.{empty1, symbol, empty2, above, stacks, stack_at}
 use Rattle.walks.specs.Cell.Formed.{Formed, cell_at}
 use Rattle.walks.specs.Guide.{Guided, least_choice}
 use Rattle.tables.specs.declared.Table.{Table}
-use Rattle.tables.specs.Held.{automaton_of}
+use Rattle.tables.specs.declared.view.Tables.{Tables}
+use Rattle.tables.specs.View.{automaton_in}
 use Rattle.cell_memory.specs.Memory.{value_of, with_cell}
 use Rattle.acceptance_words.specs.Rows.{round_in}
-use Rattle.acceptance.specs.Named.{TablesNamed}
+use Rattle.acceptance.specs.Named.{NamedIn}
 use Rattle.acceptance.specs.Cells.{annotation_order_at}
 use Rattle.start_records.specs.Body.{cells_in}
 use Rattle.least_choices.specs.Choices.{least_met}
@@ -39,13 +40,13 @@ pub record AcceptedIn (A : Automaton) (cells : List walks.Cell) (rounds : List �
 
 -- What is asked before the start cells are written: the three tables stand, the body has n cells that refer to lower ones of the right
 -- order, and the words of the cells say from which states each is accepted.
-pub record Prepared (z : Table) (inner entries moves body : List ℕ) (n : ℕ) (rounds : List ℕ) : Type 0 where
-  pub stands : TablesNamed z inner entries moves
-  pub few : Few z
+pub record Prepared (t : Tables) (body : List ℕ) (n : ℕ) (rounds : List ℕ) : Type 0 where
+  pub stands : NamedIn t
+  pub few : Few t.table
   pub body_lent : n * 6 ≤ length body
   pub formed : Formed (cells_in n body)
   pub rounds_lent : n * 64 ≤ length rounds
-  pub accepted_in_holds : AcceptedIn (automaton_of z inner entries moves) (cells_in n body) rounds n
+  pub accepted_in_holds : AcceptedIn (automaton_in t) (cells_in n body) rounds n
 
 -- the lent cells where cell i, which is c, has its least choices, by the words of the cells to which it refers; a symbol's annotation is of
 -- order k

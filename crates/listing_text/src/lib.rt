@@ -11,23 +11,22 @@ ghost use Rattle.tables.specs.Layouts.{counted_row};
 ghost use Rattle.start_file.specs.Checks.{files_of};
 ghost use Rattle.text.specs.Written.{Written};
 ghost use Rattle.sound_files.specs.Refusal.{FilesSound};
-ghost use Rattle.guided_start.specs.Walk.{StartRounds};
-ghost use Rattle.listing_text.specs.Prepared.{TableReady};
+ghost use Rattle.guided_start.specs.Walk.{RoundsBy};
+ghost use Rattle.listing_text.specs.Prepared.{ReadyOn, ReadyBy};
 
 use limits::Limits;
-use replies::Saturation;
-use tables::Table;
+use replies::{Refusal, Saturation};
+use saturation::AfterRounds;
+use tables::Tables;
 
 // The largest number of moves of an entry, among the first n.
 fn largest_count(entries: &[u64], n: usize) -> u64
     requires { n * entry_width ≤ length entries.now }
     ensures { result ≡ largest (rows_in counted_row n entries.now) }
 {
-    let mut i: usize = 0;
     let mut most: u64 = 0;
-    while i < n {
-        most = numbers::larger(most, tables::count_at(entries, i));
-        i += 1;
+    for i in 0..n {
+        most = most.max(tables::count_at(entries, i));
     }
     most
 }
@@ -37,25 +36,19 @@ fn start_line(
     case: &[u8],
     start: &[u8],
     n: usize,
-    z: Table,
-    inner: &[u64],
-    entries: &[u64],
-    moves: &[u64],
-    sizes: &[u64],
-    k: usize,
+    run: &AfterRounds<'_>,
     rounds: &[u16],
     text: &mut [u8],
     at: usize,
 ) -> usize
-    requires { TableReady case.now start.now z inner.now entries.now moves.now k sizes.now
-        × StartRounds z inner.now entries.now moves.now k sizes.now start.now rounds.now × (n < length (starts_of start.now)) × (at + 66 ≤ length text.old) }
+    requires { ReadyBy case.now start.now run.now × RoundsBy run.now start.now rounds.now × (n < length (starts_of start.now)) × (at + 66 ≤ length text.old) }
     ensures written { Written text.old at (start_line (files_of case.now start.now) n) text.new result }
     ensures within { result ≤ at + 66 }
 {
     let mut cells = [0u16; Limits::LISTING_CELLS * Limits::CELL_WORDS];
     let mut trace = [0u16; Limits::LISTING_TRACE];
     let reply = guided_start::guide_with_rounds(
-        case, start, n, z, inner, entries, moves, sizes, k, false, rounds, &mut cells, &mut trace,
+        case, start, n, run, false, rounds, &mut cells, &mut trace,
     );
     let won = sound_files::start_accepted(start, n, rounds);
     let round = guided_start::round_of(won);
@@ -66,63 +59,55 @@ fn start_line(
 fn start_lines(
     case: &[u8],
     start: &[u8],
-    z: Table,
-    inner: &[u64],
-    entries: &[u64],
-    moves: &[u64],
-    sizes: &[u64],
-    k: usize,
+    run: &AfterRounds<'_>,
     rounds: &[u16],
     text: &mut [u8],
     at: usize,
 ) -> usize
-    requires { TableReady case.now start.now z inner.now entries.now moves.now k sizes.now
-        × StartRounds z inner.now entries.now moves.now k sizes.now start.now rounds.now × (at + 64 * 66 ≤ length text.old) }
+    requires { ReadyBy case.now start.now run.now × RoundsBy run.now start.now rounds.now × (at + 64 * 66 ≤ length text.old) }
     ensures written { Written text.old at (start_lines (files_of case.now start.now) 0 (length (starts_of start.now)))
         text.new result }
     ensures within { result ≤ at + 64 * 66 }
 {
     let count = bytes_in::count_of(start, Limits::START_BODY);
-    let mut n: usize = 0;
     let mut end = at;
-    while n < count {
-        end = start_line(
-            case, start, n, z, inner, entries, moves, sizes, k, rounds, text, end,
-        );
-        n += 1;
+    for n in 0..count {
+        end = start_line(case, start, n, run, rounds, text, end);
     }
     end
 }
 
 // Writes the listing of a table that fits and answers its length.
-fn table_lines(
+// Kept (5): `sizes` and `k` stand beside the tables, as for `guided_start::guide_start`.
+fn table_lines<'a>(
     case: &[u8],
     start: &[u8],
-    z: Table,
-    inner: &[u64],
-    entries: &[u64],
-    moves: &[u64],
-    sizes: &[u64],
+    tables: &Tables<'a>,
+    sizes: &'a [u64],
     k: usize,
     text: &mut [u8],
 ) -> usize
-    requires { TableReady case.now start.now z inner.now entries.now moves.now k sizes.now × (4306 ≤ length text.old) }
+    requires { ReadyOn case.now start.now tables.now k sizes.now × (4306 ≤ length text.old) }
     ensures written { Written text.old 0 (listing_text (files_of case.now start.now)) text.new result }
     ensures within { result ≤ 4306 }
 {
     let reply = Saturation {
         code: 0,
-        moves: z.moves as u64,
-        entries: z.entries as u64,
+        moves: tables.table.moves as u64,
+        entries: tables.table.entries as u64,
     };
     let after_sizes = text::put_size_line(text, 0, reply);
-    let most = largest_count(entries, z.entries);
+    let most = largest_count(tables.entries, tables.table.entries);
     let end = text::put_most_line(text, after_sizes, most);
     let mut rounds = [0u16; Limits::START_CELLS * Limits::STATES1];
-    sound_files::start_rounds(z, inner, entries, moves, sizes, k, start, &mut rounds);
-    start_lines(
-        case, start, z, inner, entries, moves, sizes, k, &rounds, text, end,
-    )
+    sound_files::start_rounds(tables, sizes, k, start, &mut rounds);
+    let tables = *tables;
+    let run = AfterRounds {
+        tables,
+        sizes,
+        count: k,
+    };
+    start_lines(case, start, &run, &rounds, text, end)
 }
 
 // Writes the listing of sound files and answers its length.
@@ -135,20 +120,23 @@ fn sound_listing(case: &[u8], start: &[u8], text: &mut [u8]) -> usize
     let mut entries = [0u64; Limits::STATES1 * Limits::ENTRY_WORDS];
     let mut inner = [0u64; Limits::INNER_TABLE];
     let mut sizes = [0u64; Limits::SIZE_TABLE];
-    let r = saturate::saturate_case(
+    let Some(r) = saturate::saturate_case(
         case,
         Limits::ALL_ROUNDS,
         &mut inner,
         &mut entries,
         &mut moves,
         &mut sizes,
-    );
-    if !r.fits {
-        return text::put_refused(text, 0, 9);
-    }
-    let z = r.table;
-    let k = r.rounds + 1;
-    table_lines(case, start, z, &inner, &entries, &moves, &sizes, k, text)
+    ) else {
+        return text::put_refused(text, 0, u64::from(Refusal::TableTooLarge));
+    };
+    let tables = Tables {
+        table: r.table,
+        inner: &inner,
+        entries: &entries,
+        moves: &moves,
+    };
+    table_lines(case, start, &tables, &sizes, r.rounds + 1, text)
 }
 
 // Writes the listing of a case file and a start file, zeros behind it, and answers its length.
@@ -158,9 +146,8 @@ pub fn listing(case: &[u8], start: &[u8], text: &mut [u8; Limits::LISTING_TEXT])
     ensures within { result ≤ 4306 }
 {
     *text = [0u8; Limits::LISTING_TEXT];
-    let refusal = sound_files::files_refusal(case, start);
-    if refusal != 0 {
-        return text::put_refused(text, 0, refusal);
+    match sound_files::files_refusal(case, start) {
+        Ok(()) => sound_listing(case, start, text),
+        Err(refusal) => text::put_refused(text, 0, u64::from(refusal)),
     }
-    sound_listing(case, start, text)
 }

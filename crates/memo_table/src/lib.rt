@@ -14,7 +14,8 @@ use limits::Limits;
 // A state of the recursion over readings of a symbol, to entries of a control, in a table of n moves. Kind 2 * n + 1: the order-1 states
 // `left` are still to be read, for the set s. Kind 2 * n + 2: an edge is still to be chosen for each of the order-2 states `left`; the edges
 // so far name the order-1 states `named` and lead into s. Joined so far: (order, b, r). A row of kind 0 is empty.
-#[derive(Clone, Copy)]
+// Kept (1): a row is words, and its kind also tells the round of the state, so it is a number.
+#[derive(Clone, Copy, PartialEq, Eq)]
 pub struct State {
     pub kind: u64,
     pub control: u64,
@@ -43,14 +44,7 @@ pub fn read_state(
 {
     State {
         kind: moves * 2 + 1,
-        control: control,
-        symbol: symbol,
-        s: s,
-        left: left,
-        named: 0,
-        order: order,
-        b: b,
-        r: r,
+        ..edges_state(moves, control, symbol, s, left, 0, order, b, r)
     }
 }
 
@@ -71,36 +65,33 @@ pub fn edges_state(
 {
     State {
         kind: moves * 2 + 2,
-        control: control,
-        symbol: symbol,
-        s: s,
-        left: left,
-        named: named,
-        order: order,
-        b: b,
-        r: r,
+        control,
+        symbol,
+        s,
+        left,
+        named,
+        order,
+        b,
+        r,
     }
 }
 
 // A word that depends on every bit of h and of w.
 fn mixed(h: u64, w: u64) -> u64 {
-    let x = std::num::wrapping_add_u64(h, w);
+    let x = h.wrapping_add(w);
     let low = (x % 4294967296) * 2654435761;
     let high = (x >> 32u64) * 2246822519;
-    let y = std::num::wrapping_add_u64(low, high);
+    let y = low.wrapping_add(high);
     y ^ (y >> 29u64)
 }
 
 // A word that depends on every word of a state.
 fn digest(x: State) -> u64 {
-    let mut h = mixed(x.kind, x.control);
-    h = mixed(h, x.symbol);
-    h = mixed(h, x.s);
-    h = mixed(h, x.left);
-    h = mixed(h, x.named);
-    h = mixed(h, x.order);
-    h = mixed(h, x.b);
-    mixed(h, x.r)
+    let mut h = x.kind;
+    for w in [x.control, x.symbol, x.s, x.left, x.named, x.order, x.b, x.r] {
+        h = mixed(h, w);
+    }
+    h
 }
 
 // The row of a state. Which row it is matters to no result, so nothing more is said of it.
@@ -112,6 +103,8 @@ pub fn place(t: &[u64], x: State) -> usize
     (digest(x) % rows as u64) as usize
 }
 
+// Kept (6): memory is fixed, so states stand in rows of words.
+//
 // The state in row i.
 fn state_at(t: &[u64], i: usize) -> State
     requires { i * 9 + 9 ≤ length t.now }
@@ -131,43 +124,12 @@ fn state_at(t: &[u64], i: usize) -> State
     }
 }
 
-// Whether x and y are the same state.
-fn same_state(x: State, y: State) -> bool
-    ensures { result ≡ same (state_words x) (state_words y) }
-{
-    if x.kind != y.kind {
-        return false;
-    }
-    if x.control != y.control {
-        return false;
-    }
-    if x.symbol != y.symbol {
-        return false;
-    }
-    if x.s != y.s {
-        return false;
-    }
-    if x.left != y.left {
-        return false;
-    }
-    if x.named != y.named {
-        return false;
-    }
-    if x.order != y.order {
-        return false;
-    }
-    if x.b != y.b {
-        return false;
-    }
-    x.r == y.r
-}
-
 // Whether row i holds state x.
 pub fn holds(t: &[u64], i: usize, x: State) -> bool
     requires { i * 9 + 9 ≤ length t.now }
     ensures { result ≡ same (state_words (row_at state_row t.now i)) (state_words x) }
 {
-    same_state(state_at(t, i), x)
+    state_at(t, i) == x
 }
 
 // Writes a state into row i.

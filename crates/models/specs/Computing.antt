@@ -62,7 +62,7 @@ unfolding Listing.ascii Listing.digits_before Listing.decimal Listing.listing_le
 open_listing = 0
 
 unfoldable pub open_memory : ℕ
-unfolding Lists.zeros Memory.padded Memory.move_count Memory.with_counts Memory.counted Memory.largest Memory.move_words Memory.entry_words Memory.move_table Memory.entry_table Memory.lent
+unfolding Memory.padded Memory.move_count Memory.with_counts Memory.counted Memory.largest Memory.move_words Memory.entry_words Memory.move_table Memory.entry_table Memory.lent
 open_memory = 0
 
 unfoldable pub open_replay : ℕ

@@ -1,2 +1,3 @@
 pub mod Keys
 pub mod Search
+pub mod View

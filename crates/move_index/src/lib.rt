@@ -9,6 +9,9 @@ ghost use Rattle.tables.specs.Layouts.{move_row};
 ghost use Rattle.tables.specs.Held.{MovesStand};
 ghost use Rattle.move_index.specs.Keys.{state_key, words_key, same_move, ByState, ByWords};
 
+mod indexed;
+
+pub use indexed::{Indexed, MovesIndexed, WordsIndexed};
 use limits::Limits;
 
 // The key of the moves of state r on symbol a.
@@ -46,44 +49,23 @@ pub fn extend(moves: &[u64], from: usize, to: usize, states: &mut [u16], words: 
     ensures by_state { ByState to moves.now states.new }
     ensures words { ByWords to moves.now words.new }
 {
-    let mut i = from;
-    while i < to {
+    for i in from..to {
         enter(moves, i, states, words);
-        i += 1;
     }
-}
-
-// Whether x and y are the same move.
-fn same_move(x: tables::Move, y: tables::Move) -> bool
-    ensures { result ≡ same_move (as_move x) (as_move y) }
-{
-    if x.state != y.state {
-        return false;
-    }
-    if x.symbol != y.symbol {
-        return false;
-    }
-    if x.order != y.order {
-        return false;
-    }
-    if x.b != y.b {
-        return false;
-    }
-    x.r == y.r
 }
 
 // Whether m is one of the moves.
+// Kept (5): `WordsIndexed` would ask for entries too, which this search does not read.
 pub fn has_move(z: tables::Table, moves: &[u64], words: &[u16], m: tables::Move) -> bool
     requires { MovesStand z moves.now × ByWords z.moves moves.now words.now }
     ensures { result ≡ some_of (same_move (as_move m)) (rows_in move_row z.moves moves.now) }
 {
-    let mut c = chains::last(words, words_key(m));
-    while 0 < c {
-        let i = c - 1;
-        if same_move(m, tables::move_at(moves, i)) {
+    let mut next = chains::last(words, words_key(m));
+    while let Some(i) = next {
+        if m == tables::move_at(moves, i) {
             return true;
         }
-        c = chains::before(words, i);
+        next = chains::before(words, i);
     }
     false
 }

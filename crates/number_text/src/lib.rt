@@ -10,13 +10,6 @@ use limits::Limits;
 
 // ---- numbers as text
 
-fn wide(word: u16) -> u64
-    ensures value { result ≡ word }
-    ensures small { result < 65536 }
-{
-    word as u64
-}
-
 // Numbers in decimal from `at` on, a space before each: at most six bytes a number, the last with room for twenty digits. Answers the place
 // after them.
 fn put_spaced(out: &mut [u8], at: usize, numbers: &[u16]) -> usize
@@ -25,11 +18,9 @@ fn put_spaced(out: &mut [u8], at: usize, numbers: &[u16]) -> usize
     ensures within { result ≤ at + 6 * length numbers.now }
 {
     let mut end = at;
-    let mut i: usize = 0;
-    while i < numbers.len() {
+    for n in numbers {
         let number = text::put_text(out, end, b" ");
-        end = text::put_decimal(out, number, wide(numbers[i]));
-        i += 1;
+        end = text::put_decimal(out, number, u64::from(*n));
     }
     end
 }
@@ -40,11 +31,11 @@ pub fn put_numbers(out: &mut [u8], at: usize, numbers: &[u16]) -> usize
     ensures written { Written out.old at (numbers_text numbers.now) out.new result }
     ensures within { result ≤ at + 6 * length numbers.now }
 {
-    if numbers.len() == 0 {
+    let Some((first, others)) = numbers.split_first() else {
         return at;
-    }
-    let first = text::put_decimal(out, at, wide(numbers[0]));
-    put_spaced(out, first, &numbers[1..])
+    };
+    let end = text::put_decimal(out, at, u64::from(*first));
+    put_spaced(out, end, others)
 }
 
 // ---- the numbers that arguments name
@@ -55,13 +46,10 @@ fn with_digit(most: u64, n: u64, byte: u8) -> u64
     ensures value { result ≡ with_digit most n byte }
     ensures within { result ≤ most }
 {
-    if byte < 48 {
+    if !byte.is_ascii_digit() {
         return most;
     }
-    if 57 < byte {
-        return most;
-    }
-    numbers::smaller(n * 10 + (byte - 48) as u64, most)
+    (n * 10 + u64::from(byte - b'0')).min(most)
 }
 
 // The number that these bytes say in decimal, or `most` where it is larger or they say none.
@@ -69,18 +57,18 @@ fn named(most: u64, argument: &[u8]) -> u64
     requires { most ≤ 65535 }
     ensures { result ≡ number_named most argument.now }
 {
-    if argument.len() == 0 {
+    if argument.is_empty() {
         return most;
     }
     let mut n: u64 = 0;
-    let mut read: usize = 0;
-    while read < argument.len() {
-        n = with_digit(most, n, argument[read]);
-        read += 1;
+    for byte in argument {
+        n = with_digit(most, n, *byte);
     }
     n
 }
 
+// Kept (1): 64 for no number is this function's promise, as the papers have it.
+//
 // The number of a start that these bytes name, or 64, which no start has.
 pub fn start_named(argument: &[u8]) -> usize
     ensures { result ≡ number_named 64 argument.now }

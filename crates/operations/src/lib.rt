@@ -1,7 +1,7 @@
 // The table of operations, and the codes that a tool's record gives in the place of ours.
 #![tactic(auto)]
 
-ghost use Rattle.std.specs.Prelude.{◌≡◌, [], ◌∷◌, map, ◌<◌, ◌≤◌, ◌+◌, ◌*◌, length};
+ghost use Rattle.std.specs.Prelude.{unwrap_or, ◌≡◌, [], ◌∷◌, map, ◌<◌, ◌≤◌, ◌+◌, ◌*◌, length};
 ghost use Rattle.std.proofs.lemmas.List.Edits.{sets};
 ghost use Rattle.files.specs.Bytes.{records};
 ghost use Rattle.files.specs.Codes.{our_codes, our_code, codes_right, in_our_codes};
@@ -104,44 +104,31 @@ pub fn put_our_codes(codes: &mut [u8])
     requires { length codes.old ≡ 8 }
     ensures { codes.new ≡ our_codes }
 {
-    let mut i: usize = 0;
-    while i < Limits::OPERATIONS {
+    for i in 0..Limits::OPERATIONS {
         codes[i] = line_of(i as u64 + 1).code;
-        i += 1;
     }
 }
 
 // ---- codes
 
-// Our code for the tool's code x, by the codes of a record: x's number there, from 1, and 0 where it is not there.
-fn our_code(codes: &[u8], x: u64) -> u64
-    ensures { result ≡ our_code codes.now x }
+// Our code for the tool's code x, by the codes of a record: x's number there, from 1. None where it is not there.
+fn our_code(codes: &[u8], x: u8) -> Option<usize>
+    ensures { unwrap_or result 0 ≡ our_code codes.now x }
 {
-    let mut i: usize = 0;
-    while i < codes.len() {
-        if bytes_in::byte_at(codes, i) == x {
-            return i as u64 + 1;
-        }
-        i += 1;
-    }
-    0
+    let place = codes.iter().position(|c| *c == x)?;
+    Some(place + 1)
 }
 
 // The codes are all different, and none is zero.
 pub fn codes_right(codes: &[u8]) -> bool
     ensures { result ≡ codes_right codes.now }
 {
-    let mut i: usize = 0;
-    while i < codes.len() {
-        let c = bytes_in::byte_at(codes, i);
-        if c == 0 {
+    let mut rest = codes;
+    while let Some((c, after)) = rest.split_first() {
+        if *c == 0 || after.contains(c) {
             return false;
         }
-        let after = i + 1;
-        if our_code(&codes[after..codes.len()], c) != 0 {
-            return false;
-        }
-        i += 1;
+        rest = after;
     }
     true
 }
@@ -165,7 +152,8 @@ fn put_rule(codes: &[u8], x: &[u8], i: usize, rules: &mut [u8])
     requires { (length codes.now ≤ 8) × (length x.now ≡ 5) × (i * 5 + 5 ≤ length rules.old) }
     ensures { rules.new ≡ sets rules.old (i * 5) (in_our_codes codes.now x.now) }
 {
-    let code = our_code(codes, bytes_in::byte_at(x, 2)) as u8;
+    // 0 is the code of no operation
+    let code = our_code(codes, x[2]).unwrap_or(0) as u8;
     let at = i * Limits::RULE_BYTES;
     put_bytes(rules, at, x[0], x[1], code, x[3], x[4]);
 }
@@ -175,11 +163,8 @@ pub fn put_rules(codes: &[u8], body: &[u8], n: usize, rules: &mut [u8])
     requires { (length codes.now ≤ 8) × (n * 5 ≤ length body.now) × (n * 5 ≤ length rules.old) }
     ensures { rules.new ≡ sets rules.old 0 (flat (map (in_our_codes codes.now) (records n 5 body.now))) }
 {
-    let mut i: usize = 0;
-    while i < n {
-        let a = i * Limits::RULE_BYTES;
-        let e = a + Limits::RULE_BYTES;
-        put_rule(codes, &body[a..e], i, rules);
-        i += 1;
+    for i in 0..n {
+        let x = bytes_in::record(body, i, Limits::RULE_BYTES);
+        put_rule(codes, x, i, rules);
     }
 }

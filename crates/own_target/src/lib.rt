@@ -4,31 +4,22 @@
 ghost use Rattle.std.specs.Prelude.{◌≡◌};
 ghost use Rattle.automata.specs.Acceptance.{in_target};
 ghost use Rattle.files.specs.Case.{case_refusal, own_of};
-ghost use Rattle.tables.specs.Held.{automaton_of};
-ghost use Rattle.acceptance.specs.Named.{TablesNamed};
+ghost use Rattle.tables.specs.View.{automaton_in};
+ghost use Rattle.acceptance.specs.Named.{NamedIn};
 ghost use Rattle.own_target.specs.Target.{configuration_in, RootStands};
 
 use limits::Limits;
-use tables::Table;
+use tables::Tables;
 
 // Control `control` with the stack of cell `root`, of the first n, is accepted by the automaton in these tables. It has no rounds, so there are no
 // sizes.
-fn root_accepted(
-    z: Table,
-    inner: &[u64],
-    entries: &[u64],
-    moves: &[u64],
-    cells: &[u8],
-    n: usize,
-    control: u64,
-    root: usize,
-) -> bool
-    requires { TablesNamed z inner.now entries.now moves.now × RootStands n cells.now control root }
-    ensures { result ≡ in_target (automaton_of z inner.now entries.now moves.now) (configuration_in n cells.now control root) }
+fn root_accepted(tables: &Tables<'_>, cells: &[u8], n: usize, control: u64, root: usize) -> bool
+    requires { NamedIn tables.now × RootStands n cells.now control root }
+    ensures { result ≡ in_target (automaton_in tables.now) (configuration_in n cells.now control root) }
 {
     let mut rounds = [0u16; Limits::CELLS * Limits::STATES1];
     let sizes = [0u64; 0];
-    acceptance::fill_rounds(z, inner, entries, moves, &sizes, 0, cells, n, &mut rounds);
+    acceptance::fill_rounds(tables, &sizes, 0, cells, n, &mut rounds);
     acceptance_words::is_won(acceptance_words::accepted(&rounds, root, control))
 }
 
@@ -40,6 +31,12 @@ pub fn in_target(case: &[u8], cells: &[u8], n: usize, control: u64, root: usize)
     let mut inner = [0u64; Limits::INNER_TABLE];
     let mut entries = [0u64; Limits::STATES1 * Limits::ENTRY_WORDS];
     let mut moves = [0u64; Limits::MOVES * Limits::MOVE_WORDS];
-    let z = case_tables::load_case(case, &mut inner, &mut entries, &mut moves);
-    root_accepted(z, &inner, &entries, &moves, cells, n, control, root)
+    let table = case_tables::load_case(case, &mut inner, &mut entries, &mut moves);
+    let tables = Tables {
+        table,
+        inner: &inner,
+        entries: &entries,
+        moves: &moves,
+    };
+    root_accepted(&tables, cells, n, control, root)
 }

@@ -5,15 +5,15 @@ ghost use Rattle.std.specs.Prelude.{◌≡◌, ◌||◌, ◌<◌, eqb};
 ghost use Rattle.tables.specs.Rows.{row_at};
 ghost use Rattle.tables.specs.Records.{as_move};
 ghost use Rattle.tables.specs.Layouts.{move_row};
-ghost use Rattle.tables.specs.Held.{automaton_of, table_of};
-ghost use Rattle.readings.specs.Indexed.{MovesIndexed, Indexed};
+ghost use Rattle.move_index.specs.View.{automaton_in, table_in};
 ghost use Rattle.readings.specs.Before.{HeldBefore};
-ghost use Rattle.readings.specs.Gathering.{CanRead, ReadsAll, CanCollect, CollectsAll};
+ghost use Rattle.readings.specs.Gathering.{CanReadIn, ReadsAllIn, CanCollect, CollectsAll};
 ghost use Rattle.premises.specs.Premises.{premise_gives};
 ghost use Rattle.premises.specs.Reads.{reads_of, push_gives, copy_gives};
 ghost use Rattle.premises.specs.Steps.{move_gives};
 ghost use Rattle.premises.specs.Settled.{SourceHeld};
 
+use move_index::{Indexed, MovesIndexed};
 use readings::Goal;
 
 // How an operation uses a move of an entry.
@@ -37,10 +37,7 @@ pub struct Source {
 pub fn order_fits(k: u64, order: u64) -> bool
     ensures { result ≡ eqb order 0 || eqb order k }
 {
-    if order == 0 {
-        return true;
-    }
-    order == k
+    order == 0 || order == k
 }
 
 // A push of this order for the set s, whose readings are joined to the rest set `rest`.
@@ -67,7 +64,7 @@ fn reads_of(kind: MoveUse, s: u64, m: tables::Move) -> Reads
         MoveUse::Rewritten => Reads::Nothing,
         MoveUse::Pushed1 => Reads::Rest(Push {
             order: 1,
-            s: s,
+            s,
             rest: m.b,
         }),
         MoveUse::Pushed2 => Reads::Rest(Push {
@@ -79,14 +76,10 @@ fn reads_of(kind: MoveUse, s: u64, m: tables::Move) -> Reads
     }
 }
 
-// Collects what a push gives by move m: the readings from the move's rest set. The index of the moves, in `states` and `words`, `new` and
-// `memo` are those of `readings::read_from`, here and in the functions that follow.
+// Collects what a push gives by move m: the readings from the move's rest set. The index of the moves, `new` and `memo` are those of
+// `readings::read_from`, here and in the functions that follow.
 fn by_push(
-    z: tables::Table,
-    entries: &[u64],
-    moves: &[u64],
-    states: &[u16],
-    words: &[u16],
+    by: &MovesIndexed<'_>,
     to: Goal,
     new: bool,
     push: Push,
@@ -95,28 +88,21 @@ fn by_push(
     out: &mut [u64],
     n: usize,
 ) -> usize
-    requires { MovesIndexed z entries.now moves.now states.now words.now × CanRead z entries.now moves.now to.room n out.old memo.old
-        × HeldBefore (table_of z entries.now moves.now) to new (push_gives to push (as_move m)) }
-    ensures { ReadsAll z entries.now moves.now to.room n out.old memo.old
+    requires { CanReadIn by.now to.room n out.old memo.old
+        × HeldBefore (table_in by.now.held) to new (push_gives to push (as_move m)) }
+    ensures { ReadsAllIn by.now to.room n out.old memo.old
         (push_gives to push (as_move m)) result out.new memo.new }
 {
     if !order_fits(push.order, m.order) {
         return n;
     }
     let s = push.s;
-    readings::read_from(
-        z, entries, moves, states, words, to, s, new, m.r, 0, 0, push.rest, memo, out, n,
-    )
+    readings::read_from(by, to, s, new, m.r, 0, 0, push.rest, memo, out, n)
 }
 
 // Collects what a copy gives by move m of an entry with the set s: the readings from the set's order-2 states, joined to the move.
 fn by_copy(
-    z: tables::Table,
-    inner: &[u64],
-    entries: &[u64],
-    moves: &[u64],
-    states: &[u16],
-    words: &[u16],
+    by: &Indexed<'_>,
     to: Goal,
     new: bool,
     s: u64,
@@ -125,25 +111,17 @@ fn by_copy(
     out: &mut [u64],
     n: usize,
 ) -> usize
-    requires { Indexed z inner.now entries.now moves.now states.now words.now
-        × CanCollect (automaton_of z inner.now entries.now moves.now) to.room n out.old memo.old
-        × HeldBefore (automaton_of z inner.now entries.now moves.now) to new (copy_gives to s (as_move m)) }
-    ensures { CollectsAll (automaton_of z inner.now entries.now moves.now) to.room n out.old
+    requires { CanCollect (automaton_in by.now) to.room n out.old memo.old
+        × HeldBefore (automaton_in by.now) to new (copy_gives to s (as_move m)) }
+    ensures { CollectsAll (automaton_in by.now) to.room n out.old
         (copy_gives to s (as_move m)) result out.new memo.new }
 {
-    edge_readings::read_edges(
-        z, inner, entries, moves, states, words, to, 0, new, m.order, m.b, m.r, s, 0, memo, out, n,
-    )
+    edge_readings::read_edges(by, to, 0, new, m.order, m.b, m.r, s, 0, memo, out, n)
 }
 
 // Collects what move m of an entry with the set s gives.
 fn by_premise(
-    z: tables::Table,
-    inner: &[u64],
-    entries: &[u64],
-    moves: &[u64],
-    states: &[u16],
-    words: &[u16],
+    by: &Indexed<'_>,
     to: Goal,
     new: bool,
     kind: MoveUse,
@@ -153,35 +131,24 @@ fn by_premise(
     out: &mut [u64],
     n: usize,
 ) -> usize
-    requires { Indexed z inner.now entries.now moves.now states.now words.now
-        × CanCollect (automaton_of z inner.now entries.now moves.now) to.room n out.old memo.old
-        × HeldBefore (automaton_of z inner.now entries.now moves.now) to new (premise_gives to kind s (as_move m)) }
-    ensures { CollectsAll (automaton_of z inner.now entries.now moves.now) to.room n out.old
+    requires { CanCollect (automaton_in by.now) to.room n out.old memo.old
+        × HeldBefore (automaton_in by.now) to new (premise_gives to kind s (as_move m)) }
+    ensures { CollectsAll (automaton_in by.now) to.room n out.old
         (premise_gives to kind s (as_move m)) result out.new memo.new }
 {
-    let read = reads_of(kind, s, m);
-    match read {
+    match reads_of(kind, s, m) {
         Reads::Nothing => {
             let x = readings::result(to, s, m.order, m.b, m.r);
-            offers::offer(z, entries, moves, words, x, out, n, to.room)
+            offers::offer(&by.moves.held, x, out, n, to.room)
         }
-        Reads::Rest(push) => by_push(
-            z, entries, moves, states, words, to, new, push, m, memo, out, n,
-        ),
-        Reads::Edges => by_copy(
-            z, inner, entries, moves, states, words, to, new, s, m, memo, out, n,
-        ),
+        Reads::Rest(push) => by_push(&by.moves, to, new, push, m, memo, out, n),
+        Reads::Edges => by_copy(by, to, new, s, m, memo, out, n),
     }
 }
 
 // Collects what move number i gives, where it comes from this source.
 pub fn by_move(
-    z: tables::Table,
-    inner: &[u64],
-    entries: &[u64],
-    moves: &[u64],
-    states: &[u16],
-    words: &[u16],
+    by: &Indexed<'_>,
     to: Goal,
     from: Source,
     i: usize,
@@ -189,23 +156,19 @@ pub fn by_move(
     out: &mut [u64],
     n: usize,
 ) -> usize
-    requires { Indexed z inner.now entries.now moves.now states.now words.now
-        × CanCollect (automaton_of z inner.now entries.now moves.now) to.room n out.old memo.old
-        × SourceHeld (automaton_of z inner.now entries.now moves.now) to from × (i < z.moves) }
-    ensures { CollectsAll (automaton_of z inner.now entries.now moves.now) to.room n out.old
-        (move_gives to from (row_at move_row moves.now i)) result out.new memo.new }
+    requires { CanCollect (automaton_in by.now) to.room n out.old memo.old
+        × SourceHeld (automaton_in by.now) to from × (i < by.now.moves.held.table.moves) }
+    ensures { CollectsAll (automaton_in by.now) to.room n out.old
+        (move_gives to from (row_at move_row by.now.moves.held.moves.now i)) result out.new memo.new }
 {
-    let m = tables::move_at(moves, i);
-    if m.symbol != from.symbol {
+    let held = &by.moves.held;
+    let m = tables::move_at(held.moves, i);
+    if m.symbol != from.symbol
+        || !tables::entry_of(held.table, held.entries, from.control, m.state)
+    {
         return n;
     }
-    if !tables::entry_of(z, entries, from.control, m.state) {
-        return n;
-    }
-    let s = tables::entry_set(z, entries, m.state);
-    let kind = from.kind;
+    let s = tables::entry_set(held.table, held.entries, m.state);
     let new = to.before.moves <= i;
-    by_premise(
-        z, inner, entries, moves, states, words, to, new, kind, s, m, memo, out, n,
-    )
+    by_premise(by, to, new, from.kind, s, m, memo, out, n)
 }

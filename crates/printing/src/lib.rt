@@ -5,6 +5,7 @@ ghost use Rattle.std.specs.Prelude.{◌≡◌, true};
 ghost use Rattle.std.specs.Io.KnownBytes.{Appends};
 ghost use Rattle.std.specs.Counts.{IsPrefixLen};
 
+use limits::Limits;
 use std::fs::{File, OpenOptions};
 use std::io::{Read, Write};
 use std::rt::{Env, Files};
@@ -19,11 +20,29 @@ pub fn read_file(files: &impl Files, path: &str, buffer: &mut [u8]) -> usize
     }
 }
 
+// Reads case.bin and start.bin, has their text written and answers its length. Each buffer holds a byte more than the longest sound file, so a
+// longer file is refused for its length.
+pub fn text_of_files<T, F: FnOnce(&[u8], &[u8], &mut T) -> usize>(
+    files: &impl Files,
+    text: &mut T,
+    write: F,
+) -> usize
+    requires { F.IsAlwaysCallable write }
+    ensures { (case : _) × (start : _) × (before : _) × (after : _) × F.post write case start before result after × (after.now ≡ text.new) }
+{
+    let mut case = [0u8; Limits::CASE_FILE + 1];
+    let mut start = [0u8; Limits::START_FILE + 1];
+    let c = read_file(files, "case.bin", &mut case);
+    let s = read_file(files, "start.bin", &mut start);
+    write(&case[..c], &start[..s], text)
+}
+
 // Reads until the buffer is full, the input ends or a read fails, and answers how many bytes it read.
 fn read_full<R: Read>(from: &mut R, buffer: &mut [u8]) -> usize
     ensures { IsPrefixLen result buffer.new }
 {
     let mut done = 0;
+    // Kept (3): a read gives some number of bytes, and `read_exact` does not tell how many it read before the end of the input.
     while done < buffer.len() {
         match from.read(&mut buffer[done..]) {
             Ok(0) => break,

@@ -6,6 +6,7 @@ use Rattle.automata.specs.Automaton.{Automaton}
 use Rattle.automata.specs.Derivation.{Result}
 use Rattle.tables.specs.declared.Table.{Table}
 use Rattle.tables.specs.Held.{automaton_of, table_of}
+use Rattle.move_index.specs.declared.indexed.MovesIndexed.{MovesIndexed}
 use Rattle.offers.specs.Offers.{Room, Collects}
 use Rattle.readings.specs.Memo.{MemoHolds}
 
@@ -39,3 +40,11 @@ pub record CanRead (z : Table) (entries moves : List ℕ) (room n : ℕ) (t memo
 pub record ReadsAll (z : Table) (entries moves : List ℕ) (room n : ℕ) (t memo : List ℕ) (gives : Automaton → List Result) (r : ℕ) (t' memo' : List ℕ) : Type 0 where
   pub collects : Collects (table_of z entries moves) room n t (gives (table_of z entries moves)) r t'
   pub memo_kept : MemoKept z entries moves room n t memo r t' memo'
+
+-- ---- in indexed tables
+
+abbrev pub CanReadIn : MovesIndexed → ℕ → ℕ → List ℕ → List ℕ → Type 0
+CanReadIn by = CanRead by.held.table by.held.entries.now by.held.moves.now
+
+abbrev pub ReadsAllIn : MovesIndexed → ℕ → ℕ → List ℕ → List ℕ → (Automaton → List Result) → ℕ → List ℕ → List ℕ → Type 0
+ReadsAllIn by = ReadsAll by.held.table by.held.entries.now by.held.moves.now

@@ -4,14 +4,14 @@
 
 ghost use Rattle.std.specs.Prelude.{◌≡◌, ◌||◌, ◌&&◌, not, ◌∷◌, ◌<◌, leb};
 ghost use Rattle.words.specs.Sets.{part_of, members};
-ghost use Rattle.tables.specs.Held.{table_of};
+ghost use Rattle.move_index.specs.View.{table_in};
 ghost use Rattle.joins.specs.Joining.{the_joins};
-ghost use Rattle.readings.specs.Indexed.{MovesIndexed};
 ghost use Rattle.readings.specs.Readings.{the_result, reads_to};
 ghost use Rattle.readings.specs.Before.{HeldBefore};
-ghost use Rattle.readings.specs.Gathering.{CanRead, ReadsAll};
+ghost use Rattle.readings.specs.Gathering.{CanReadIn, ReadsAllIn};
 
-use joins::{Joined, Joins};
+use joins::Joins;
+use move_index::MovesIndexed;
 
 // The table of the round before: so many moves and entries. What it gives is held, so only what the last round added is looked at, as in
 // semi-naive evaluation; in round 1, where there is none, all is `new`. No move on a goal's symbol of a state of `settled` is newer.
@@ -38,11 +38,11 @@ pub fn result(to: Goal, s: u64, order: u64, b: u64, r: u64) -> tables::Result
 {
     tables::Result {
         control: to.control,
-        s: s,
+        s,
         symbol: to.symbol,
-        order: order,
-        b: b,
-        r: r,
+        order,
+        b,
+        r,
     }
 }
 
@@ -52,20 +52,14 @@ pub fn result(to: Goal, s: u64, order: u64, b: u64, r: u64) -> tables::Result
 fn is_settled(new: bool, left: u64, t: Before) -> bool
     ensures { result ≡ not new && part_of left t.settled }
 {
-    if new {
-        return false;
-    }
-    sets::part_of(left, t.settled)
+    !new && sets::part_of(left, t.settled)
 }
 
 // Whether something is new: it was so far, or number i is one of the newer ones, which begin with number `first`.
 pub fn is_newer(new: bool, first: usize, i: usize) -> bool
     ensures { result ≡ new || leb first i }
 {
-    if new {
-        return true;
-    }
-    first <= i
+    new || first <= i
 }
 
 // ---- readings
@@ -74,13 +68,10 @@ pub fn is_newer(new: bool, first: usize, i: usize) -> bool
 // of a move for each state, beginning with a state that has few. Where nothing new was used so far, what the earlier table gives is held, and
 // readings without a newer move are passed over. The rows of `memo` hold states of this recursion that were worked through: all their results
 // are held or collected, so such a state is passed over too. Which states stand there at the end is left open.
+// Kept (5): document 01 has what is joined so far as plain words order, b and r in this recursion.
 #[cycle(readings)]
 pub fn read_from(
-    z: tables::Table,
-    entries: &[u64],
-    moves: &[u64],
-    states: &[u16],
-    words: &[u16],
+    by: &MovesIndexed<'_>,
     to: Goal,
     s: u64,
     new: bool,
@@ -92,10 +83,9 @@ pub fn read_from(
     out: &mut [u64],
     n: usize,
 ) -> usize
-    requires { MovesIndexed z entries.now moves.now states.now words.now
-        × CanRead z entries.now moves.now to.room n out.old memo.old
-        × HeldBefore (table_of z entries.now moves.now) to new (reads_to to s (members left) (the_joins order b r)) }
-    ensures { ReadsAll z entries.now moves.now to.room n out.old memo.old
+    requires { CanReadIn by.now to.room n out.old memo.old
+        × HeldBefore (table_in by.now.held) to new (reads_to to s (members left) (the_joins order b r)) }
+    ensures { ReadsAllIn by.now to.room n out.old memo.old
         (reads_to to s (members left) (the_joins order b r)) result out.new memo.new }
 {
     if to.room < n {
@@ -106,21 +96,15 @@ pub fn read_from(
     }
     if left == 0 {
         let x = result(to, s, order, b, r);
-        return offers::offer(z, entries, moves, words, x, out, n, to.room);
+        return offers::offer(&by.held, x, out, n, to.room);
     }
-    read_left(
-        z, entries, moves, states, words, to, s, new, left, order, b, r, memo, out, n,
-    )
+    read_left(by, to, s, new, left, order, b, r, memo, out, n)
 }
 
 // The same where some state is left, unless it stands in `memo`: by the state that has the fewest choices.
 #[cycle(readings)]
 fn read_left(
-    z: tables::Table,
-    entries: &[u64],
-    moves: &[u64],
-    states: &[u16],
-    words: &[u16],
+    by: &MovesIndexed<'_>,
     to: Goal,
     s: u64,
     new: bool,
@@ -132,26 +116,24 @@ fn read_left(
     out: &mut [u64],
     n: usize,
 ) -> usize
-    requires { MovesIndexed z entries.now moves.now states.now words.now
-        × CanRead z entries.now moves.now to.room n out.old memo.old × (0 < left)
-        × HeldBefore (table_of z entries.now moves.now) to new (reads_to to s (members left) (the_joins order b r)) }
-    ensures { ReadsAll z entries.now moves.now to.room n out.old memo.old
+    requires { CanReadIn by.now to.room n out.old memo.old × (0 < left)
+        × HeldBefore (table_in by.now.held) to new (reads_to to s (members left) (the_joins order b r)) }
+    ensures { ReadsAllIn by.now to.room n out.old memo.old
         (reads_to to s (members left) (the_joins order b r)) result out.new memo.new }
 {
-    let count = z.moves as u64;
+    let count = by.held.table.moves as u64;
     let x = memo_table::read_state(count, to.control, to.symbol, s, left, order, b, r);
     let row = memo_table::place(memo, x);
     if memo_table::holds(memo, row, x) {
         return n;
     }
-    let q = choices::fewest(z, moves, states, left, to.symbol, Joins { order, b, r });
+    let j = Joins { order, b, r };
+    let q = choices::fewest(by.held.table, by.held.moves, by.states, left, to.symbol, j);
     let part = sets::Split {
         member: q,
         others: sets::without(left, q),
     };
-    let k = read_moves(
-        z, entries, moves, states, words, to, s, new, part, order, b, r, memo, out, n,
-    );
+    let k = read_moves(by, to, s, new, part, order, b, r, memo, out, n);
     memo_table::put(memo, row, x);
     k
 }
@@ -160,11 +142,7 @@ fn read_left(
 // the readings from the others.
 #[cycle(readings)]
 fn read_moves(
-    z: tables::Table,
-    entries: &[u64],
-    moves: &[u64],
-    states: &[u16],
-    words: &[u16],
+    by: &MovesIndexed<'_>,
     to: Goal,
     s: u64,
     new: bool,
@@ -176,26 +154,20 @@ fn read_moves(
     out: &mut [u64],
     n: usize,
 ) -> usize
-    requires { MovesIndexed z entries.now moves.now states.now words.now
-        × CanRead z entries.now moves.now to.room n out.old memo.old
-        × HeldBefore (table_of z entries.now moves.now) to new (reads_to to s (part.member ∷ members part.others) (the_joins order b r)) }
-    ensures { ReadsAll z entries.now moves.now to.room n out.old memo.old
+    requires { CanReadIn by.now to.room n out.old memo.old
+        × HeldBefore (table_in by.now.held) to new (reads_to to s (part.member ∷ members part.others) (the_joins order b r)) }
+    ensures { ReadsAllIn by.now to.room n out.old memo.old
         (reads_to to s (part.member ∷ members part.others) (the_joins order b r)) result out.new memo.new }
 {
     let j = Joins { order, b, r };
     let mut k = n;
-    let mut c = chains::last(states, move_index::state_key(part.member, to.symbol));
-    while 0 < c {
-        let i = c - 1;
-        let m = tables::move_at(moves, i);
-        if let Joined::To(more) = joins::candidate(m, part.member, to.symbol, j) {
+    let mut next = chains::last(by.states, move_index::state_key(part.member, to.symbol));
+    while let Some(i) = next {
+        let m = tables::move_at(by.held.moves, i);
+        if let Some(more) = joins::candidate(m, part.member, to.symbol, j) {
             let newer = is_newer(new, to.before.moves, i);
             k = read_from(
-                z,
-                entries,
-                moves,
-                states,
-                words,
+                by,
                 to,
                 s,
                 newer,
@@ -208,7 +180,7 @@ fn read_moves(
                 k,
             );
         }
-        c = chains::before(states, i);
+        next = chains::before(by.states, i);
     }
     k
 }

@@ -1,9 +1,11 @@
 -- The service replay: its input and what it leaves, as the values of the code give them.
 -- Assumes nothing.
 pub mod Laws
-use Rattle.std.specs.Prelude.{ℕ, ◌/◌, min, Bool, true, false, List}
+use Rattle.std.specs.Prelude.{ℕ, ◌/◌, min, Bool, true, false, List, Result, Ok, Err}
+use Rattle.replies.specs.declared.Refusal.{Refusal}
+use Rattle.replies.specs.Numbers.{number_for}
 use Rattle.replies.specs.declared.Replayed.{Replayed}
-use Rattle.replies.specs.declared.Replayed.TheVariants.{Accepted, FailsAt}
+use Rattle.replies.specs.declared.Replayed.TheVariants.{Refused, Accepted, FailsAt}
 use Rattle.services.specs.Replay.{ReplayInput, ReplayDone}
 
 abbrev pub replay_input : List ℕ → List ℕ → ℕ → List ℕ → ℕ → ReplayInput
@@ -20,3 +22,8 @@ lent_cells bytes = min (bytes / 6) 4096
 abbrev pub arrival_answer : Bool → ℕ → Replayed
 arrival_answer true n = Accepted
 arrival_answer false n = FailsAt n
+
+-- what is answered where nothing refuses, or a refusal
+abbrev pub the_reply : Result Replayed Refusal → Replayed
+the_reply (Ok r) = r
+the_reply (Err r) = Refused (number_for r)

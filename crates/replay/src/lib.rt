@@ -2,6 +2,7 @@
 #![tactic(auto)]
 
 ghost use Rattle.std.specs.Prelude.{◌≡◌, ◌<◌, ◌≤◌, ◌*◌, length};
+ghost use Rattle.replies.specs.Numbers.{refusal_code};
 ghost use Rattle.automata.specs.Acceptance.{in_target};
 ghost use Rattle.files.specs.Case.{case_refusal, own_of, rules_of};
 ghost use Rattle.files.specs.Start.{starts_of, cells_of, configuration_at};
@@ -12,35 +13,39 @@ ghost use Rattle.sound_files.specs.Refusal.{FilesSound};
 ghost use Rattle.sound_files.specs.Sound.{StartSound};
 ghost use Rattle.replay_step.specs.Place.{place_configuration, PlaceStands};
 ghost use Rattle.replay.specs.Start.{StartPlace};
-ghost use Rattle.replay.specs.Service.{lent_cells, replay_input, replay_done, arrival_answer};
+ghost use Rattle.replay.specs.Service.{lent_cells, replay_input, replay_done, arrival_answer, the_reply};
 
 use limits::Limits;
 use replay_step::Place;
-use replay_trace::Ended;
-use replies::Replayed;
+use replies::{Refusal, Replayed};
 
+// Kept (2): one line, as in `guided_start`; one function for both would take the size of a cell, which each crate knows alone.
+//
 // The cells that so many bytes lend, of which at most 4,096 count.
 fn cells_lent(bytes: usize) -> usize
     ensures { result ≡ lent_cells bytes }
 {
-    numbers::smaller((bytes / Limits::CELL_BYTES) as u64, Limits::CELLS as u64) as usize
+    (bytes / Limits::CELL_BYTES).min(Limits::CELLS)
 }
 
-// The refusal before the first step, with so many bytes lent for cells, or 0.
-fn refusal_of(case: &[u8], start: &[u8], number: usize, trace: &[u8], bytes: usize) -> u64
-    ensures { result ≡ replay_refusal (replay_input case.now start.now number trace.now bytes) }
+// The refusal before the first step, with so many bytes lent for cells.
+fn refusal_of(
+    case: &[u8],
+    start: &[u8],
+    number: usize,
+    trace: &[u8],
+    bytes: usize,
+) -> Result<(), Refusal>
+    ensures { refusal_code result ≡ replay_refusal (replay_input case.now start.now number trace.now bytes) }
 {
-    let files = sound_files::number_refusal(case, start, number);
-    if files != 0 {
-        return files;
-    }
+    sound_files::number_refusal(case, start, number)?;
     if trace.len() % Limits::NUMBER_BYTES == 1 {
-        return 10;
+        return Err(Refusal::OddTrace);
     }
     if cells_lent(bytes) < bytes_in::count_of(start, Limits::CELL_BODY) {
-        return 11;
+        return Err(Refusal::FewCells);
     }
-    0
+    Ok(())
 }
 
 // Copies the cells of a sound start file, and answers where its start `number` stands.
@@ -86,11 +91,25 @@ fn replay_sound(
     let mut rules = [0u8; Limits::RULE_TABLE];
     case_file::put_rules(case, &mut rules);
     let count = bytes_in::count_of(case, Limits::RULE_BODY);
-    let ended = replay_trace::replay_trace(&rules, count, trace, cells, most, w);
-    match ended {
-        Ended::Answered(r) => r,
-        Ended::At(v) => answer_at(case, cells, v, (trace.len() / Limits::NUMBER_BYTES) as u64),
+    match replay_trace::replay_trace(&rules, count, trace, cells, most, w) {
+        Err(r) => r,
+        Ok(v) => answer_at(case, cells, v, (trace.len() / Limits::NUMBER_BYTES) as u64),
     }
+}
+
+// Replays the trace from a start of files, and leaves the cells that it has used.
+fn replay_files(
+    case: &[u8],
+    start: &[u8],
+    number: usize,
+    trace: &[u8],
+    cells: &mut [u8],
+) -> Result<Replayed, Refusal>
+    ensures { the_reply result ≡ (replay_service (replay_input case.now start.now number trace.now (length cells.old))).reply }
+{
+    refusal_of(case, start, number, trace, cells.len())?;
+    let most = cells_lent(cells.len());
+    Ok(replay_sound(case, start, number, trace, cells, most))
 }
 
 // Replays a trace of rule numbers, two bytes each, low byte first, from start `number`. Answers that it is accepted, the step that fails, or
@@ -100,13 +119,10 @@ pub fn replay(case: &[u8], start: &[u8], number: usize, trace: &[u8], cells: &mu
     ensures demand1 { ReplayStates (replay_input case.now start.now number trace.now (length cells.old)) (replay_done result cells.new) }
     ensures exactly { AnswersExactly (replay_input case.now start.now number trace.now (length cells.old)) result }
 {
-    let refusal = refusal_of(case, start, number, trace, cells.len());
-    if refusal != 0 {
-        zeroing::zero_u8(cells);
-        return Replayed::Refused(refusal);
+    let replayed = replay_files(case, start, number, trace, cells);
+    zeroing::zero(cells);
+    match replayed {
+        Ok(reply) => reply,
+        Err(refusal) => Replayed::Refused(u64::from(refusal)),
     }
-    let most = cells_lent(cells.len());
-    let reply = replay_sound(case, start, number, trace, cells, most);
-    zeroing::zero_u8(cells);
-    reply
 }

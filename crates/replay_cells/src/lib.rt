@@ -20,11 +20,7 @@ pub fn copy_cells(body: &[u8], cells: &mut [u8])
     requires { length body.now ≤ length cells.old }
     ensures { cells.new ≡ sets cells.old 0 body.now }
 {
-    let mut i: usize = 0;
-    while i < body.len() {
-        cells[i] = body[i];
-        i += 1;
-    }
+    cells[..body.len()].copy_from_slice(body);
 }
 
 // The six bytes of a cell, from `at` on.
@@ -54,15 +50,14 @@ fn put_cell(cells: &mut [u8], i: usize, cell: Cell)
     }
 }
 
+// Kept (2): `cell_steps` has the same loop of one line on lent words: the two write different memory.
+//
 // Writes the new cells of the operation on x, from cell n on.
 pub fn put_cells(cells: &mut [u8], n: usize, op: Operation, x: Top)
     requires { ((n + new_cells (the_operation op)) * 6 ≤ length cells.old) × (n ≤ 4096) × (symbol_of (the_operation op) < 256) × (x.symbol < 256) }
     ensures { cells.new ≡ put_from put_bytes cells.old n (cells_after (the_operation op) n x.symbol x.annotation x.rest x.below) }
 {
-    let count = cell_steps::new_cells(op);
-    let mut i: usize = 0;
-    while i < count {
+    for i in 0..cell_steps::new_cells(op) {
         put_cell(cells, n + i, cell_steps::new_cell(op, n as u16, x, i));
-        i += 1;
     }
 }

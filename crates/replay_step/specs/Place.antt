@@ -1,7 +1,7 @@
 -- Where a replay stands in lent bytes, and what a step answers.
 -- Assumes nothing.
 pub mod Laws
-use Rattle.std.specs.Prelude.{ℕ, ◌+◌, ◌*◌, ◌<◌, ◌≤◌, ◌≡◌, List, ◌++◌, length}
+use Rattle.std.specs.Prelude.{ℕ, Result, Ok, Err, ◌+◌, ◌*◌, ◌<◌, ◌≤◌, ◌≡◌, List, ◌++◌, length}
 use Rattle.std.proofs.Math.Option.{none, some}
 use Rattle.stacks.specs.Stack.{Operation, new_cells}
 use Rattle.stacks.specs.System.{Configuration, Rule, step}
@@ -11,8 +11,8 @@ use Rattle.services.specs.Replay.{Taken, taken}
 use Rattle.cell_steps.specs.declared.Top.{Top}
 use Rattle.start_records.specs.Body.{cells_in}
 use Rattle.replay_step.specs.declared.Place.{Place}
-use Rattle.replay_step.specs.declared.Stepped.{Stepped}
-use Rattle.replay_step.specs.declared.Stepped.TheVariants.{Fails, Short, To}
+use Rattle.replay_step.specs.declared.Stop.{Stop}
+use Rattle.replay_step.specs.declared.Stop.TheVariants.{Fails, Short}
 
 -- the configuration of a place: its control with the stack that its root cell stands for
 abbrev pub place_configuration : Place → List ℕ → Configuration
@@ -49,10 +49,10 @@ pub record RuleGoes (ρ : Rule) (most : ℕ) (w : Place) (bytes : List ℕ) (v :
   pub within : v.cells ≤ most
   pub stands : PlaceStands v bytes'
 
-abbrev pub RuleAnswers : Rule → ℕ → Place → List ℕ → Stepped → List ℕ → Type 0
-RuleAnswers ρ most w bytes Fails bytes' = step ρ (place_configuration w bytes) ≡ none
-RuleAnswers ρ most w bytes Short bytes' = RuleShort ρ most w bytes
-RuleAnswers ρ most w bytes (To v) bytes' = RuleGoes ρ most w bytes v bytes'
+abbrev pub RuleAnswers : Rule → ℕ → Place → List ℕ → Result Place Stop → List ℕ → Type 0
+RuleAnswers ρ most w bytes (Err Fails) bytes' = step ρ (place_configuration w bytes) ≡ none
+RuleAnswers ρ most w bytes (Err Short) bytes' = RuleShort ρ most w bytes
+RuleAnswers ρ most w bytes (Ok v) bytes' = RuleGoes ρ most w bytes v bytes'
 
 -- ---- by the rule of a number
 
@@ -68,7 +68,7 @@ pub record StepGoes (rules : List Rule) (most k : ℕ) (w : Place) (bytes : List
   pub within : v.cells ≤ most
   pub stands : PlaceStands v bytes'
 
-abbrev pub StepAnswers : List Rule → ℕ → ℕ → Place → List ℕ → Stepped → List ℕ → Type 0
-StepAnswers rules most k w bytes Fails bytes' = taken rules k (place_configuration w bytes) ≡ none
-StepAnswers rules most k w bytes Short bytes' = StepLacks rules most k w bytes
-StepAnswers rules most k w bytes (To v) bytes' = StepGoes rules most k w bytes v bytes'
+abbrev pub StepAnswers : List Rule → ℕ → ℕ → Place → List ℕ → Result Place Stop → List ℕ → Type 0
+StepAnswers rules most k w bytes (Err Fails) bytes' = taken rules k (place_configuration w bytes) ≡ none
+StepAnswers rules most k w bytes (Err Short) bytes' = StepLacks rules most k w bytes
+StepAnswers rules most k w bytes (Ok v) bytes' = StepGoes rules most k w bytes v bytes'

@@ -1,19 +1,18 @@
 -- The top of a stack in cells, and whether a rule applies to it.
 -- Assumes nothing.
 pub mod Laws
-use Rattle.std.specs.Prelude.{ℕ, Bool, true, ◌&&◌, List, eqb}
+use Rattle.std.specs.Prelude.{ℕ, Some, None, Bool, true, ◌&&◌, List, eqb}
+use Rattle.std.specs.Prelude as std
 use Rattle.std.proofs.Math.Option.{Option, none, some}
 use Rattle.stacks.specs.Stack.{Operation, rewrite, push1, push2, copy, pop1, pop2, collapse1, collapse2}
 use Rattle.stacks.specs.System.{Rule}
 use Rattle.walks.specs.Cell.{Cell, empty1, symbol, empty2, above}
 use Rattle.cell_steps.specs.declared.Top.{Top}
 use Rattle.cell_steps.specs.Steps.{cell_number}
-use Rattle.replay_step.specs.declared.Found.{Found}
-use Rattle.replay_step.specs.declared.Found.TheVariants.{Nothing, At}
 
-abbrev pub found_top : Found → Option Top
-found_top Nothing = none
-found_top (At x) = some x
+abbrev pub found_top : std.Option Top → Option Top
+found_top None = none
+found_top (Some x) = some x
 
 -- the top where this order-1 cell stands on order-2 cell t
 unfoldable pub top_on : ℕ → Cell → Option Top

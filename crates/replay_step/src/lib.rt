@@ -1,7 +1,7 @@
 // One step of a replay on cells in lent bytes: whether a rule exists and applies, whether there is room for its new cells, and the step.
 #![tactic(auto)]
 
-ghost use Rattle.std.specs.Prelude.{◌≡◌, ◌<◌, ◌≤◌, ◌+◌, ◌*◌, length};
+ghost use Rattle.std.specs.Prelude.{◌≡◌, ◌<◌, ◌≤◌, ◌+◌, ◌*◌, length, Some};
 ghost use Rattle.stacks.specs.Stack.{new_cells};
 ghost use Rattle.case_records.specs.Values.{the_operation, the_rule};
 ghost use Rattle.results.specs.Collecting.{rules_in, RulesStand};
@@ -25,13 +25,6 @@ pub struct Place {
 
 // ---- the top
 
-// The top of a stack in cells, or that it is empty or has an empty top order-1 stack.
-#[derive(Clone, Copy)]
-enum Found {
-    Nothing,
-    At(Top),
-}
-
 // Cell i of the first n, and an empty order-1 stack where there is none.
 fn cell_of(cells: &[u8], n: usize, i: u16) -> Cell
     requires { n * 6 ≤ length cells.now }
@@ -44,40 +37,31 @@ fn cell_of(cells: &[u8], n: usize, i: u16) -> Cell
     Cell::Empty1
 }
 
-// The top where order-1 cell c, of the first n, stands on order-2 cell t.
-fn top_on(cells: &[u8], n: usize, c: u16, t: u16) -> Found
+// The top where order-1 cell c, of the first n, stands on order-2 cell t: none where it is empty.
+fn top_on(cells: &[u8], n: usize, c: u16, t: u16) -> Option<Top>
     requires { n * 6 ≤ length cells.now }
     ensures { found_top result ≡ top_on t (cell_number (cells_in n cells.now) c) }
 {
-    let cell = cell_of(cells, n, c);
-    match cell {
-        Cell::Empty1 => Found::Nothing,
-        Cell::Symbol(a, u, s) => {
-            let top = Top {
-                symbol: a,
-                annotation: u,
-                rest: s,
-                below: t,
-            };
-            Found::At(top)
-        }
-        Cell::Empty2 => Found::Nothing,
-        Cell::Above(_, _) => Found::Nothing,
-    }
+    let Cell::Symbol(symbol, annotation, rest) = cell_of(cells, n, c) else {
+        return None;
+    };
+    Some(Top {
+        symbol,
+        annotation,
+        rest,
+        below: t,
+    })
 }
 
-// The top of the stack that cell `root`, of the first n, stands for.
-fn top_in(cells: &[u8], n: usize, root: u16) -> Found
+// The top of the stack that cell `root`, of the first n, stands for: none where the stack or its top order-1 stack is empty.
+fn top_in(cells: &[u8], n: usize, root: u16) -> Option<Top>
     requires { n * 6 ≤ length cells.now }
     ensures { found_top result ≡ top_in (cells_in n cells.now) root }
 {
-    let cell = cell_of(cells, n, root);
-    match cell {
-        Cell::Empty1 => Found::Nothing,
-        Cell::Symbol(_, _, _) => Found::Nothing,
-        Cell::Empty2 => Found::Nothing,
-        Cell::Above(c, t) => top_on(cells, n, c, t),
-    }
+    let Cell::Above(c, t) = cell_of(cells, n, root) else {
+        return None;
+    };
+    top_on(cells, n, c, t)
 }
 
 // ---- whether a rule applies
@@ -87,14 +71,9 @@ fn takes_order(op: Operation, order: u64) -> bool
     ensures { result ≡ takes_order (the_operation op) order }
 {
     match op {
-        Operation::Rewrite(_) => true,
-        Operation::Push1(_) => true,
-        Operation::Push2(_) => true,
-        Operation::Copy => true,
-        Operation::Pop1 => true,
-        Operation::Pop2 => true,
         Operation::Collapse1 => order == 1,
         Operation::Collapse2 => order == 2,
+        _ => true,
     }
 }
 
@@ -102,14 +81,7 @@ fn takes_order(op: Operation, order: u64) -> bool
 fn rule_fits(rule: Rule, control: u64, symbol: u16, order: u64) -> bool
     ensures { result ≡ rule_fits (the_rule rule) control symbol order }
 {
-    if control != rule.control {
-        return false;
-    }
-    if symbol as u64 != rule.symbol {
-        return false;
-    }
-    let op = rule.operation;
-    takes_order(op, order)
+    control == rule.control && symbol as u64 == rule.symbol && takes_order(rule.operation, order)
 }
 
 // ---- the step
@@ -128,30 +100,29 @@ fn take_step(op: Operation, next: u64, x: Top, cells: &mut [u8], w: Place) -> Pl
     }
 }
 
-// What a step answers: the rule does not exist or does not apply, there is no room for its new cells, or the place after it.
+// Why a step is not taken: its rule does not exist or does not apply, or there is no room for its new cells.
 #[derive(Clone, Copy)]
-pub enum Stepped {
+pub enum Stop {
     Fails,
     Short,
-    To(Place),
 }
 
 // A step by this rule at top x, with at most so many cells.
-fn step_by(rule: Rule, x: Top, cells: &mut [u8], most: usize, w: Place) -> Stepped
-    requires place_stands { PlaceStands w cells.old × (found_top (Found.At x) ≡ top_in (cells_in w.cells cells.old) w.root) × (rule.symbol < 256)
+fn step_by(rule: Rule, x: Top, cells: &mut [u8], most: usize, w: Place) -> Result<Place, Stop>
+    requires place_stands { PlaceStands w cells.old × (found_top (Some x) ≡ top_in (cells_in w.cells cells.old) w.root) × (rule.symbol < 256)
         × (symbol_of (the_operation rule.operation) < 256) × (rule.next < 64) }
     requires cells_le_most { (w.cells ≤ most) × (most * 6 ≤ length cells.old) × (most ≤ 4096) }
     ensures { RuleAnswers (the_rule rule) most w cells.old result cells.new }
 {
     let order = start_records::order_at(cells, w.cells, x.annotation as usize);
     if !rule_fits(rule, w.control, x.symbol, order) {
-        return Stepped::Fails;
+        return Err(Stop::Fails);
     }
     let op = rule.operation;
     if most < w.cells + cell_steps::new_cells(op) {
-        return Stepped::Short;
+        return Err(Stop::Short);
     }
-    Stepped::To(take_step(op, rule.next, x, cells, w))
+    Ok(take_step(op, rule.next, x, cells, w))
 }
 
 // A step by rule `number` of the first `count` in the body, with at most so many cells.
@@ -162,18 +133,17 @@ pub fn replay_step(
     cells: &mut [u8],
     most: usize,
     w: Place,
-) -> Stepped
+) -> Result<Place, Stop>
     requires { RulesStand count body.now × PlaceStands w cells.old × (w.cells ≤ most) × (most * 6 ≤ length cells.old) × (most ≤ 4096) }
     ensures { StepAnswers (rules_in count body.now) most number w cells.old result cells.new }
 {
     let at = number as usize;
     if count <= at {
-        return Stepped::Fails;
+        return Err(Stop::Fails);
     }
     let rule = case_records::rule_at(body, at);
-    let found = top_in(cells, w.cells, w.root);
-    match found {
-        Found::Nothing => Stepped::Fails,
-        Found::At(x) => step_by(rule, x, cells, most, w),
+    match top_in(cells, w.cells, w.root) {
+        None => Err(Stop::Fails),
+        Some(x) => step_by(rule, x, cells, most, w),
     }
 }

@@ -8,17 +8,11 @@ ghost use Rattle.replay_step.specs.Place.{PlaceStands};
 ghost use Rattle.replay_trace.specs.Turns.{TraceEnds};
 
 use limits::Limits;
-use replay_step::{Place, Stepped};
-use replies::Replayed;
+use replay_step::{Place, Stop};
+use replies::{Refusal, Replayed};
 
-// What the steps of a trace come to: an answer, or the place after the last of them.
-#[derive(Clone, Copy)]
-pub enum Ended {
-    Answered(Replayed),
-    At(Place),
-}
-
-// Replays the rule numbers of the trace from place w, with at most so many cells.
+// Replays the rule numbers of the trace from place w, with at most so many cells: the place after the last of them, or the answer where a step is
+// not taken.
 pub fn replay_trace(
     body: &[u8],
     count: usize,
@@ -26,23 +20,19 @@ pub fn replay_trace(
     cells: &mut [u8],
     most: usize,
     w: Place,
-) -> Ended
+) -> Result<Place, Replayed>
     requires { RulesStand count body.now × PlaceStands w cells.old × (w.cells ≤ most) × (most * 6 ≤ length cells.old) × (most ≤ 4096) }
     ensures { TraceEnds (rules_in count body.now) most (rule_numbers trace.now) w cells.old result cells.new }
 {
     let steps = trace.len() / Limits::NUMBER_BYTES;
     let mut v = w;
-    let mut i: usize = 0;
-    while i < steps {
-        let step = i;
+    for i in 0..steps {
         let number = bytes_in::number2(trace, i * Limits::NUMBER_BYTES);
-        i += 1;
-        let stepped = replay_step::replay_step(body, count, number, cells, most, v);
-        match stepped {
-            Stepped::Fails => return Ended::Answered(Replayed::FailsAt(step as u64)),
-            Stepped::Short => return Ended::Answered(Replayed::Refused(11)),
-            Stepped::To(next) => v = next,
+        match replay_step::replay_step(body, count, number, cells, most, v) {
+            Ok(next) => v = next,
+            Err(Stop::Fails) => return Err(Replayed::FailsAt(i as u64)),
+            Err(Stop::Short) => return Err(Replayed::Refused(u64::from(Refusal::FewCells))),
         }
     }
-    Ended::At(v)
+    Ok(v)
 }

@@ -1,7 +1,9 @@
 -- The papers' number and values for each case of an answer.
 -- Assumes nothing.
 pub mod Laws
-use Rattle.std.specs.Prelude.{ℕ, suc, ◌-◌, Bool, true, false, eqb}
+use Rattle.std.specs.Prelude.{ℕ, suc, ◌-◌, Bool, true, false, eqb, Result, Ok, Err}
+use Rattle.replies.specs.declared.Refusal.{Refusal}
+use Rattle.replies.specs.declared.Refusal.TheVariants.{CaseContents, CaseHead, CaseRecords, CaseOrder, StartContents, StartRecords, NoSuchStart, FewAnswers, TableTooLarge, OddTrace, FewCells, ToolCodes, LongText}
 use Rattle.replies.specs.declared.Acceptance.{Acceptance}
 use Rattle.replies.specs.declared.Acceptance.TheVariants.{Never, Since}
 use Rattle.replies.specs.declared.Counts.{Counts}
@@ -13,6 +15,27 @@ use Rattle.replies.specs.declared.Replayed.{Replayed}
 use Rattle.replies.specs.declared.Replayed.TheVariants as Replayed
 use Rattle.replies.specs.declared.Brackets.{Brackets}
 use Rattle.replies.specs.declared.Brackets.TheVariants as Brackets
+
+-- The papers' number of each refusal: documents 01 and 02 give them by their tables.
+abbrev pub number_for : Refusal → ℕ
+number_for CaseContents = 1
+number_for CaseHead = 2
+number_for CaseRecords = 3
+number_for CaseOrder = 4
+number_for StartContents = 5
+number_for StartRecords = 6
+number_for NoSuchStart = 7
+number_for FewAnswers = 8
+number_for TableTooLarge = 9
+number_for OddTrace = 10
+number_for FewCells = 11
+number_for ToolCodes = 12
+number_for LongText = 13
+
+-- the number with which a check refuses, and 0 where it does not
+abbrev pub refusal_code : {A : Type 0} → Result A Refusal → ℕ
+refusal_code (Ok x) = 0
+refusal_code (Err r) = number_for r
 
 -- The word for since when a stack is accepted: 0 for never, "otherwise that round plus 1". Working memory keeps it for the cells.
 unfoldable pub answer_word : Acceptance → ℕ

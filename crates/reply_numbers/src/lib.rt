@@ -14,11 +14,9 @@ pub fn number_of(reply: Reply) -> u64
         Reply::Refused(n) => n,
         Reply::NoRun => 258,
         Reply::Open => 259,
-        Reply::Walked(h) => match h {
-            Halt::Arrived(_) => 0,
-            Halt::TraceFull(_) => 256,
-            Halt::CellsShort(_) => 257,
-        },
+        Reply::Walked(Halt::Arrived(_)) => 0,
+        Reply::Walked(Halt::TraceFull(_)) => 256,
+        Reply::Walked(Halt::CellsShort(_)) => 257,
     }
 }
 
@@ -27,14 +25,8 @@ pub fn counts_of(reply: Reply) -> Counts
     ensures { result ≡ reply_counts reply }
 {
     match reply {
-        Reply::Refused(_) => Counts { steps: 0, cells: 0 },
-        Reply::NoRun => Counts { steps: 0, cells: 0 },
-        Reply::Open => Counts { steps: 0, cells: 0 },
-        Reply::Walked(h) => match h {
-            Halt::Arrived(c) => c,
-            Halt::TraceFull(c) => c,
-            Halt::CellsShort(c) => c,
-        },
+        Reply::Walked(Halt::Arrived(c) | Halt::TraceFull(c) | Halt::CellsShort(c)) => c,
+        Reply::Refused(_) | Reply::NoRun | Reply::Open => Counts { steps: 0, cells: 0 },
     }
 }
 
@@ -54,8 +46,7 @@ pub fn replay_step(reply: Replayed) -> u64
     ensures { result ≡ replay_step reply }
 {
     match reply {
-        Replayed::Refused(_) => 0,
-        Replayed::Accepted => 0,
+        Replayed::Refused(_) | Replayed::Accepted => 0,
         Replayed::FailsAt(n) => n,
     }
 }

@@ -10,6 +10,7 @@ use Rattle.automata.specs.Derivation.{Result, result_key}
 use Rattle.automata.specs.Saturation.{held, results}
 use Rattle.files.specs.Case.{rule_of, rule_bytes}
 use Rattle.bytes_in.specs.Records.{record_at}
+use Rattle.case_records.specs.declared.rules.Rules.{Rules}
 use Rattle.tables.specs.declared.Table.{Table}
 use Rattle.tables.specs.Rows.{first_of}
 use Rattle.tables.specs.Held.{automaton_of}
@@ -27,6 +28,10 @@ rule_in body i = rule_of (rule_bytes (record_at 5 i body))
 unfoldable pub rules_in : ℕ → List ℕ → List Rule
 rules_in count body = first_of count (rule_in body)
 
+-- the same by the rules as one value
+abbrev pub rules_held : Rules → List Rule
+rules_held r = rules_in r.count r.body.now
+
 -- The rules are in the body, and go to controls below 64.
 pub record RulesStand (count : ℕ) (body : List ℕ) : Type 0 where
   pub rules_lent : count * 5 ≤ length body
@@ -43,4 +48,11 @@ pub record RoundReady (z : Table) (inner entries moves states words : List ℕ) 
   pub rules_stand : RulesStand count body
   pub settled_by : SettledBy (automaton_of z inner entries moves) t (results (rules_in count body) (table_before t (automaton_of z inner entries moves)))
   pub memo_before : MemoBefore z.moves memo
+  pub none_settled : t.settled ≡ 0
+
+-- The same, but for the tables and their index: they stand in a struct that says so.
+pub record RoundKnown (A : Automaton) (t : Before) (count : ℕ) (body memo : List ℕ) : Type 0 where
+  pub rules_stand : RulesStand count body
+  pub settled_by : SettledBy A t (results (rules_in count body) (table_before t A))
+  pub memo_before : MemoBefore (length A.moves) memo
   pub none_settled : t.settled ≡ 0

@@ -6,10 +6,9 @@ ghost use Rattle.std.specs.Prelude.{◌≡◌, [], ◌∷◌, ◌<◌, ◌≤◌
 ghost use Rattle.tables.specs.Rows.{row_at};
 ghost use Rattle.tables.specs.Records.{as_result};
 ghost use Rattle.tables.specs.Layouts.{entry_row};
-ghost use Rattle.tables.specs.Held.{automaton_of, table_of};
 ghost use Rattle.tables.specs.Pending.{pending_in, limited};
-ghost use Rattle.offers.specs.Offers.{WordsIndexed, Room, Collects};
-ghost use Rattle.readings.specs.Indexed.{Indexed};
+ghost use Rattle.move_index.specs.View.{automaton_in, table_in};
+ghost use Rattle.offers.specs.Offers.{Room, Collects};
 ghost use Rattle.readings.specs.Before.{table_before, Known};
 ghost use Rattle.readings.specs.Memo.{MemoUpTo};
 ghost use Rattle.readings.specs.Gathering.{CanCollect, CollectsAll};
@@ -18,10 +17,11 @@ ghost use Rattle.premises.specs.Settled.{SettledBy};
 ghost use Rattle.case_records.specs.Values.{the_operation, the_rule};
 ghost use Rattle.results.specs.Rules.{entry_result, entries_results, rule_gives};
 ghost use Rattle.results.specs.Entries.{EntriesKnown};
-ghost use Rattle.results.specs.Collecting.{rules_in, new_results, RoundReady};
+ghost use Rattle.results.specs.Collecting.{rules_in, new_results, RoundKnown};
 ghost use Rattle.results.specs.Steps.{entry_step};
 ghost use Rattle.results.specs.Uses.{use_of, use_gives};
 
+use move_index::{Indexed, WordsIndexed};
 use premises::{MoveUse, Source};
 use readings::{Before, Goal};
 
@@ -46,10 +46,7 @@ fn entry_result(to: Goal, kind: EntryUse, s: u64, r: u64) -> tables::Result
 
 // Collects what entry number i gives, where its control is q.
 fn by_entry(
-    z: tables::Table,
-    entries: &[u64],
-    moves: &[u64],
-    words: &[u16],
+    by: &WordsIndexed<'_>,
     to: Goal,
     kind: EntryUse,
     q: u64,
@@ -57,24 +54,21 @@ fn by_entry(
     out: &mut [u64],
     n: usize,
 ) -> usize
-    requires { WordsIndexed z entries.now moves.now words.now × Room to.room n out.old × (i < z.entries) }
-    ensures { Collects (table_of z entries.now moves.now) to.room n out.old
-        (entry_step (table_of z entries.now moves.now) to.control to.symbol kind q i (row_at entry_row entries.now i)) result out.new }
+    requires { Room to.room n out.old × (i < by.now.table.entries) }
+    ensures { Collects (table_in by.now) to.room n out.old
+        (entry_step (table_in by.now) to.control to.symbol kind q i (row_at entry_row by.now.entries.now i)) result out.new }
 {
-    let e = tables::entry_at(entries, i);
+    let e = tables::entry_at(by.entries, i);
     if e.control != q {
         return n;
     }
-    let x = entry_result(to, kind, e.s, z.inner1 + i as u64);
-    offers::offer(z, entries, moves, words, x, out, n, to.room)
+    let x = entry_result(to, kind, e.s, by.table.inner1 + i as u64);
+    offers::offer(by, x, out, n, to.room)
 }
 
 // Collects what the entries of control q give. What the entries below number `first` give is held.
 fn by_entries(
-    z: tables::Table,
-    entries: &[u64],
-    moves: &[u64],
-    words: &[u16],
+    by: &WordsIndexed<'_>,
     to: Goal,
     kind: EntryUse,
     q: u64,
@@ -82,40 +76,34 @@ fn by_entries(
     out: &mut [u64],
     n: usize,
 ) -> usize
-    requires { WordsIndexed z entries.now moves.now words.now × Room to.room n out.old
-        × EntriesKnown (table_of z entries.now moves.now) to.control to.symbol kind q first }
-    ensures { Collects (table_of z entries.now moves.now) to.room n out.old
-        (entries_results (table_of z entries.now moves.now) to.control to.symbol kind q) result out.new }
+    requires { Room to.room n out.old
+        × EntriesKnown (table_in by.now) to.control to.symbol kind q first }
+    ensures { Collects (table_in by.now) to.room n out.old
+        (entries_results (table_in by.now) to.control to.symbol kind q) result out.new }
 {
-    let count = z.entries;
     let mut k = n;
-    let mut i = first;
-    while i < count {
-        k = by_entry(z, entries, moves, words, to, kind, q, i, out, k);
-        i += 1;
+    for i in first..by.table.entries {
+        k = by_entry(by, to, kind, q, i, out, k);
     }
     k
 }
 
 // Collects a result that a rule gives from nothing. It is held if there was a round before.
 fn by_nothing(
-    z: tables::Table,
-    entries: &[u64],
-    moves: &[u64],
-    words: &[u16],
+    by: &WordsIndexed<'_>,
     to: Goal,
     x: tables::Result,
     out: &mut [u64],
     n: usize,
 ) -> usize
-    requires { WordsIndexed z entries.now moves.now words.now × Room to.room n out.old
-        × Known (table_of z entries.now moves.now) to.before.new (as_result x ∷ []) }
-    ensures { Collects (table_of z entries.now moves.now) to.room n out.old (as_result x ∷ []) result out.new }
+    requires { Room to.room n out.old
+        × Known (table_in by.now) to.before.new (as_result x ∷ []) }
+    ensures { Collects (table_in by.now) to.room n out.old (as_result x ∷ []) result out.new }
 {
     if !to.before.new {
         return n;
     }
-    offers::offer(z, entries, moves, words, x, out, n, to.room)
+    offers::offer(by, x, out, n, to.room)
 }
 
 // What a rule's operation uses: moves on a symbol of the entries of the control that it goes to, these entries, or nothing, for one result.
@@ -132,8 +120,7 @@ fn use_of(to: Goal, rule: case_records::Rule) -> Use
     ensures { result ≡ use_of rule.control rule.symbol rule.next (the_operation rule.operation) }
 {
     let bit = sets::one_bit(rule.next);
-    let operation = rule.operation;
-    match operation {
+    match rule.operation {
         case_records::Operation::Rewrite(b) => Use::Moves(MoveUse::Rewritten, b),
         case_records::Operation::Push1(b) => Use::Moves(MoveUse::Pushed1, b),
         case_records::Operation::Push2(b) => Use::Moves(MoveUse::Pushed2, b),
@@ -148,12 +135,7 @@ fn use_of(to: Goal, rule: case_records::Rule) -> Use
 // Collects what an operation gives that uses this and goes to control q. The table of the round before, t, and the symbols of the newer moves
 // are those of `control_moves::by_moves`, here and in the functions that follow; so are the index and `memo`.
 fn by_use(
-    z: tables::Table,
-    inner: &[u64],
-    entries: &[u64],
-    moves: &[u64],
-    states: &[u16],
-    words: &[u16],
+    by: &Indexed<'_>,
     to: Goal,
     symbols: u64,
     q: u64,
@@ -162,38 +144,30 @@ fn by_use(
     out: &mut [u64],
     n: usize,
 ) -> usize
-    requires { Indexed z inner.now entries.now moves.now states.now words.now
-        × CanCollect (automaton_of z inner.now entries.now moves.now) to.room n out.old memo.old
-        × SettledBy (automaton_of z inner.now entries.now moves.now) to.before (use_gives to q used (table_before to.before (automaton_of z inner.now entries.now moves.now)))
-        × HasSymbols moves.now to.before.moves z.moves symbols × (to.before.settled ≡ 0) }
-    ensures { CollectsAll (automaton_of z inner.now entries.now moves.now) to.room n out.old
+    requires { CanCollect (automaton_in by.now) to.room n out.old memo.old
+        × SettledBy (automaton_in by.now) to.before (use_gives to q used (table_before to.before (automaton_in by.now)))
+        × HasSymbols by.now.moves.held.moves.now to.before.moves by.now.moves.held.table.moves symbols × (to.before.settled ≡ 0) }
+    ensures { CollectsAll (automaton_in by.now) to.room n out.old
         (use_gives to q used) result out.new memo.new }
 {
     let old = to.before.entries;
     match used {
         Use::Moves(kind, b) => {
             let from = Source {
-                kind: kind,
+                kind,
                 symbol: b,
                 control: q,
             };
-            control_moves::by_moves(
-                z, inner, entries, moves, states, words, to, symbols, from, memo, out, n,
-            )
+            control_moves::by_moves(by, to, symbols, from, memo, out, n)
         }
-        Use::Entries(k) => by_entries(z, entries, moves, words, to, k, q, old, out, n),
-        Use::Nothing(x) => by_nothing(z, entries, moves, words, to, x, out, n),
+        Use::Entries(k) => by_entries(&by.moves.held, to, k, q, old, out, n),
+        Use::Nothing(x) => by_nothing(&by.moves.held, to, x, out, n),
     }
 }
 
 // Collects the results of a rule.
 fn by_rule(
-    z: tables::Table,
-    inner: &[u64],
-    entries: &[u64],
-    moves: &[u64],
-    states: &[u16],
-    words: &[u16],
+    by: &Indexed<'_>,
     t: Before,
     symbols: u64,
     rule: case_records::Rule,
@@ -202,36 +176,27 @@ fn by_rule(
     out: &mut [u64],
     n: usize,
 ) -> usize
-    requires { Indexed z inner.now entries.now moves.now states.now words.now
-        × CanCollect (automaton_of z inner.now entries.now moves.now) room n out.old memo.old
-        × SettledBy (automaton_of z inner.now entries.now moves.now) t (rule_gives (the_rule rule) (table_before t (automaton_of z inner.now entries.now moves.now)))
-        × HasSymbols moves.now t.moves z.moves symbols × (rule.next < 64) × (t.settled ≡ 0) }
-    ensures { CollectsAll (automaton_of z inner.now entries.now moves.now) room n out.old
+    requires { CanCollect (automaton_in by.now) room n out.old memo.old
+        × SettledBy (automaton_in by.now) t (rule_gives (the_rule rule) (table_before t (automaton_in by.now)))
+        × HasSymbols by.now.moves.held.moves.now t.moves by.now.moves.held.table.moves symbols × (rule.next < 64) × (t.settled ≡ 0) }
+    ensures { CollectsAll (automaton_in by.now) room n out.old
         (rule_gives (the_rule rule)) result out.new memo.new }
 {
     let to = Goal {
         control: rule.control,
         symbol: rule.symbol,
-        room: room,
+        room,
         before: t,
     };
-    let q = rule.next;
     let used = use_of(to, rule);
-    by_use(
-        z, inner, entries, moves, states, words, to, symbols, q, used, memo, out, n,
-    )
+    by_use(by, to, symbols, rule.next, used, memo, out, n)
 }
 
 // Collects the results of the first `count` rules of a body that are not yet held: sorted, each once, in the first rows of `out`. Answers
-// their number, and a number above `room` where there is no room for them. The moves are indexed in `states` and `words`; t is the table of
-// the round before, all of whose results are held. States that were worked through stand in `memo`, in rows of this round.
+// their number, and a number above `room` where there is no room for them. t is the table of the round before, all of whose results are held.
+// States that were worked through stand in `memo`, in rows of this round.
 pub fn collect(
-    z: tables::Table,
-    inner: &[u64],
-    entries: &[u64],
-    moves: &[u64],
-    states: &[u16],
-    words: &[u16],
+    by: &Indexed<'_>,
     t: Before,
     body: &[u8],
     count: usize,
@@ -239,21 +204,18 @@ pub fn collect(
     out: &mut [u64],
     room: usize,
 ) -> usize
-    requires { RoundReady z inner.now entries.now moves.now states.now words.now t count body.now memo.old × (room * 6 ≤ length out.old) }
+    requires { RoundKnown (automaton_in by.now) t count body.now memo.old × (room * 6 ≤ length out.old) }
     ensures out_after { pending_in room result out.new
-        ≡ limited room (new_results (rules_in count body.now) (automaton_of z inner.now entries.now moves.now)) }
+        ≡ limited room (new_results (rules_in count body.now) (automaton_in by.now)) }
     ensures upper_bound { result ≤ room + 1 }
-    ensures memo { MemoUpTo z.moves memo.new }
+    ensures memo { MemoUpTo by.now.moves.held.table.moves memo.new }
 {
-    let symbols = round_news::new_symbols(moves, t.moves, z.moves);
+    let held = &by.moves.held;
+    let symbols = round_news::new_symbols(held.moves, t.moves, held.table.moves);
     let mut n: usize = 0;
-    let mut i: usize = 0;
-    while i < count {
+    for i in 0..count {
         let rule = case_records::rule_at(body, i);
-        n = by_rule(
-            z, inner, entries, moves, states, words, t, symbols, rule, room, memo, out, n,
-        );
-        i += 1;
+        n = by_rule(by, t, symbols, rule, room, memo, out, n);
     }
     n
 }

@@ -1,7 +1,7 @@
 -- Chains of moves by rising number: element 1,023 - i is move i, so that the last element with a key is the least move with it.
 -- Assumes nothing.
 pub mod Laws
-use Rattle.std.specs.Prelude.{ℕ, zero, suc, ◌+◌, ◌-◌, ◌<◌, true, false, ◌≡◌, List, [], eqb, ltb}
+use Rattle.std.specs.Prelude.{ℕ, zero, suc, ◌+◌, ◌-◌, ◌<◌, true, false, ◌≡◌, List, [], eqb, ltb, Option, Some, None}
 use Rattle.automata.specs.Automaton.{Automaton, Move, entry_control}
 use Rattle.tables.specs.declared.Table.{Table}
 use Rattle.tables.specs.Rows.{row_at}
@@ -18,6 +18,11 @@ next_in key k i (suc left) = elim (eqb (key i) k) [ true ↦ i | false ↦ next_
 -- the least number from i on whose key is k; 1,024 where there is none
 unfoldable pub next_from : (ℕ → ℕ) → ℕ → ℕ → ℕ
 next_from key k i = next_in key k i (1024 - i)
+
+-- a number that is sought below 1,024, and 1,024 where there is none
+abbrev pub number_of : Option ℕ → ℕ
+number_of None = 1024
+number_of (Some i) = i
 
 -- the keys of the elements of chains, where move i has the key of number i
 abbrev pub from_last : (ℕ → ℕ) → ℕ → ℕ

@@ -15,11 +15,9 @@ pub fn new_symbols(moves: &[u64], from: usize, to: usize) -> u64
     ensures { HasSymbols moves.now from to result }
 {
     let mut s: u64 = 0;
-    let mut i = from;
-    while i < to {
+    for i in from..to {
         let m = tables::move_at(moves, i);
         s = sets::join(s, sets::one_bit(m.symbol % Limits::WORD_BITS as u64));
-        i += 1;
     }
     s
 }
@@ -52,10 +50,8 @@ pub fn settled_states(moves: &[u64], from: usize, to: usize, a: u64) -> u64
     ensures { NoneHas moves.now from to a result }
 {
     let mut s = sets::full();
-    let mut n = from;
-    while n < to {
+    for n in from..to {
         s = unsettle(s, tables::move_at(moves, n), a);
-        n += 1;
     }
     s
 }

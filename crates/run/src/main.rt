@@ -9,8 +9,7 @@ ghost use Rattle.printing.specs.Texts.{TextRead};
 use limits::Limits;
 use std::rt::Files;
 
-// Reads the two files and writes the run from the start of this number, in so many rounds, into the text. Answers its length. Each buffer holds a
-// byte more than the longest sound file, so a longer file is refused for its length.
+// Reads the two files and writes the run from the start of this number, in so many rounds, into the text. Answers its length.
 fn read_run(
     files: &impl Files,
     number: usize,
@@ -20,11 +19,11 @@ fn read_run(
     ensures text_read { TextRead (λ f. run_text f number rounds) result text.new }
     ensures counts { IsPrefixLen result text.new }
 {
-    let mut case = [0u8; Limits::CASE_FILE + 1];
-    let mut start = [0u8; Limits::START_FILE + 1];
-    let c = printing::read_file(files, "case.bin", &mut case);
-    let s = printing::read_file(files, "start.bin", &mut start);
-    run_text::run_text(&case[..c], &start[..s], number, rounds, text)
+    printing::text_of_files(
+        files,
+        text,
+        |case, start, text| run_text::run_text(case, start, number, rounds, text),
+    )
 }
 
 fn main(rt: HostRuntime) {

@@ -1,14 +1,13 @@
 -- At most so many rounds, until one adds no move or passes a limit.
 -- Assumes nothing.
 pub mod Laws
-use Rattle.std.specs.Prelude.{ℕ, ◌-◌, ◌/◌, ◌≤◌, min, ◌+◌, Bool, true, false, ◌≡◌, List, length}
+use Rattle.std.specs.Prelude.{ℕ, ◌-◌, ◌/◌, ◌≤◌, min, ◌+◌, Bool, ◌≡◌, List, length, Option as Answer, Some, None}
 use Rattle.std.proofs.Math.Option.{Option, none, some}
 use Rattle.stacks.specs.System.{Rule}
 use Rattle.automata.specs.Automaton.{Automaton}
-use Rattle.automata.specs.Saturation.{Size, Saturated, adds_move, saturate, rounds_added}
+use Rattle.automata.specs.Saturation.{Saturated, adds_move, saturate, rounds_added}
 use Rattle.services.specs.Memory.{lent, entry_width}
 use Rattle.tables.specs.declared.Table.{Table}
-use Rattle.tables.specs.Rows.{rows_in}
 use Rattle.tables.specs.Layouts.{entry_row, move_row}
 use Rattle.tables.specs.Held.{automaton_of, EdgesStand, EntriesStand, MovesStand}
 use Rattle.tables.specs.Counts.{CountsStand}
@@ -16,7 +15,8 @@ use Rattle.tables.specs.Laws.Filled.{Filled}
 use Rattle.results.specs.Collecting.{RulesStand}
 use Rattle.added_results.specs.Adding.{StatesExist}
 use Rattle.one_round.specs.Rounding.{Standing}
-use Rattle.saturation.specs.Layout.{size_row}
+use Rattle.saturation.specs.declared.Saturated.{Saturated as SaturatedWords}
+use Rattle.saturation.specs.Held.{saturated_in}
 
 -- ---- limits
 
@@ -43,25 +43,24 @@ pub record WorkLent (count : ℕ) (body pending sizes : List ℕ) : Type 0 where
   pub pending_lent : 6144 ≤ length pending
   pub sizes_lent : 2050 ≤ length sizes
 
--- the table with its sizes, or none
-unfoldable pub ended : Bool → Automaton → List Size → Option Saturated
-ended true A sizes = some (record { table = A; sizes = sizes })
-ended false A sizes = none
-
 module _ (rules : List Rule) (inner : List ℕ) where
-  -- The tables at the end of rounds on z that give `whole`: its table with its sizes, zeros behind the last rows staying there; or a limit is passed. The
-  -- number k of rounds is that of the definition's table, and `more` says whether a round more would add a move.
-  pub record EndsWith (whole : Option Saturated) (z : Table) (entries moves : List ℕ) (fits : Bool) (z' : Table) (k : ℕ) (more : Bool) (entries' moves' sizes : List ℕ) : Type 0 where
-    pub saturated : whole ≡ ended fits (automaton_of z' inner entries' moves') (rows_in size_row (k + 1) sizes)
-    pub count : (T : Saturated) → whole ≡ some T → k ≡ rounds_added T
-    pub more_is : fits ≡ true → more ≡ adds_move rules (automaton_of z' inner entries' moves')
-    pub standing : fits ≡ true → Standing z' (most_moves (length moves)) (most_entries (length entries) z.inner1) inner entries' moves'
-    pub entries_filled : fits ≡ true → Filled entry_row z.entries entries → Filled entry_row z'.entries entries'
-    pub moves_filled : fits ≡ true → Filled move_row z.moves moves → Filled move_row z'.moves moves'
+  -- The tables at the end of rounds on z that give `whole`: its table with its sizes, zeros behind the last rows staying there. The number k of rounds is
+  -- that of the definition's table, and `more` says whether a round more would add a move.
+  pub record EndsWith (whole : Option Saturated) (z : Table) (entries moves : List ℕ) (z' : Table) (k : ℕ) (more : Bool) (entries' moves' sizes : List ℕ) : Type 0 where
+    pub saturated : whole ≡ some (saturated_in z' inner entries' moves' (k + 1) sizes)
+    pub count : k ≡ rounds_added (saturated_in z' inner entries' moves' (k + 1) sizes)
+    pub more_is : more ≡ adds_move rules (automaton_of z' inner entries' moves')
+    pub standing : Standing z' (most_moves (length moves)) (most_entries (length entries) z.inner1) inner entries' moves'
+    pub entries_filled : Filled entry_row z.entries entries → Filled entry_row z'.entries entries'
+    pub moves_filled : Filled move_row z.moves moves → Filled move_row z'.moves moves'
     pub few : k ≤ 1024
-    pub none_counted : fits ≡ false → (k ≡ 0) × (more ≡ false)
+
+  -- The tables at the end of these rounds, or none where a limit is passed.
+  abbrev pub EndsAs : Option Saturated → Table → List ℕ → List ℕ → Answer SaturatedWords → List ℕ → List ℕ → List ℕ → Type 0
+  EndsAs whole z entries moves (Some r) entries' moves' sizes = EndsWith whole z entries moves r.table r.rounds r.more entries' moves' sizes
+  EndsAs whole z entries moves None entries' moves' sizes = whole ≡ none
 
 -- the end of at most so many rounds
-abbrev pub Ends : List Rule → ℕ → List ℕ → Table → List ℕ → List ℕ → Bool → Table → ℕ → Bool → List ℕ → List ℕ → List ℕ → Type 0
+abbrev pub Ends : List Rule → ℕ → List ℕ → Table → List ℕ → List ℕ → Answer SaturatedWords → List ℕ → List ℕ → List ℕ → Type 0
 Ends rules rounds inner z entries moves =
-    EndsWith rules inner (saturate rules (lent (length moves) (length entries)) rounds (automaton_of z inner entries moves)) z entries moves
+    EndsAs rules inner (saturate rules (lent (length moves) (length entries)) rounds (automaton_of z inner entries moves)) z entries moves

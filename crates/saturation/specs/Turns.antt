@@ -1,7 +1,9 @@
 -- The rounds turn by turn: what is left to do after k rounds, and what a turn leaves.
 -- Assumes nothing.
 pub mod Laws
-use Rattle.std.specs.Prelude.{ℕ, ◌+◌, ◌-◌, ◌≤◌, ◌<◌, Bool, true, false, ◌≡◌, List, length, eqb}
+use Rattle.std.specs.Prelude.{ℕ, ◌+◌, ◌-◌, ◌≤◌, ◌<◌, Bool, true, false, ◌≡◌, List, length, eqb, Option as Answer, Some, None}
+use Rattle.std.specs.declared.ops.ControlFlow.{ControlFlow}
+use Rattle.std.specs.declared.ops.ControlFlow.TheVariants.{Continue, Break}
 use Rattle.std.proofs.Math.Option.{Option}
 use Rattle.stacks.specs.System.{Rule}
 use Rattle.automata.specs.Saturation.{Saturated, saturate_from}
@@ -11,29 +13,26 @@ use Rattle.tables.specs.Rows.{rows_in}
 use Rattle.tables.specs.Layouts.{entry_row, move_row}
 use Rattle.tables.specs.Held.{automaton_of}
 use Rattle.tables.specs.Laws.Filled.{Filled}
-use Rattle.added_results.specs.declared.Grown.{Grown}
 use Rattle.one_round.specs.Rounding.{Standing}
 use Rattle.saturation.specs.declared.Saturated.{Saturated as SaturatedWords}
-use Rattle.saturation.specs.declared.Turn.{Turn}
-use Rattle.saturation.specs.declared.Turn.TheVariants.{Done, On}
 use Rattle.saturation.specs.Layout.{size_row}
 use Rattle.saturation.specs.Prepared.{round_before, Prepared}
-use Rattle.saturation.specs.Running.{most_moves, most_entries, EndsWith}
+use Rattle.saturation.specs.Running.{most_moves, most_entries, EndsAs}
 
 -- ---- what a turn answers
 
+-- the end of the rounds: k of them added a move, and a round more would add one or not
 abbrev pub the_stopped : Table → ℕ → Bool → SaturatedWords
-the_stopped z k more = record { fits = true; table = z; rounds = k; more = more }
+the_stopped z k more = record { table = z; rounds = k; more = more }
 
-abbrev pub the_passed : Table → SaturatedWords
-the_passed z = record { fits = false; table = z; rounds = 0; more = false }
+-- a turn breaks off the rounds with their answer, or they go on with the table of one more
+abbrev pub Turn : Type 0
+Turn = ControlFlow (Answer SaturatedWords) Table
 
 -- what follows a round on table z, that after k rounds: a limit is passed, it added no move, or the rounds go on
-unfoldable pub after_round : Table → ℕ → Grown → Turn
-after_round z k g = elim g.fits [
-  | true ↦ elim (eqb g.table.moves z.moves) [ true ↦ Done (the_stopped g.table k false) | false ↦ On g.table ]
-  | false ↦ Done (the_passed g.table)
-]
+unfoldable pub after_round : Table → ℕ → Answer Table → Turn
+after_round z k None = Break None
+after_round z k (Some next) = elim (eqb next.moves z.moves) [ true ↦ Break (Some (the_stopped next k false)) | false ↦ Continue next ]
 
 -- ---- what is left to do
 
@@ -67,7 +66,7 @@ module _ (rules : List Rule) (inner : List ℕ) (rounds : ℕ) where
 
   -- What a turn leaves on the tables after k rounds: the end of what was left to do, or one round more.
   abbrev pub TurnLeaves : Table → ℕ → List ℕ → List ℕ → List ℕ → Turn → List ℕ → List ℕ → List ℕ → List ℕ → List ℕ → List ℕ → Type 0
-  TurnLeaves z k entries moves sizes (Done r) entries' moves' sizes' states' words' memo' =
-      EndsWith rules inner (left_from z k entries moves sizes) z entries moves r.fits r.table r.rounds r.more entries' moves' sizes'
-  TurnLeaves z k entries moves sizes (On z') entries' moves' sizes' states' words' memo' =
+  TurnLeaves z k entries moves sizes (Break r) entries' moves' sizes' states' words' memo' =
+      EndsAs rules inner (left_from z k entries moves sizes) z entries moves r entries' moves' sizes'
+  TurnLeaves z k entries moves sizes (Continue z') entries' moves' sizes' states' words' memo' =
       GoesOn z k entries moves sizes z' entries' moves' sizes' states' words' memo'

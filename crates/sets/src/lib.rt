@@ -20,7 +20,7 @@ pub fn full() -> u64
     ensures value { result ≡ 2 ^ 64 - 1 }
     ensures all { (n : ℕ) → n < 64 → member result n ≡ true }
 {
-    18446744073709551615
+    u64::MAX
 }
 
 // The set of all that is a member of a or of b.
@@ -82,15 +82,9 @@ pub fn least_member(s: u64) -> Split
     ensures s_value { members s ≡ result.member ∷ members result.others }
     ensures member_bound { result.member < 64 }
 {
-    let mut q: u64 = 0;
-    let mut x = s;
-    // x is what q halvings leave of s, so 0 is a member of x exactly if q is one of s.
-    while !has(x, 0) {
-        x = x / 2;
-        q += 1;
-    }
+    let member = u64::from(s.trailing_zeros());
     Split {
-        member: q,
-        others: s - one_bit(q),
+        member,
+        others: s - one_bit(member),
     }
 }

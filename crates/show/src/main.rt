@@ -9,17 +9,16 @@ ghost use Rattle.printing.specs.Texts.{TextRead};
 use limits::Limits;
 use std::rt::Files;
 
-// Reads the two files and writes the start of this number as brackets into the text. Answers its length. Each buffer holds a byte more than the
-// longest sound file, so a longer file is refused for its length.
+// Reads the two files and writes the start of this number as brackets into the text. Answers its length.
 fn read_show(files: &impl Files, number: usize, text: &mut [u8; Limits::SHOW_TEXT]) -> usize
     ensures text_read { TextRead (λ f. show_text f number) result text.new }
     ensures counts { IsPrefixLen result text.new }
 {
-    let mut case = [0u8; Limits::CASE_FILE + 1];
-    let mut start = [0u8; Limits::START_FILE + 1];
-    let c = printing::read_file(files, "case.bin", &mut case);
-    let s = printing::read_file(files, "start.bin", &mut start);
-    show_text::show_text(&case[..c], &start[..s], number, text)
+    printing::text_of_files(
+        files,
+        text,
+        |case, start, text| show_text::show_text(case, start, number, text),
+    )
 }
 
 fn main(rt: HostRuntime) {

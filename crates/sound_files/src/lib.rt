@@ -3,80 +3,69 @@
 #![tactic(auto)]
 
 ghost use Rattle.std.specs.Prelude.{◌≡◌, ◌*◌, ◌≤◌, ◌<◌, length};
-ghost use Rattle.replies.specs.Numbers.{answer_word};
+ghost use Rattle.replies.specs.Numbers.{refusal_code, answer_word};
 ghost use Rattle.files.specs.Start.{starts_of, cells_of, start_at};
 ghost use Rattle.words.specs.Lists.{zeros};
-ghost use Rattle.saturation.specs.Held.{saturated_in};
-ghost use Rattle.acceptance.specs.Named.{TablesNamed};
+ghost use Rattle.saturation.specs.Held.{saturated_on};
+ghost use Rattle.acceptance.specs.Named.{NamedIn};
 ghost use Rattle.acceptance.specs.Cells.{RoundsFilled};
 ghost use Rattle.sound_files.specs.Starts.{start_round};
 ghost use Rattle.sound_files.specs.Sound.{StartSound};
 ghost use Rattle.sound_files.specs.Refusal.{files_refusal, number_refusal, answers_refusal};
 
 use limits::Limits;
-use replies::Acceptance;
-use tables::Table;
+use replies::{Acceptance, Refusal};
+use tables::Tables;
 
-// The refusal by the two files, or 0.
-pub fn files_refusal(case: &[u8], start: &[u8]) -> u64
-    ensures { result ≡ files_refusal case.now start.now }
+// The refusal by the two files.
+pub fn files_refusal(case: &[u8], start: &[u8]) -> Result<(), Refusal>
+    ensures { refusal_code result ≡ files_refusal case.now start.now }
 {
-    let c = case_file::check_case(case);
-    if c != 0 {
-        return c;
-    }
+    case_file::check_case(case)?;
     let h = case_file::head_of(case);
     start_file::check_start(h.controls, h.symbols, start)
 }
 
-// The refusal by the two files, or 7 where the start named is not in the file. 0 is no refusal.
-pub fn number_refusal(case: &[u8], start: &[u8], number: usize) -> u64
-    ensures { result ≡ number_refusal case.now start.now number }
+// The refusal by the two files, or 7 where the start named is not in the file.
+pub fn number_refusal(case: &[u8], start: &[u8], number: usize) -> Result<(), Refusal>
+    ensures { refusal_code result ≡ number_refusal case.now start.now number }
 {
-    let files = files_refusal(case, start);
-    if files != 0 {
-        return files;
-    }
+    files_refusal(case, start)?;
     if number < bytes_in::count_of(start, Limits::START_BODY) {
-        return 0;
+        return Ok(());
     }
-    7
+    Err(Refusal::NoSuchStart)
 }
 
-// The refusal by the two files, or 8 where there are fewer answer words than starts. 0 is no refusal.
-pub fn answers_refusal(case: &[u8], start: &[u8], words: usize) -> u64
-    ensures { result ≡ answers_refusal case.now start.now words }
+// The refusal by the two files, or 8 where there are fewer answer words than starts.
+pub fn answers_refusal(case: &[u8], start: &[u8], words: usize) -> Result<(), Refusal>
+    ensures { refusal_code result ≡ answers_refusal case.now start.now words }
 {
-    let files = files_refusal(case, start);
-    if files != 0 {
-        return files;
-    }
+    files_refusal(case, start)?;
     if words < bytes_in::count_of(start, Limits::START_BODY) {
-        return 8;
+        return Err(Refusal::FewAnswers);
     }
-    0
+    Ok(())
 }
 
 // Writes since when each cell of a sound start file is accepted from each state, for the saturated table in these tables and sizes. The words are
 // zero before.
+// Kept (5): `sizes` and `count` stand beside the tables, as for `guided_start::guide_start`.
 pub fn start_rounds(
-    z: Table,
-    inner: &[u64],
-    entries: &[u64],
-    moves: &[u64],
+    tables: &Tables<'_>,
     sizes: &[u64],
     count: usize,
     start: &[u8],
     rounds: &mut [u16],
 )
-    requires { TablesNamed z inner.now entries.now moves.now × (count * 2 ≤ length sizes.now) × (count < 65535) × StartSound start.now
+    requires { NamedIn tables.now × (count * 2 ≤ length sizes.now) × (count < 65535) × StartSound start.now
         × (16384 ≤ length rounds.old) × (rounds.old ≡ zeros (length rounds.old)) }
-    ensures { RoundsFilled (saturated_in z inner.now entries.now moves.now count sizes.now)
+    ensures { RoundsFilled (saturated_on tables.now count sizes.now)
         (cells_of start.now) rounds.old rounds.new (length (cells_of start.now)) }
 {
     let cells = start_file::cell_body(start);
     let n = bytes_in::count_of(start, Limits::CELL_BODY);
-    acceptance::fill_rounds(z, inner, entries, moves, sizes, count, cells, n, rounds);
+    acceptance::fill_rounds(tables, sizes, count, cells, n, rounds);
 }
 
 // Since when a start of a sound start file is accepted, by these words of the file's cells.
@@ -93,6 +82,6 @@ pub fn start_accepted(start: &[u8], number: usize, rounds: &[u16]) -> Acceptance
 pub fn zero_tables(moves: &mut [u64], entries: &mut [u64])
     ensures { (moves.new ≡ zeros (length moves.old)) × (entries.new ≡ zeros (length entries.old)) }
 {
-    zeroing::zero_u64(moves);
-    zeroing::zero_u64(entries);
+    zeroing::zero(moves);
+    zeroing::zero(entries);
 }

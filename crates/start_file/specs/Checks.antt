@@ -11,12 +11,6 @@ use Rattle.bytes_in.specs.Records.{records_from}
 abbrev pub files_of : List ℕ → List ℕ → Files
 files_of case start = record { case = case; start = start }
 
--- the cells from number i on keep their bounds, which says the same as that all n do
-abbrev pub CellsFrom : ℕ → List ℕ → ℕ → ℕ → Type 0
-CellsFrom A b n i =
-    cells_right A (map cell_bytes (records n 6 b)) 0 (map cell_bytes (records n 6 b))
-    ≡ cells_right A (map cell_bytes (records n 6 b)) i (map cell_bytes (records_from n 6 i b))
-
 -- the number of the first of three tests that fails: the bodies are in place, the starts and the cells keep their bounds
 unfoldable pub refusal_by : Bool → Bool → Bool → ℕ
 refusal_by false starts cells = 5

@@ -16,15 +16,26 @@ use limits::Limits;
 
 // ---- values and readers
 
-// A start's control and root cell.
+// The first cells of a body.
 #[derive(Clone, Copy)]
+pub struct Cells<'a> {
+    pub body: &'a [u8],
+    pub count: usize,
+    ghost fit: { count * 6 ≤ length body.now },
+    ghost few: { count ≤ 256 },
+}
+
+// A start's control and root cell.
+#[derive(Clone, Copy, PartialEq, Eq)]
 pub struct Start {
     pub control: u64,
     pub root: u64,
 }
 
+// Kept (1): the kind is a byte of a file, and `cell_right` answers for every byte; `cell_memory::Cell` stands for a cell that is right.
+//
 // A cell's kind, symbol, first and second.
-#[derive(Clone, Copy)]
+#[derive(Clone, Copy, PartialEq, Eq)]
 pub struct Fields {
     pub kind: u64,
     pub symbol: u64,
@@ -62,9 +73,7 @@ pub fn start_at(body: &[u8], i: usize) -> Start
     requires { i * 3 + 3 ≤ length body.now }
     ensures { the_start result ≡ start_of (record_at 3 i body.now) }
 {
-    let a = i * Limits::START_BYTES;
-    let e = a + Limits::START_BYTES;
-    read_start(&body[a..e])
+    read_start(bytes_in::record(body, i, Limits::START_BYTES))
 }
 
 // Record number i of body 2.
@@ -73,9 +82,7 @@ pub fn fields_at(body: &[u8], i: usize) -> Fields
     ensures result_value { the_fields result ≡ cell_bytes (record_at 6 i body.now) }
     ensures fields_small { FieldsSmall result }
 {
-    let a = i * Limits::CELL_BYTES;
-    let e = a + Limits::CELL_BYTES;
-    read_fields(&body[a..e])
+    read_fields(bytes_in::record(body, i, Limits::CELL_BYTES))
 }
 
 // The cell of these fields.
@@ -83,8 +90,7 @@ fn cell_of(x: Fields) -> Cell
     requires { FieldsSmall x }
     ensures { Memory.cell_of result ≡ cell_of (the_fields x) }
 {
-    let kind = x.kind;
-    match kind {
+    match x.kind {
         Limits::EMPTY1_CELL => Cell::Empty1,
         Limits::SYMBOL_CELL => Cell::Symbol(x.symbol as u16, x.first as u16, x.second as u16),
         Limits::EMPTY2_CELL => Cell::Empty2,
@@ -105,10 +111,8 @@ fn cell_order(cell: Cell) -> u64
     ensures { result ≡ cell_order (Memory.cell_of cell) }
 {
     match cell {
-        Cell::Empty1 => 1,
-        Cell::Symbol(_, _, _) => 1,
-        Cell::Empty2 => 2,
-        Cell::Above(_, _) => 2,
+        Cell::Empty1 | Cell::Symbol(_, _, _) => 1,
+        Cell::Empty2 | Cell::Above(_, _) => 2,
     }
 }
 
@@ -117,10 +121,11 @@ pub fn order_at(body: &[u8], n: usize, i: usize) -> u64
     requires { n * 6 ≤ length body.now }
     ensures { result ≡ order_at (cells_in n body.now) i }
 {
-    if n <= i {
-        return 1;
+    if i < n {
+        cell_order(cell_at(body, i))
+    } else {
+        1
     }
-    cell_order(cell_at(body, i))
 }
 
 // ---- bounds
@@ -129,93 +134,53 @@ pub fn order_at(body: &[u8], n: usize, i: usize) -> u64
 fn order_of(kind: u64) -> u64
     ensures { result ≡ order_of kind }
 {
-    if kind <= Limits::SYMBOL_CELL {
-        return 1;
-    }
-    2
+    if kind <= Limits::SYMBOL_CELL { 1 } else { 2 }
 }
 
-// Cell x is one of the first n cells of the body and has this order.
-fn refers_to(body: &[u8], n: usize, order: u64, x: u64) -> bool
-    requires { (n * 6 ≤ length body.now) × (n ≤ 256) }
-    ensures { result ≡ refers_to (map cell_bytes (records n 6 body.now)) n order x }
+// Cell x is one of these cells and has this order.
+fn refers_to(cells: &Cells, order: u64, x: usize) -> bool
+    ensures { result ≡ refers_to (map cell_bytes (records cells.now.count 6 cells.now.body.now)) cells.now.count order x }
 {
-    let at = x as usize;
-    if n <= at {
-        return false;
-    }
-    order_of(fields_at(body, at).kind) == order
+    x < cells.count && order_of(fields_at(cells.body, x).kind) == order
 }
 
 // An empty stack's cell: its other fields are unused.
 fn empty_right(x: Fields) -> bool
     ensures { result ≡ empty_right (the_fields x) }
 {
-    if x.symbol != 0 {
-        return false;
-    }
-    if x.first != 0 {
-        return false;
-    }
-    x.second == 0
+    x.symbol == 0 && x.first == 0 && x.second == 0
 }
 
-// A symbol's cell, number n, where there are so many symbols: its annotation and its order-1 rest are lower cells.
-fn symbol_right(symbols: u64, body: &[u8], n: usize, x: Fields) -> bool
-    requires { (n * 6 ≤ length body.now) × (n ≤ 256) }
-    ensures { result ≡ symbol_right symbols (map cell_bytes (records n 6 body.now)) n (the_fields x) }
+// A symbol's cell, where there are so many symbols: its annotation and its order-1 rest are among the cells below it.
+fn symbol_right(symbols: u64, below: &Cells, x: Fields) -> bool
+    ensures { result ≡ symbol_right symbols (map cell_bytes (records below.now.count 6 below.now.body.now)) below.now.count (the_fields x) }
 {
-    if symbols <= x.symbol {
-        return false;
-    }
-    if n as u64 <= x.first {
-        return false;
-    }
-    refers_to(body, n, 1, x.second)
+    x.symbol < symbols && x.first < below.count as u64 && refers_to(below, 1, x.second as usize)
 }
 
-// The cell, number n, of an order-1 stack on an order-2 stack, both lower cells.
-fn above_right(body: &[u8], n: usize, x: Fields) -> bool
-    requires { (n * 6 ≤ length body.now) × (n ≤ 256) }
-    ensures { result ≡ above_right (map cell_bytes (records n 6 body.now)) n (the_fields x) }
+// The cell of an order-1 stack on an order-2 stack, both among the cells below it.
+fn above_right(below: &Cells, x: Fields) -> bool
+    ensures { result ≡ above_right (map cell_bytes (records below.now.count 6 below.now.body.now)) below.now.count (the_fields x) }
 {
-    if x.kind != Limits::ABOVE_CELL {
-        return false;
-    }
-    if x.symbol != 0 {
-        return false;
-    }
-    if refers_to(body, n, 1, x.first) {
-        return refers_to(body, n, 2, x.second);
-    }
-    false
+    let above = x.kind == Limits::ABOVE_CELL && x.symbol == 0;
+    above && refers_to(below, 1, x.first as usize) && refers_to(below, 2, x.second as usize)
 }
 
-// Cell number n keeps the bounds of its kind, where there are so many symbols.
-pub fn cell_right(symbols: u64, body: &[u8], n: usize, x: Fields) -> bool
-    requires { (n * 6 ≤ length body.now) × (n ≤ 256) }
-    ensures { result ≡ cell_right symbols (map cell_bytes (records n 6 body.now)) n (the_fields x) }
+// The cell with these cells below it keeps the bounds of its kind, where there are so many symbols.
+pub fn cell_right(symbols: u64, below: &Cells, x: Fields) -> bool
+    ensures { result ≡ cell_right symbols (map cell_bytes (records below.now.count 6 below.now.body.now)) below.now.count (the_fields x) }
 {
-    let kind = x.kind;
-    if kind == Limits::EMPTY1_CELL {
-        return empty_right(x);
+    match x.kind {
+        Limits::EMPTY1_CELL => empty_right(x),
+        Limits::SYMBOL_CELL => symbol_right(symbols, below, x),
+        Limits::EMPTY2_CELL => empty_right(x),
+        _ => above_right(below, x),
     }
-    if kind == Limits::SYMBOL_CELL {
-        return symbol_right(symbols, body, n, x);
-    }
-    if kind == Limits::EMPTY2_CELL {
-        return empty_right(x);
-    }
-    above_right(body, n, x)
 }
 
-// The start names a control, of which there are so many, and one of the n cells, of order 2.
-pub fn start_right(controls: u64, body: &[u8], n: usize, x: Start) -> bool
-    requires { (n * 6 ≤ length body.now) × (n ≤ 256) }
-    ensures { result ≡ start_right controls (map cell_bytes (records n 6 body.now)) (the_start x) }
+// The start names a control, of which there are so many, and one of the cells, of order 2.
+pub fn start_right(controls: u64, cells: &Cells, x: Start) -> bool
+    ensures { result ≡ start_right controls (map cell_bytes (records cells.now.count 6 cells.now.body.now)) (the_start x) }
 {
-    if controls <= x.control {
-        return false;
-    }
-    refers_to(body, n, 2, x.root)
+    x.control < controls && refers_to(cells, 2, x.root as usize)
 }

@@ -1,13 +1,12 @@
 -- The automaton that three tables hold, and what is asked of the tables.
 -- Assumes nothing.
 pub mod Laws
-use Rattle.std.specs.Prelude.{ℕ, ◌+◌, ◌*◌, ◌≤◌, ◌<◌, List, [], ◌++◌, length}
+use Rattle.std.specs.Prelude.{ℕ, ◌+◌, ◌*◌, ◌≤◌, ◌<◌, List, [], ◌++◌, length, Some, None, Option as Answer}
 use Rattle.std.proofs.Math.Option.{Option, none, some}
 use Rattle.automata.specs.Automaton.{Automaton, Edge, Entry, entry_edges, entry_control, entry_set}
 use Rattle.services.specs.Memory.{entry_width}
 use Rattle.tables.specs.declared.Table.{Table}
-use Rattle.tables.specs.declared.Found.{Found}
-use Rattle.tables.specs.declared.Found.TheVariants.{Nothing, At}
+use Rattle.tables.specs.declared.Entry.{Entry as EntryWords}
 use Rattle.tables.specs.Rows.{row_at, rows_in}
 use Rattle.tables.specs.Records.{as_entry}
 use Rattle.tables.specs.Layouts.{move_row, entry_row, edge_row}
@@ -41,9 +40,9 @@ abbrev pub edges_in : Table → List ℕ → List ℕ → List Edge
 edges_in z inner entries = rows_in edge_row z.edges inner ++ entry_edges z.inner1 (rows_in entry_row z.entries entries)
 
 -- the entry that was found
-abbrev pub found_entry : Found → Option Entry
-found_entry Nothing = none
-found_entry (At e) = some (as_entry e)
+abbrev pub found_entry : Answer EntryWords → Option Entry
+found_entry None = none
+found_entry (Some e) = some (as_entry e)
 
 -- the entry that order-1 state r is, or the entry of zeros
 abbrev pub entry_for : Automaton → ℕ → Entry

@@ -6,3 +6,4 @@ pub mod Held
 pub mod Counts
 pub mod Layouts
 pub mod Laws
+pub mod View

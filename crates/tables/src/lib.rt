@@ -2,7 +2,7 @@
 // Nothing else touches the words of a table.
 #![tactic(auto)]
 
-ghost use Rattle.std.specs.Prelude.{◌≡◌, ◌<◌, ◌≤◌, ◌+◌, ◌-◌, ◌*◌, ◌^◌, length, get_or, drop, []};
+ghost use Rattle.std.specs.Prelude.{◌≡◌, ◌<◌, ◌≤◌, ◌+◌, ◌-◌, ◌*◌, ◌^◌, length, get_or, [], unwrap_or, IfSome};
 ghost use Rattle.std.proofs.Math.Seq.{paste};
 ghost use Rattle.words.specs.Order.{less};
 ghost use Rattle.automata.specs.Automaton.{no_edge, no_move, entry_at, entry_of, entry_set};
@@ -16,10 +16,17 @@ ghost use Rattle.tables.specs.Records.{as_move, as_entry, as_edge, as_result};
 ghost use Rattle.tables.specs.Layouts.{move_row, entry_row, counted_row, edge_row, result_row};
 ghost use Rattle.tables.specs.Counts.{raised};
 
+mod automaton;
+mod insertion;
+mod view;
+
+pub use automaton::{edge_of, entry_for, entry_of, entry_set, move_of};
+pub use insertion::{insert_edge, insert_result};
 use limits::Limits;
+pub use view::Tables;
 
 // A move of an order-1 state.
-#[derive(Clone, Copy)]
+#[derive(Clone, Copy, PartialEq, Eq)]
 pub struct Move {
     pub state: u64,
     pub symbol: u64,
@@ -29,14 +36,14 @@ pub struct Move {
 }
 
 // An entry [p,S].
-#[derive(Clone, Copy)]
+#[derive(Clone, Copy, PartialEq, Eq)]
 pub struct Entry {
     pub control: u64,
     pub s: u64,
 }
 
 // An edge (r,S) of an order-2 state; `first` is r.
-#[derive(Clone, Copy)]
+#[derive(Clone, Copy, PartialEq, Eq)]
 pub struct Edge {
     pub state: u64,
     pub first: u64,
@@ -44,7 +51,7 @@ pub struct Edge {
 }
 
 // A result: the move (symbol, order, B, R) of entry [p,S].
-#[derive(Clone, Copy)]
+#[derive(Clone, Copy, PartialEq, Eq)]
 pub struct Result {
     pub control: u64,
     pub s: u64,
@@ -56,7 +63,7 @@ pub struct Result {
 
 // An automaton whose inner edges, entries and moves stand in the first rows of three slices: the numbers of these rows, the number J of
 // inner order-1 states, and the final sets.
-#[derive(Clone, Copy)]
+#[derive(Clone, Copy, PartialEq, Eq)]
 pub struct Table {
     pub inner1: u64,
     pub final1: u64,
@@ -66,6 +73,8 @@ pub struct Table {
     pub moves: usize,
 }
 
+// Kept (2): no plainer as one function over a trait of rows: each reader and writer is the list of its record's fields, which an impl would repeat.
+//
 // The move in row i.
 pub fn move_at(t: &[u64], i: usize) -> Move
     requires { i * 5 + 5 ≤ length t.now }
@@ -163,239 +172,16 @@ pub fn result_at(t: &[u64], i: usize) -> Result
     }
 }
 
-// Whether x and y are the same entry.
-fn same_entry(x: Entry, y: Entry) -> bool
-    ensures { result ≡ is_entry y.control y.s (as_entry x) }
-{
-    if x.control != y.control {
-        return false;
-    }
-    x.s == y.s
-}
-
-// The number of an entry among the first n, or n where it is not there.
-pub fn entry_number(t: &[u64], n: usize, e: Entry) -> usize
+// The number of an entry among the first n, where it is there.
+pub fn entry_number(t: &[u64], n: usize, e: Entry) -> Option<usize>
     requires { n * entry_width ≤ length t.now }
-    ensures { result ≡ entry_number e.control e.s (rows_in entry_row n t.now) }
+    ensures number { unwrap_or result n ≡ entry_number e.control e.s (rows_in entry_row n t.now) }
+    ensures there { IfSome result (λ i. i < n) }
 {
-    let mut i: usize = 0;
-    while i < n {
-        if same_entry(entry_at(t, i), e) {
-            return i;
+    for i in 0..n {
+        if entry_at(t, i) == e {
+            return Some(i);
         }
-        i += 1;
     }
-    n
-}
-
-// ---- sorted insertion
-
-// Whether words x come before words y: the first that differ decide.
-fn words_before(x: &[u64], y: &[u64]) -> bool
-    requires { length x.now ≡ length y.now }
-    ensures { result ≡ less x.now y.now }
-{
-    let mut i: usize = 0;
-    while i < y.len() {
-        if x[i] != y[i] {
-            return x[i] < y[i];
-        }
-        i += 1;
-    }
-    false
-}
-
-// The words of row i, where a row has so many.
-fn row_words(t: &[u64], width: usize, i: usize) -> &[u64]
-    requires { i * width + width ≤ length t.now }
-    ensures { result.now ≡ row_words width t.now i }
-{
-    let at = i * width;
-    let end = at + width;
-    &t[at..end]
-}
-
-// The number of leading rows, of the first n, that come before x.
-fn place(t: &[u64], n: usize, x: &[u64]) -> usize
-    requires { n * length x.now ≤ length t.now }
-    ensures { result ≡ leading x.now (word_rows (length x.now) n t.now) }
-{
-    let mut i: usize = 0;
-    while i < n {
-        if !words_before(row_words(t, x.len(), i), x) {
-            return i;
-        }
-        i += 1;
-    }
-    n
-}
-
-// Whether row i, which is the first of n that does not come before x, is x.
-fn holds(t: &[u64], n: usize, i: usize, x: &[u64]) -> bool
-    requires { (n * length x.now ≤ length t.now) × (i ≡ leading x.now (word_rows (length x.now) n t.now)) }
-    ensures { result ≡ reached x.now (word_rows (length x.now) n t.now) }
-{
-    if n <= i {
-        return false;
-    }
-    !words_before(x, row_words(t, x.len(), i))
-}
-
-// Moves the words from `at` up to `end` so many places further.
-fn open_words(t: &mut [u64], at: usize, end: usize, places: usize)
-    requires { (at ≤ end) × (end + places ≤ length t.old) }
-    ensures { t.new ≡ paste t.old (at + places) (drop at t.old) (end - at) }
-{
-    let mut j = end;
-    while at < j {
-        j -= 1;
-        t[j + places] = t[j];
-    }
-}
-
-// Writes the words x from `at` on.
-fn put_words(t: &mut [u64], at: usize, x: &[u64])
-    requires { at + length x.now ≤ length t.old }
-    ensures { t.new ≡ paste t.old at x.now (length x.now) }
-{
-    let mut i: usize = 0;
-    while i < x.len() {
-        t[at + i] = x[i];
-        i += 1;
-    }
-}
-
-// Inserts the row x into the first n rows, which are sorted, unless it is there. Answers the number of rows then. It is more than `room` where
-// there is no room for x.
-fn insert_row(t: &mut [u64], n: usize, room: usize, x: &[u64]) -> usize
-    requires { (room * length x.now ≤ length t.old) × (n ≤ room) × (1 < length x.now) }
-    ensures value { result ≡ length (with_row n x.now t.old) }
-    ensures t_after { t.new ≡ inserted_in room n x.now t.old }
-{
-    let i = place(t, n, x);
-    if holds(t, n, i, x) {
-        return n;
-    }
-    if n == room {
-        return n + 1;
-    }
-    let width = x.len();
-    open_words(t, i * width, n * width, width);
-    put_words(t, i * width, x);
-    n + 1
-}
-
-// Inserts a result into the first n rows, as `insert_row` does. Where there was no room before, there is none now.
-pub fn insert_result(t: &mut [u64], n: usize, room: usize, x: Result) -> usize
-    requires { (room * 6 ≤ length t.old) × (n ≤ room + 1) }
-    ensures t_after { pending_in room result t.new ≡ insert_within room (as_result x) (pending_in room n t.old) }
-    ensures upper_bound { result ≤ room + 1 }
-{
-    if room < n {
-        return n;
-    }
-    let words = [x.control, x.s, x.symbol, x.order, x.b, x.r];
-    insert_row(t, n, room, &words)
-}
-
-// Inserts an edge into the first n rows, which are sorted, unless it is there. Answers the number of rows then.
-pub fn insert_edge(t: &mut [u64], n: usize, e: Edge) -> usize
-    requires { n * 3 + 3 ≤ length t.old }
-    ensures { Inserted edge_row t.old t.new n result (as_edge e) }
-{
-    let words = [e.state, e.first, e.s];
-    insert_row(t, n, n + 1, &words)
-}
-
-// ---- the automaton in its slices
-
-// The edge of number n: an inner edge, or an entry as an edge.
-pub fn edge_of(z: Table, inner: &[u64], entries: &[u64], n: usize) -> Edge
-    requires { EdgesStand z inner.now × EntriesStand z entries.now × (n < z.edges + z.entries) }
-    ensures result_value { as_edge result ≡ get_or (edges_in z inner.now entries.now) n no_edge }
-    ensures small { result.first < 64 }
-{
-    let edges = z.edges;
-    if n < edges {
-        return edge_at(inner, n);
-    }
-    let k = n - edges;
-    let e = entry_at(entries, k);
-    Edge {
-        state: e.control,
-        first: z.inner1 + k as u64,
-        s: e.s,
-    }
-}
-
-// The entry that an order-1 state is, or that it is none.
-#[derive(Clone, Copy)]
-pub enum Found {
-    Nothing,
-    At(Entry),
-}
-
-// The entry that order-1 state r is.
-fn find_entry(z: Table, entries: &[u64], r: u64) -> Found
-    requires { EntriesStand z entries.now }
-    ensures { found_entry result ≡ entry_at (table_of z entries.now []) r }
-{
-    if r < z.inner1 {
-        return Found::Nothing;
-    }
-    let k = (r - z.inner1) as usize;
-    if z.entries <= k {
-        return Found::Nothing;
-    }
-    Found::At(entry_at(entries, k))
-}
-
-// Whether order-1 state r is an entry of control p.
-pub fn entry_of(z: Table, entries: &[u64], p: u64, r: u64) -> bool
-    requires { EntriesStand z entries.now }
-    ensures { result ≡ entry_of (table_of z entries.now []) p r }
-{
-    let found = find_entry(z, entries, r);
-    match found {
-        Found::Nothing => false,
-        Found::At(e) => e.control == p,
-    }
-}
-
-// The entry that order-1 state r is, and the entry of zeros where r is none.
-pub fn entry_for(z: Table, entries: &[u64], r: u64) -> Entry
-    requires { EntriesStand z entries.now }
-    ensures { as_entry result ≡ entry_for (table_of z entries.now []) r }
-{
-    let found = find_entry(z, entries, r);
-    match found {
-        Found::Nothing => Entry { control: 0, s: 0 },
-        Found::At(e) => e,
-    }
-}
-
-// The set S of the entry that order-1 state r is, and the empty set where r is none.
-pub fn entry_set(z: Table, entries: &[u64], r: u64) -> u64
-    requires { EntriesStand z entries.now }
-    ensures { result ≡ entry_set (table_of z entries.now []) r }
-{
-    let e = entry_for(z, entries, r);
-    e.s
-}
-
-// Move i, and the move of zeros where there is none.
-pub fn move_of(z: Table, moves: &[u64], i: usize) -> Move
-    requires { MovesStand z moves.now }
-    ensures { as_move result ≡ get_or (rows_in move_row z.moves moves.now) i no_move }
-{
-    if i < z.moves {
-        return move_at(moves, i);
-    }
-    Move {
-        state: 0,
-        symbol: 0,
-        order: 0,
-        b: 0,
-        r: 0,
-    }
+    None
 }

@@ -7,7 +7,7 @@ use Rattle.std.specs.Prelude.{ℕ, suc, Bool, true, false, List, [], ◌∷◌, 
 use Rattle.std.proofs.Math.Option.{Option, none, some}
 
 -- n words that are all zero
-unfoldable pub zeros : ℕ → List ℕ
+abbrev pub zeros : ℕ → List ℕ
 zeros n = replicate n 0
 
 -- the lists that f gives for the elements, one after another

@@ -2,6 +2,7 @@
 -- Assumes nothing.
 pub mod Laws
 pub mod Rising
+pub mod Slices
 use Rattle.std.specs.Prelude.{ℕ, Bool, true, false, List, [], ◌∷◌, eqb, ltb}
 
 -- k comes before l

@@ -1,38 +1,38 @@
-// Lent memory set to zero: a function for each width of a word.
+// Lent memory set to zero.
 #![tactic(auto)]
 
-ghost use Rattle.std.specs.Prelude.{◌≡◌, length};
-ghost use Rattle.words.specs.Lists.{zeros};
+ghost use Rattle.std.specs.Prelude.{◌≡◌, length, replicate};
 
-// Writes zero into every word of 64 bits.
-pub fn zero_u64(t: &mut [u64])
-    ensures { t.new ≡ zeros (length t.old) }
-{
-    let mut i: usize = 0;
-    while i < t.len() {
-        t[i] = 0;
-        i += 1;
-    }
+// A word that lent memory is made of.
+pub trait Word: Copy {
+    ghost ZERO: { Self };
+
+    const ZERO: Self;
 }
 
-// Writes zero into every word of 16 bits.
-pub fn zero_u16(t: &mut [u16])
-    ensures { t.new ≡ zeros (length t.old) }
-{
-    let mut i: usize = 0;
-    while i < t.len() {
-        t[i] = 0;
-        i += 1;
-    }
+impl Word for u64 {
+    ghost ZERO = { 0 };
+
+    const ZERO: u64 = 0;
 }
 
-// Writes zero into every byte.
-pub fn zero_u8(bytes: &mut [u8])
-    ensures { bytes.new ≡ zeros (length bytes.old) }
+impl Word for u16 {
+    ghost ZERO = { 0 };
+
+    const ZERO: u16 = 0;
+}
+
+impl Word for u8 {
+    ghost ZERO = { 0 };
+
+    const ZERO: u8 = 0;
+}
+
+// Writes zero into every word.
+pub fn zero<W: Word>(words: &mut [W])
+    ensures { words.new ≡ replicate (length words.old) W.ZERO }
 {
-    let mut i: usize = 0;
-    while i < bytes.len() {
-        bytes[i] = 0;
-        i += 1;
+    for word in words.iter_mut() {
+        *word = W::ZERO;
     }
 }

@@ -1,10 +1,9 @@
 -- `acceptance::fill_rounds` meets its contract.
 -- Assumes nothing.
 use native.Mathlib.Omega.{arith}
-use Rattle.saturation.specs.Held.{saturated_in}
+use Rattle.saturation.specs.Held.{saturated_on}
 use Rattle.start_records.specs.Body.Laws.{length_cells_in, cells_in_at}
 use Rattle.acceptance.specs.Cells.Laws.{states_below, filled_more, parts_below, next_zero}
-use borrow.Author.Rules.{rules}
 use Rattle.acceptance.proofs.fill_rounds.Goals as goal
 
 pub put_cell-requires : goal.put_cell-requires
@@ -12,7 +11,7 @@ put_cell-requires c =
     let a = c.args in
     let p = c.requires in
     let l = c.loop-i-test.true in
-    let inv = c.loop-i.invariant.1 in
+    let inv = c.loop-i.invariant in
     let len = inv.long in
     let room = p.5 in
     let at = cells_in_at a.n _ l c.cell_at-cell.ensures in
@@ -23,8 +22,6 @@ loop-i-preserved c =
     let a = c.args in
     let p = c.requires in
     let l = c.loop-i-test.true in
-    let n = length_cells_in a.n a.body.now in (
-      search rules,
-      filled_more (saturated_in a.z _ _ _ _ _) (states_below p.0) _ p.4 c.loop-i.invariant.1 (omega arith) (cells_in_at a.n _ l c.cell_at-cell.ensures)
-          c.annotation_order-k.ensures c.put_cell.ensures,
-    )
+    let n = length_cells_in a.n a.body.now in
+    filled_more (saturated_on a.tables.now _ _) (states_below p.0) _ p.4 c.loop-i.invariant (omega arith) (cells_in_at a.n _ l c.cell_at-cell.ensures)
+    c.annotation_order-k.ensures c.put_cell.ensures

@@ -1,12 +1,8 @@
 -- `acceptance::put_above`: what its loops keep.
-use Prim.Native.Nat.{◌-◌}
 use Rattle.tables.specs.Held.{edges_in}
 use Rattle.acceptance_words.specs.Rows.{round_in}
 use Rattle.acceptance.specs.Put.Turns.{AboveTaken}
 use Rattle.acceptance.proofs.put_above.Given as goal
 
 abbrev pub invariant-loop-n : goal.invariant-loop-n
-invariant-loop-n l = AboveTaken (round_in l.initial.rounds l.w) (round_in l.initial.rounds l.t) (edges_in l.z l.inner l.entries) l.initial.rounds l.i l.rounds l.n
-
-abbrev pub decreases-loop-n : goal.decreases-loop-n
-decreases-loop-n l = l.edges - l.n
+invariant-loop-n l = AboveTaken (round_in l.initial.rounds l.w) (round_in l.initial.rounds l.t) (edges_in l.tables.table l.tables.inner.now l.tables.entries.now) l.initial.rounds l.i l.rounds l.n

@@ -1,11 +1,7 @@
 -- `acceptance::put_final`: what its loops keep.
-use Prim.Native.Nat.{◌-◌, ◌≤◌}
 use Rattle.acceptance.specs.Put.{RowPut}
 use Rattle.acceptance.specs.Put.Laws.{final_below}
 use Rattle.acceptance.proofs.put_final.Given as goal
 
 abbrev pub invariant-loop-q : goal.invariant-loop-q
-invariant-loop-q l = (l.q ≤ 64) × RowPut l.initial.rounds l.i (final_below l.set l.q) l.rounds
-
-abbrev pub decreases-loop-q : goal.decreases-loop-q
-decreases-loop-q l = 64 - l.q
+invariant-loop-q l = RowPut l.initial.rounds l.i (final_below l.set l.q) l.rounds

@@ -27,12 +27,12 @@ loop-n-preserved c =
     let a = c.args in
     let p = c.requires in
     let l = c.loop-n-test.true in
-    let n = length_rows_in move_row a.z.moves a.moves.now in
-    symbol_more _ _ c.loop-n.invariant p.5 p.3 p.4 (omega arith) (move_row_lem a.z _ l c.move_at.ensures)
+    let n = length_rows_in move_row a.tables.now.table.moves a.tables.now.moves.now in
+    symbol_more _ _ c.loop-n.invariant p.5 p.3 p.4 (omega arith) (move_row_lem a.tables.now.table _ l c.move_at.ensures)
     (move_small p.0 l c.move_at.ensures) c.round_of-round.ensures c.put_move.ensures
 
 pub returns : goal.returns
 returns c =
     let a = c.args in
-    let n = length_rows_in move_row a.z.moves a.moves.now in
+    let n = length_rows_in move_row a.tables.now.table.moves a.tables.now.moves.now in
     symbol_all _ _ _ _ _ _ c.loop-n.invariant (omega arith)

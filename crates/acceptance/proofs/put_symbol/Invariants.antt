@@ -1,5 +1,4 @@
 -- `acceptance::put_symbol`: what its loops keep.
-use Prim.Native.Nat.{◌-◌}
 use Rattle.tables.specs.Rows.{rows_in}
 use Rattle.tables.specs.Layouts.{move_row}
 use Rattle.saturation.specs.Layout.{size_row}
@@ -8,7 +7,4 @@ use Rattle.acceptance.specs.Put.Turns.{SymbolTaken}
 use Rattle.acceptance.proofs.put_symbol.Given as goal
 
 abbrev pub invariant-loop-n : goal.invariant-loop-n
-invariant-loop-n l = SymbolTaken (rows_in size_row l.count l.sizes) l.a l.k (round_in l.initial.rounds l.u) (round_in l.initial.rounds l.s) (rows_in move_row l.z.moves l.moves) l.initial.rounds l.i l.rounds l.round l.n
-
-abbrev pub decreases-loop-n : goal.decreases-loop-n
-decreases-loop-n l = l.z.moves - l.n
+invariant-loop-n l = SymbolTaken (rows_in size_row l.count l.sizes) l.a l.k (round_in l.initial.rounds l.u) (round_in l.initial.rounds l.s) (rows_in move_row l.n-end l.tables.moves.now) l.initial.rounds l.i l.rounds l.round l.n

@@ -2,7 +2,8 @@
 -- Assumes nothing.
 use Rattle.std.specs.Prelude.{ℕ, ◌<◌, ◌≡◌, List}
 use Rattle.std.proofs.Common.{sym}
-use Rattle.std.proofs.Math.Path.{subst}
+use Rattle.std.proofs.Math.Path.{refl, subst}
+use Rattle.walks.specs.Cell as Walk
 use Rattle.automata.specs.Automaton.{edges}
 use Rattle.automata.specs.Saturation.{Saturated}
 use Rattle.rounds.specs.Won.{final_round, symbol_round, above_round}
@@ -11,7 +12,7 @@ use Rattle.cell_memory.specs.declared.Cell.TheVariants.{Empty1, Symbol, Empty2, 
 use Rattle.cell_memory.specs.Memory.{cell_of}
 use Rattle.acceptance_words.specs.Rows.{round_in}
 use Rattle.acceptance.specs.Put.{RowPut}
-use Rattle.acceptance.specs.Cells.{PartsBelow, cell_round}
+use Rattle.acceptance.specs.Cells.{annotation_order_at, PartsBelow, cell_round}
 
 module _ {c : Cell} {n : ℕ} where
   pub parts_symbol : (a u s : ℕ) → c ≡ Symbol a u s → PartsBelow n (cell_of c) → (u < n) × (s < n)
@@ -21,6 +22,14 @@ module _ {c : Cell} {n : ℕ} where
   pub parts_above : (w t : ℕ) → c ≡ Above w t → PartsBelow n (cell_of c) → (w < n) × (t < n)
   unfolding cell_of
   parts_above w t e = subst (λ (d : Cell). PartsBelow n (cell_of d)) e
+
+-- a cell that is no symbol has no annotation
+pub no_annotation : (cells : List Walk.Cell) (c : Cell) → ((a u s : ℕ) → c ≡ Symbol a u s → ⊥) → 0 ≡ annotation_order_at cells (cell_of c)
+unfolding annotation_order_at cell_of
+no_annotation cells Empty1 h = refl
+no_annotation cells (Symbol a u s) h = absurd (h a u s refl)
+no_annotation cells Empty2 h = refl
+no_annotation cells (Above w t) h = refl
 
 module _ (T : Saturated) (k : ℕ) {b : List ℕ} {i : ℕ} {c : Cell} {now : List ℕ} where
   pub by_empty1 : c ≡ Empty1 → RowPut b i (final_round T.table.final1) now → RowPut b i (cell_round T k b (cell_of c)) now

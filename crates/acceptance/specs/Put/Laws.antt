@@ -144,7 +144,7 @@ module _ (k : ℕ) (sizes : List ℕ) (i r : ℕ) where
       let b = round_of_more (rows_in size_row k sizes) i r (the_size 0 0) h (omega arith) (omega arith) in
       omega arith
 
-  pub round_all : r ≤ round_of (rows_in size_row k sizes) i → k ≤ r → r ≡ round_of (rows_in size_row k sizes) i
+  pub round_all : r ≤ round_of (rows_in size_row k sizes) i → k ≤ r → k ≡ round_of (rows_in size_row k sizes) i
   round_all h l =
       let n : length (rows_in size_row k sizes) ≡ k = length_rows_in size_row k sizes in
       let b = round_of_few (rows_in size_row k sizes) i in

@@ -13,9 +13,9 @@ returns-then-word-eq0-clause-small c = (read_never c.args.rounds.now _ _ c.requi
 pub returns-clause-value : goal.returns-clause-value
 returns-clause-value c =
     let a = c.args in
-    (read_since a.rounds.now _ _ c.requires.1 c.if-word-eq0.false (c.type_inv.rounds (a.cell * 64 + a.state)).fits).0
+    (read_since a.rounds.now _ _ c.requires.1 c.if-word-eq0.false (c.type_inv.rounds (a.cell * 64 + a.state)).fits c.from.ensures).0
 
 pub returns-clause-small : goal.returns-clause-small
 returns-clause-small c =
     let a = c.args in
-    (read_since a.rounds.now _ _ c.requires.1 c.if-word-eq0.false (c.type_inv.rounds (a.cell * 64 + a.state)).fits).1
+    (read_since a.rounds.now _ _ c.requires.1 c.if-word-eq0.false (c.type_inv.rounds (a.cell * 64 + a.state)).fits c.from.ensures).1

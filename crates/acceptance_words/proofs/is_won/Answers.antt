@@ -3,10 +3,10 @@
 use Rattle.rounds.specs.Won.{is_won}
 use Rattle.acceptance_words.proofs.is_won.Goals as goal
 
-pub returns-in-Never : goal.returns-in-Never
-unfolding is_won
-returns-in-Never c = rw c.in-Never.is
-
 pub returns-in-Since : goal.returns-in-Since
 unfolding is_won
 returns-in-Since c = rw c.in-Since.is
+
+pub returns-in_default : goal.returns-in_default
+unfolding is_won
+returns-in_default c = rw c.in_default.is

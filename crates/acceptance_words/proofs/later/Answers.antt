@@ -5,14 +5,14 @@ use Rattle.replies.specs.declared.Acceptance.TheVariants.{Since}
 use Rattle.rounds.specs.Won.{later}
 use Rattle.acceptance_words.proofs.later.Goals as goal
 
-pub returns-in-Never : goal.returns-in-Never
+pub returns-in-Never-default : goal.returns-in-Never-default
 unfolding later
-returns-in-Never c = rw c.in-Never.is
+returns-in-Never-default c = rw c.in-Never-default.is-0
 
-pub returns-in-Never-b : goal.returns-in-Never-b
+pub returns-in_default-Never : goal.returns-in_default-Never
 unfolding later
-returns-in-Never-b c = rw (c.in-Since.is, c.in-Never-b.is)
+returns-in_default-Never c = rw (c.in_default-Never.is-0, c.in_default-Never.is-1)
 
-pub returns-in-Since-b : goal.returns-in-Since-b
+pub returns-in-Since-Since : goal.returns-in-Since-Since
 unfolding later
-returns-in-Since-b c = rw (c.in-Since.is, c.in-Since-b.is) (ap Since c.larger.ensures)
+returns-in-Since-Since c = rw (c.in-Since-Since.is-0, c.in-Since-Since.is-1) (ap Since c.max.ensures)

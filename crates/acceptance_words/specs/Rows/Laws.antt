@@ -37,12 +37,12 @@ pub read_never : (rounds : List ℕ) (cell q : ℕ) → q < 64 → get_or rounds
 unfolding acceptance_of answer_word
 read_never rounds cell q l e = (sym (round_there rounds cell q l ∙ ap acceptance_of e), omega arith)
 
-pub read_since : (rounds : List ℕ) (cell q : ℕ) → q < 64 → (get_or rounds (cell * 64 + q) 0 ≡ 0 → ⊥) → get_or rounds (cell * 64 + q) 0 < 65536
-    → (Since (get_or rounds (cell * 64 + q) 0 - 1) ≡ round_in rounds cell q) × (answer_word (Since (get_or rounds (cell * 64 + q) 0 - 1)) < 65536)
+pub read_since : (rounds : List ℕ) (cell q : ℕ) {r : ℕ} → q < 64 → (get_or rounds (cell * 64 + q) 0 ≡ 0 → ⊥) → get_or rounds (cell * 64 + q) 0 < 65536
+    → r ≡ get_or rounds (cell * 64 + q) 0 - 1 → (Since r ≡ round_in rounds cell q) × (answer_word (Since r) < 65536)
 unfolding acceptance_of answer_word
-read_since rounds cell q l h small =
+read_since rounds cell q {r} l h small is =
     let w : ℕ = get_or rounds (cell * 64 + q) 0 in
-    let e : w ≡ suc (w - 1) = omega arith in
+    let e : w ≡ suc r = omega arith in
     (sym (round_there rounds cell q l ∙ ap acceptance_of e), omega arith)
 
 -- ---- all states of a set, one after another

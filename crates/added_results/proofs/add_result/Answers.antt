@@ -1,6 +1,7 @@
 -- `added_results::add_result` meets its contract.
 -- Assumes nothing.
 use Prim.Native.Nat.{◌+◌}
+use mathlib.Core.Path.{refl}
 use native.Mathlib.Nat.{le-max_right}
 use native.Mathlib.Omega.{arith}
 use Rattle.tables.specs.Records.{as_result}
@@ -8,38 +9,38 @@ use Rattle.added_results.specs.Adding.Laws.{added_over, row_there, count_small, 
 use borrow.Author.Rules.{rules}
 use Rattle.added_results.proofs.add_result.Goals as goal
 
-pub returns-then-most-i-clause-added : goal.returns-then-most-i-clause-added
-returns-then-most-i-clause-added c =
-    let entered = c.enter-i.ensures in
+pub returns-in_err-i-clause-added : goal.returns-in_err-i-clause-added
+returns-in_err-i-clause-added c =
+    let entered = c.in_err-i.ensures.entered in
     let few = c.requires.0.entries_few in
-    added_over c.args.z _ _ _ (as_result c.args.x) _ _ entered few c.if-most-i.true
+    rw c.from_residual.ensures (added_over c.args.z _ _ _ (as_result c.args.x) _ _ entered few (c.in_err-i.ensures.full refl))
 
 pub raise_count-requires : goal.raise_count-requires
 raise_count-requires c =
     let z = c.args.z in
-    let entered = c.enter-i.ensures in
+    let entered = c.in_ok-i.ensures.entered in
     let few = c.requires.0.entries_few in
-    let below = c.if-most-i.false in
+    let below = c.in_ok-i.ensures.room in
     let there = row_there z _ _ c.args.moves.now (as_result c.args.x) _ _ entered few below c.requires.0.entries_lent in
-    let above = le-max_right z.entries (c.enter-i.result + 1) in (
+    let above = le-max_right z.entries (c.in_ok-i.i + 1) in (
       omega (arith, there),
       count_small z _ _ c.args.moves.now (as_result c.args.x) _ _ entered few below c.requires.1 c.requires.2 (search rules) _ (omega (arith, above)),
     )
 
 pub returns-clause-added : goal.returns-clause-added
 returns-clause-added c =
-    let entered = c.enter-i.ensures in
+    let entered = c.in_ok-i.ensures.entered in
     let few = c.requires.0.entries_few in
-    let below = c.if-most-i.false in
+    let below = c.in_ok-i.ensures.room in
     let lent = c.requires.0.entries_lent in
     let room = c.requires.3 in
-    added_one c.args.z _ _ _ (as_result c.args.x) _ _ entered few _ _ _ below c.larger.ensures lent c.raise_count.ensures room c.put_move.ensures
+    added_one c.args.z _ _ _ (as_result c.args.x) _ _ entered few _ _ _ below c.max.ensures lent c.raise_count.ensures room c.put_move.ensures
 
 pub returns-clause-counted : goal.returns-clause-counted
 returns-clause-counted c =
-    let entered = c.enter-i.ensures in
+    let entered = c.in_ok-i.ensures.entered in
     let few = c.requires.0.entries_few in
-    let below = c.if-most-i.false in
+    let below = c.in_ok-i.ensures.room in
     let lent = c.requires.0.entries_lent in
     let room = c.requires.3 in
-    counts_one c.args.z _ _ _ (as_result c.args.x) _ _ entered few _ _ _ below c.larger.ensures lent c.raise_count.ensures room c.put_move.ensures c.requires.1 c.requires.2
+    counts_one c.args.z _ _ _ (as_result c.args.x) _ _ entered few _ _ _ below c.max.ensures lent c.raise_count.ensures room c.put_move.ensures c.requires.1 c.requires.2

@@ -4,12 +4,13 @@ use native.Mathlib.Omega.{arith}
 use Rattle.added_results.specs.Adding.Laws.{entered_there, entered_over, entered_new}
 use Rattle.added_results.proofs.enter.Goals as goal
 
-pub returns-then-i-n : goal.returns-then-i-n
-returns-then-i-n c = entered_there _ _ _ _ _ c.entry_number-i.ensures c.requires.0 c.if-i-n.true
+pub returns-in-Some-clause-entered : goal.returns-in-Some-clause-entered
+returns-in-Some-clause-entered c = entered_there _ _ _ _ _ c.in-Some.ensures.number c.requires.0 c.in-Some.ensures.there
 
-pub returns-then-most-i : goal.returns-then-most-i
-returns-then-most-i c = entered_over _ _ _ _ _ c.entry_number-i.ensures c.requires.0 c.if-i-n.false c.if-most-i.true
+pub returns-then-most-n-clause-entered : goal.returns-then-most-n-clause-entered
+returns-then-most-n-clause-entered c =
+    entered_over _ _ _ _ _ c.in_default.ensures.number c.requires.0 (omega arith) c.if-most-n.true
 
-pub returns : goal.returns
-returns c =
-    entered_new _ _ _ _ _ c.entry_number-i.ensures c.requires.0 _ c.if-i-n.false (omega arith) c.requires.1 c.put_entry.ensures
+pub returns-clause-entered : goal.returns-clause-entered
+returns-clause-entered c =
+    entered_new _ _ _ _ _ c.in_default.ensures.number c.requires.0 _ (omega arith) c.if-most-n.false c.requires.1 c.put_entry.ensures

@@ -1,8 +1,7 @@
 -- What holds of results added to tables.
 -- Assumes nothing.
-use Rattle.std.specs.Prelude.{ℕ, suc, ◌+◌, ◌*◌, ◌^◌, ◌≤◌, ◌<◌, max, Bool, true, false, ◌≡◌, refl, List, [], ◌∷◌, ◌++◌, length, get_or, take, drop}
-use Rattle.std.proofs.Common.{true≢false, ap, ap₂, sym, ◌∙◌, subst, subst₂, add-zero, arith, add-one, length-append, take-append-drop, take-suc, take_all, length-take-le}
-use Rattle.std.proofs.lemmas.Bool.{false≢true}
+use Rattle.std.specs.Prelude.{ℕ, suc, ◌+◌, ◌*◌, ◌^◌, ◌≤◌, ◌<◌, max, ◌≡◌, refl, List, [], ◌∷◌, ◌++◌, length, get_or, take, drop}
+use Rattle.std.proofs.Common.{ap, ap₂, sym, ◌∙◌, subst, subst₂, add-zero, arith, add-one, length-append, take-append-drop, take-suc, take_all, length-take-le}
 use Rattle.std.proofs.Math.Nat.{max-eq_left, max-eq_right, max-le, le-max_right}
 use Rattle.automata.specs.Automaton.{Automaton, Entry, Move}
 use Rattle.automata.specs.Derivation.{Result}
@@ -20,7 +19,7 @@ use Rattle.tables.specs.Held.{automaton_of}
 use Rattle.tables.specs.Counts.{raised, CountsAre, CountsStand}
 use Rattle.tables.specs.Counts.Laws.{length_raised, raised_entries, filled_raised, counts_raised, count_bound, counts_new}
 use Rattle.tables.specs.Laws.Filled.{Filled, filled_put}
-use Rattle.added_results.specs.Adding.{Entered, Growing, StatesExist, Grows, Added}
+use Rattle.added_results.specs.Adding.{Entered, Growing, StatesExist, Grows, Over}
 use Rattle.added_results.specs.Adding.Exist.{add_all_exist, none_past}
 
 -- ---- one entry
@@ -106,13 +105,11 @@ last_move z i x = record { state = z.inner1 + i; symbol = x.symbol; order = x.or
 
 module _ (z : Table) (most : ℕ) (entries moves : List ℕ) (x : Result) (i : ℕ) (entries' : List ℕ)
     (h : Entered entries z.entries most (record { control = x.control; S = x.S }) i entries') (few : z.entries ≤ most) where
-  pub added_over : most ≤ i → Added z most entries moves (x ∷ []) false z entries' moves
+  pub added_over : most ≤ i → Over z most entries moves (x ∷ []) entries' moves
   unfolding add_all add
   added_over l =
       record {
-        grows = λ e. absurd (false≢true e);
-        within = λ e. absurd (false≢true e);
-        over = λ e inner. h.over l;
+        over = λ inner. h.over l;
         entries_long = h.long;
         moves_long = refl;
       }
@@ -183,29 +180,24 @@ module _ (z : Table) (most : ℕ) (entries moves : List ℕ) (x : Result) (i : �
           moves = moves_are k;
         }
 
-    pub added_one : Added z most entries moves (x ∷ []) true (grown_to z n) entries'' moves'
+    pub added_one : Grows z entries moves (x ∷ []) (grown_to z n) entries'' moves' × (n ≤ most)
     added_one =
         let w : i ≤ z.entries = h.within in
-        let b : max z.entries (i + 1) ≤ most = max-le few (omega arith) in
-        record {
-          grows = λ e.
-              record {
-                same_states = refl;
-                same_edges = refl;
-                table_is = grown;
-                moves_more = refl;
-                entries_filled = λ f.
-                    subst (Filled entry_row n) (sym er)
-                    (filled_raised entries' i (row_there l lent) n named (subst (λ (j : ℕ). Filled entry_row j entries') (sym en) (h.filled l f)));
-                moves_filled = λ f. subst (Filled move_row (z.moves + 1)) (sym em) (filled_put move_row z.moves moves (last_move z i x) f);
-                entries_long = entries_long;
-                moves_long = ap length em ∙ length_put_row move_row moves z.moves (last_move z i x);
-              };
-          within = λ e. subst (λ (j : ℕ). j ≤ most) (sym en) b;
-          over = λ e inner. absurd (true≢false e);
-          entries_long = entries_long;
-          moves_long = ap length em ∙ length_put_row move_row moves z.moves (last_move z i x);
-        }
+        let b : max z.entries (i + 1) ≤ most = max-le few (omega arith) in (
+          record {
+            same_states = refl;
+            same_edges = refl;
+            table_is = grown;
+            moves_more = refl;
+            entries_filled = λ f.
+                subst (Filled entry_row n) (sym er)
+                (filled_raised entries' i (row_there l lent) n named (subst (λ (j : ℕ). Filled entry_row j entries') (sym en) (h.filled l f)));
+            moves_filled = λ f. subst (Filled move_row (z.moves + 1)) (sym em) (filled_put move_row z.moves moves (last_move z i x) f);
+            entries_long = entries_long;
+            moves_long = ap length em ∙ length_put_row move_row moves z.moves (last_move z i x);
+          },
+          subst (λ (j : ℕ). j ≤ most) (sym en) b,
+        )
 
 -- ---- one after another
 
@@ -260,24 +252,22 @@ module _ (z : Table) (most : ℕ) (entries moves : List ℕ) (l : List Result) w
   up_to_none h = record { within = omega arith; grows = grows_none z entries moves; few = h }
 
   module _ (i : ℕ) (z₁ : Table) (e₁ m₁ : List ℕ) (h : AddedUpTo i z₁ e₁ m₁) (x d : Result) (b : i < length l) (is : x ≡ get_or l i d)
-      (fits : Bool) (z₂ : Table) (e₂ m₂ : List ℕ) (a : Added z₁ most e₁ m₁ (x ∷ []) fits z₂ e₂ m₂) where
+      (e₂ m₂ : List ℕ) where
     next_is : take i l ++ (x ∷ []) ≡ take (suc i) l
     next_is = ap (λ (y : Result). take i l ++ (y ∷ [])) is ∙ sym (take-suc l i d b)
 
-    pub up_to_more : fits ≡ true → AddedUpTo (i + 1) z₂ e₂ m₂
-    up_to_more e =
+    pub up_to_more : (z₂ : Table) → Grows z₁ e₁ m₁ (x ∷ []) z₂ e₂ m₂ × (z₂.entries ≤ most) → AddedUpTo (i + 1) z₂ e₂ m₂
+    up_to_more z₂ a =
         record {
           within = omega arith;
-          grows = subst (λ (k : List Result). Grows z entries moves k z₂ e₂ m₂) (next_is ∙ ap (λ (k : ℕ). take k l) (sym (add-one i))) (grows_then h.grows (a.grows e));
-          few = a.within e;
+          grows = subst (λ (k : List Result). Grows z entries moves k z₂ e₂ m₂) (next_is ∙ ap (λ (k : ℕ). take k l) (sym (add-one i))) (grows_then h.grows a.0);
+          few = a.1;
         }
 
-    pub up_to_over : fits ≡ false → Added z most entries moves l fits z₂ e₂ m₂
-    up_to_over e =
+    pub up_to_over : Over z₁ most e₁ m₁ (x ∷ []) e₂ m₂ → Over z most entries moves l e₂ m₂
+    up_to_over a =
         record {
-          grows = λ f. absurd (true≢false (sym f ∙ e));
-          within = λ f. absurd (true≢false (sym f ∙ e));
-          over = λ f inner. more inner (a.over e inner);
+          over = λ inner. more inner (a.over inner);
           entries_long = a.entries_long ∙ h.grows.entries_long;
           moves_long = a.moves_long ∙ h.grows.moves_long;
         }
@@ -297,16 +287,8 @@ module _ (z : Table) (most : ℕ) (entries moves : List ℕ) (l : List Result) w
             ap (λ (A : Automaton). length A.entries) (whole inner) in
             omega arith
 
-  pub up_to_all : (i : ℕ) (z₁ : Table) (e₁ m₁ : List ℕ) → AddedUpTo i z₁ e₁ m₁ → length l ≤ i → Added z most entries moves l true z₁ e₁ m₁
-  up_to_all i z₁ e₁ m₁ h b =
-      let g : Grows z entries moves l z₁ e₁ m₁ = subst (λ (k : List Result). Grows z entries moves k z₁ e₁ m₁) (take_all i l b) h.grows in
-      record {
-        grows = λ e. g;
-        within = λ e. h.few;
-        over = λ e inner. absurd (true≢false e);
-        entries_long = g.entries_long;
-        moves_long = g.moves_long;
-      }
+  pub up_to_all : (i : ℕ) (z₁ : Table) (e₁ m₁ : List ℕ) → AddedUpTo i z₁ e₁ m₁ → length l ≤ i → Grows z entries moves l z₁ e₁ m₁ × (z₁.entries ≤ most)
+  up_to_all i z₁ e₁ m₁ h b = (subst (λ (k : List Result). Grows z entries moves k z₁ e₁ m₁) (take_all i l b) h.grows, h.few)
 
 -- ---- the results in the rows of a table
 
@@ -332,25 +314,24 @@ module _ (z : Table) (most : ℕ) (entries moves : List ℕ) (n : ℕ) (pending 
       let d : length m₁ ≡ length moves = h.grows.moves_long in
       omega arith
 
-  module _ (x : Result) (b : i < n) (is : x ≡ row_at result_row pending i)
-      (fits : Bool) (z₂ : Table) (e₂ m₂ : List ℕ) (a : Added z₁ most e₁ m₁ (x ∷ []) fits z₂ e₂ m₂) where
+  module _ (x : Result) (b : i < n) (is : x ≡ row_at result_row pending i) (e₂ m₂ : List ℕ) where
     no_result : Result
     no_result = record { control = 0; S = 0; symbol = 0; order = 0; B = 0; R = 0 }
 
     at_row : x ≡ get_or (rows_in result_row n pending) i no_result
     at_row = is ∙ sym (get_or_rows_in result_row n pending i no_result b)
 
-    pub rows_more : fits ≡ true → AddedUpTo z most entries moves (rows_in result_row n pending) (i + 1) z₂ e₂ m₂
-    rows_more e =
+    pub rows_more : (z₂ : Table) → Grows z₁ e₁ m₁ (x ∷ []) z₂ e₂ m₂ × (z₂.entries ≤ most) → AddedUpTo z most entries moves (rows_in result_row n pending) (i + 1) z₂ e₂ m₂
+    rows_more z₂ a =
         let len : length (rows_in result_row n pending) ≡ n = length_rows_in result_row n pending in
-        up_to_more z most entries moves (rows_in result_row n pending) i z₁ e₁ m₁ h x no_result (omega arith) at_row fits z₂ e₂ m₂ a e
+        up_to_more z most entries moves (rows_in result_row n pending) i z₁ e₁ m₁ h x no_result (omega arith) at_row e₂ m₂ z₂ a
 
-    pub rows_over : fits ≡ false → Added z most entries moves (rows_in result_row n pending) fits z₂ e₂ m₂
-    rows_over e =
+    pub rows_over : Over z₁ most e₁ m₁ (x ∷ []) e₂ m₂ → Over z most entries moves (rows_in result_row n pending) e₂ m₂
+    rows_over a =
         let len : length (rows_in result_row n pending) ≡ n = length_rows_in result_row n pending in
-        up_to_over z most entries moves (rows_in result_row n pending) i z₁ e₁ m₁ h x no_result (omega arith) at_row fits z₂ e₂ m₂ a e
+        up_to_over z most entries moves (rows_in result_row n pending) i z₁ e₁ m₁ h x no_result (omega arith) at_row e₂ m₂ a
 
-  pub rows_all : n ≤ i → Added z most entries moves (rows_in result_row n pending) true z₁ e₁ m₁
+  pub rows_all : n ≤ i → Grows z entries moves (rows_in result_row n pending) z₁ e₁ m₁ × (z₁.entries ≤ most)
   rows_all b =
       let len : length (rows_in result_row n pending) ≡ n = length_rows_in result_row n pending in
       up_to_all z most entries moves (rows_in result_row n pending) i z₁ e₁ m₁ h (omega arith)

@@ -1,14 +1,14 @@
 -- `bounded_text::put_bytes` meets its contract.
 -- Assumes nothing.
+use mathlib.Core.Path.{sym}
 use Rattle.bounded_text.specs.Page.Laws.{printed_none, printed_more, printed_past, prints_to}
 use Rattle.bounded_text.proofs.put_bytes.Goals as goal
 
-pub loop-i-init : goal.loop-i-init
-loop-i-init c = printed_none _ _
+pub loop-byte-init : goal.loop-byte-init
+loop-byte-init c = printed_none _ _
 
-pub returns-in_default : goal.returns-in_default
-returns-in_default c =
-    printed_past c.loop-i.invariant c.loop-i-test.true (prints_to c.in_default.is c.put_byte-put.ensures)
+pub returns-in_err-end : goal.returns-in_err-end
+returns-in_err-end c = prints_to (sym c.from_residual.ensures) (printed_past c.loop-byte.invariant c.loop-byte-test.true c.in_err-end.ensures)
 
-pub loop-i-preserved : goal.loop-i-preserved
-loop-i-preserved c = printed_more c.loop-i.invariant c.loop-i-test.true (prints_to c.in-At.is c.put_byte-put.ensures)
+pub loop-byte-preserved : goal.loop-byte-preserved
+loop-byte-preserved c = printed_more c.loop-byte.invariant c.loop-byte-test.true c.in_ok-end.ensures

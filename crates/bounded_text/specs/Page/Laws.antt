@@ -1,7 +1,7 @@
 -- One text after another; a text from the start of bytes that are all zero.
 -- Assumes nothing.
 use Prim.Native.Nat.{ℕ, suc, ◌+◌, ◌≤◌, ◌<◌}
-use Rattle.std.specs.Prelude.{◌≡◌, refl, get_or, take, drop, set, replicate, ltb, leb}
+use Rattle.std.specs.Prelude.{◌≡◌, refl, Option, Some, None, get_or, take, drop, set, replicate, ltb, leb}
 use Rattle.std.proofs.Math.Path.{ap, sym}
 use Rattle.std.proofs.Common.{◌∙◌, subst, add-zero, add-one, length-set, take-append-drop, take_all, take-suc, take_at}
 use mathlib.Core.List.{List, [], ◌∷◌, ◌++◌, foldl-append}
@@ -13,26 +13,24 @@ use Rattle.words.specs.Laws.Tests.{by_test}
 use Rattle.services.specs.Memory.{padded}
 use Rattle.text.specs.Written.{Written}
 use Rattle.text.specs.Laws.Printed.{printed}
-use Rattle.bounded_text.specs.declared.End.{End}
-use Rattle.bounded_text.specs.declared.End.TheVariants.{At, Past}
 use Rattle.bounded_text.specs.Page.{Page, page, put_at, put_byte, print, Prints}
 
 -- ---- one byte
 
 module _ (n : ℕ) (bytes : List ℕ) (b : ℕ) where
-  put_there : n < length bytes → put_at (At n) bytes b ≡ page (At (suc n)) (set bytes n b)
+  put_there : n < length bytes → put_at (Some n) bytes b ≡ page (Some (suc n)) (set bytes n b)
   unfolding put_at
   put_there h = rw (put_at, lt-ltb n (length bytes) h)
 
-  put_past : length bytes ≤ n → put_at (At n) bytes b ≡ page Past bytes
+  put_past : length bytes ≤ n → put_at (Some n) bytes b ≡ page None bytes
   unfolding put_at
   put_past h = rw (put_at, le-ltb n (length bytes) h)
 
-  pub prints_byte : n < length bytes → Prints (page (At n) bytes) (b ∷ []) (page (At (n + 1)) (set bytes n b))
+  pub prints_byte : n < length bytes → Prints (page (Some n) bytes) (b ∷ []) (page (Some (n + 1)) (set bytes n b))
   unfolding print put_byte
-  prints_byte h = record { is = ap (λ (k : ℕ). page (At k) (set bytes n b)) (add-one n) ∙ sym (put_there h) }
+  prints_byte h = record { is = ap (λ (k : ℕ). page (Some k) (set bytes n b)) (add-one n) ∙ sym (put_there h) }
 
-  pub prints_past : length bytes ≤ n → Prints (page (At n) bytes) (b ∷ []) (page Past bytes)
+  pub prints_past : length bytes ≤ n → Prints (page (Some n) bytes) (b ∷ []) (page None bytes)
   unfolding print put_byte
   prints_past h = record { is = sym (put_past h) }
 
@@ -46,18 +44,22 @@ pub prints_then : {g h k : Page} {a b : List ℕ} → Prints g a h → Prints h 
 unfolding print
 prints_then {g} {h} {k} {a} {b} x y = record { is = y.is ∙ ap (λ (p : Page). print p b) x.is ∙ sym (foldl-append put_byte g a b) }
 
-stays_past : (bytes a : List ℕ) → print (page Past bytes) a ≡ page Past bytes
+stays_past : (bytes a : List ℕ) → print (page None bytes) a ≡ page None bytes
 unfolding print put_byte put_at
 stays_past bytes [] = refl
 stays_past bytes (b ∷ a) = stays_past bytes a
 
 -- what follows a text that has passed the lent bytes changes nothing
-pub prints_on : {g : Page} {bytes a : List ℕ} (b : List ℕ) → Prints g a (page Past bytes) → Prints g (a ++ b) (page Past bytes)
+pub prints_on : {g : Page} {bytes a : List ℕ} (b : List ℕ) → Prints g a (page None bytes) → Prints g (a ++ b) (page None bytes)
 prints_on {g} {bytes} b x = prints_then x (record { is = sym (stays_past bytes b) })
 
 -- where a text ends, as a test has told
-pub prints_to : {g : Page} {a bytes : List ℕ} {r e : End} → r ≡ e → Prints g a (page r bytes) → Prints g a (page e bytes)
-prints_to {g} {a} {bytes} t = subst (λ (q : End). Prints g a (page q bytes)) t
+pub prints_to : {g : Page} {a bytes : List ℕ} {r e : Option ℕ} → r ≡ e → Prints g a (page r bytes) → Prints g a (page e bytes)
+prints_to {g} {a} {bytes} t = subst (λ (q : Option ℕ). Prints g a (page q bytes)) t
+
+-- a text that has passed the lent bytes is answered where the rest of it is not tried
+pub prints_stop : {g : Page} {a bytes : List ℕ} {r : Option ℕ} (b : List ℕ) → r ≡ None → Prints g a (page None bytes) → Prints g (a ++ b) (page r bytes)
+prints_stop b e x = prints_to (sym e) (prints_on b x)
 
 -- a text that is the same
 pub prints_same : {g h : Page} {a b : List ℕ} → a ≡ b → Prints g a h → Prints g b h
@@ -74,10 +76,10 @@ digits_taken {n} {count} {digits} w h =
 
 -- ---- what is kept
 
-put_length : (end : End) (bytes : List ℕ) (b : ℕ) → length (put_at end bytes b).bytes ≡ length bytes
+put_length : (end : Option ℕ) (bytes : List ℕ) (b : ℕ) → length (put_at end bytes b).bytes ≡ length bytes
 unfolding put_at
-put_length (At n) bytes b = by_test (ltb n (length bytes)) (λ e. rw (put_at, e) (length-set bytes n b)) (λ e. rw (put_at, e) refl)
-put_length Past bytes b = refl
+put_length (Some n) bytes b = by_test (ltb n (length bytes)) (λ e. rw (put_at, e) (length-set bytes n b)) (λ e. rw (put_at, e) refl)
+put_length None bytes b = refl
 
 print_length : (g : Page) (text : List ℕ) → length (print g text).bytes ≡ length g.bytes
 unfolding print put_byte
@@ -104,7 +106,7 @@ module _ {g h : Page} {text : List ℕ} {i : ℕ} (x : PrintedTo g text i h) whe
       record { within = omega arith; so_far = prints_same (sym e) (prints_then x.so_far y) }
 
   -- the next byte has no place, and so neither has the text
-  pub printed_past : {bytes : List ℕ} → i < length text → Prints h (get_or text i 0 ∷ []) (page Past bytes) → Prints g text (page Past bytes)
+  pub printed_past : {bytes : List ℕ} → i < length text → Prints h (get_or text i 0 ∷ []) (page None bytes) → Prints g text (page None bytes)
   printed_past {bytes} more y =
       let e : take i text ++ (get_or text i 0 ∷ []) ++ drop (suc i) text ≡ text =
       ap (λ (l : List ℕ). l ++ drop (suc i) text) (sym (take-suc text i 0 more)) ∙ take-append-drop (suc i) text in
@@ -116,18 +118,18 @@ module _ {g h : Page} {text : List ℕ} {i : ℕ} (x : PrintedTo g text i h) whe
 -- ---- a text that fits, and one that does not
 
 print_sets : (k : ℕ) (bytes text : List ℕ) → k + length text ≤ length bytes
-    → print (page (At k) bytes) text ≡ page (At (k + length text)) (sets bytes k text)
+    → print (page (Some k) bytes) text ≡ page (Some (k + length text)) (sets bytes k text)
 unfolding print put_byte
-print_sets k bytes [] h = ap (λ (n : ℕ). page (At n) bytes) (sym (add-zero k))
+print_sets k bytes [] h = ap (λ (n : ℕ). page (Some n) bytes) (sym (add-zero k))
 print_sets k bytes (b ∷ text) h =
     let l : k < length bytes = omega arith in
     let z : suc k + length text ≡ k + suc (length text) = omega arith in
     let r : suc k + length text ≤ length (set bytes k b) = omega (arith, length-set bytes k b) in
     ap (λ (g : Page). print g text) (put_there k bytes b l)
     ∙ print_sets (suc k) (set bytes k b) text r
-    ∙ ap (λ (n : ℕ). page (At n) (sets (set bytes k b) (suc k) text)) z
+    ∙ ap (λ (n : ℕ). page (Some n) (sets (set bytes k b) (suc k) text)) z
 
-print_longer : (k : ℕ) (bytes text : List ℕ) → k ≤ length bytes → length bytes < k + length text → (print (page (At k) bytes) text).end ≡ Past
+print_longer : (k : ℕ) (bytes text : List ℕ) → k ≤ length bytes → length bytes < k + length text → (print (page (Some k) bytes) text).end ≡ None
 unfolding print put_byte
 print_longer k bytes [] l h = absurd (omega arith)
 print_longer k bytes (b ∷ text) l h = by_test (ltb k (length bytes))
@@ -138,13 +140,13 @@ print_longer k bytes (b ∷ text) l h = by_test (ltb k (length bytes))
     (λ e. ap (λ (g : Page). (print g text).end) (put_past k bytes b (ltb-false _ _ e)) ∙ ap (λ (g : Page). g.end) (stays_past bytes text))
 
 -- 0 for a text that has passed the bytes, so that the two cases can be told
-unfoldable place_of : End → ℕ
-place_of (At n) = suc n
-place_of Past = 0
+unfoldable place_of : Option ℕ → ℕ
+place_of (Some n) = suc n
+place_of None = 0
 
 module _ {bytes text after : List ℕ} where
   -- a text that ends at a place fits
-  pub fits : {n : ℕ} → Prints (page (At 0) bytes) text (page (At n) after) → (length text ≤ length bytes) × (n ≡ length text) × (after ≡ sets bytes 0 text)
+  pub fits : {n : ℕ} → Prints (page (Some 0) bytes) text (page (Some n) after) → (length text ≤ length bytes) × (n ≡ length text) × (after ≡ sets bytes 0 text)
   unfolding place_of
   fits {n} x = by_test (leb (length text) (length bytes))
       (λ t.
@@ -158,7 +160,7 @@ module _ {bytes text after : List ℕ} where
       absurd (omega arith))
 
   -- a text that has passed the bytes is longer
-  pub longer : Prints (page (At 0) bytes) text (page Past after) → length bytes < length text
+  pub longer : Prints (page (Some 0) bytes) text (page None after) → length bytes < length text
   unfolding place_of
   longer x = by_test (leb (length text) (length bytes))
       (λ t.

@@ -1,6 +1,6 @@
 -- What the service leaves is what its definition says, and meets the promises; a start of a sound start file stands in the file's cells.
 -- Assumes nothing.
-use Rattle.std.specs.Prelude.{ℕ, ◌≤◌, ◌<◌, ◌≡◌, refl}
+use Rattle.std.specs.Prelude.{ℕ, Some, None, ◌≤◌, ◌<◌, ◌≡◌, refl}
 use Rattle.std.proofs.Math.Path.{ap, sym}
 use Rattle.std.proofs.Common.{◌∙◌, subst, arith}
 use mathlib.Core.List.{List}
@@ -24,7 +24,6 @@ use Rattle.demands.specs.Brackets.{PrintsExactly}
 use Rattle.demands.proofs.BracketsProof.{brackets_exactly}
 use Rattle.bytes_in.specs.Records.{record_at, body_of}
 use Rattle.start_records.specs.Body.{cells_in}
-use Rattle.bounded_text.specs.declared.End.TheVariants.{At, Past}
 use Rattle.bounded_text.specs.Page.{page, Prints}
 use Rattle.bounded_text.specs.Page.Laws.{fits, longer}
 use Rattle.stack_text.specs.Cells.{CellsStand, stack_in}
@@ -88,7 +87,7 @@ module _ (case start : List ℕ) (number lent : ℕ) where
 
       -- before the text is printed, the bytes are zero
       module _ {before after : List ℕ} (z : before ≡ zeros lent) where
-        pub left_printed : {k : ℕ} → Prints (page (At 0) before) (stack_text (configuration_at start number).stack) (page (At k) after)
+        pub left_printed : {k : ℕ} → Prints (page (Some 0) before) (stack_text (configuration_at start number).stack) (page (Some k) after)
             → brackets_done (Printed k) after ≡ brackets_service (brackets_input case start number lent)
         unfolding brackets_service root_text
         left_printed {k} p =
@@ -97,13 +96,18 @@ module _ (case start : List ℕ) (number lent : ℕ) where
             (λ i. brackets_done (Printed (n i)) ((t ∙ ap (λ (b : List ℕ). sets b 0 (root_text x)) z ∙ sets_zeros lent (root_text x) room) i))
             ∙ sym (answer_printed x _ (passed ∙ length_passed x room))
 
-        pub left_longer : {text : List ℕ} → Prints (page (At 0) before) (stack_text (configuration_at start number).stack) (page Past after) → text ≡ zeros lent
+        pub left_longer : {text : List ℕ} → Prints (page (Some 0) before) (stack_text (configuration_at start number).stack) (page None after) → text ≡ zeros lent
             → brackets_done (Refused 13) text ≡ brackets_service (brackets_input case start number lent)
         unfolding brackets_service root_text
         left_longer {text} p y =
             let l = longer p in
             let more : lent < length (root_text x) = rw (z, length_zeros lent) at l in
             ap (brackets_done (Refused 13)) y ∙ sym (answer_refused x 13 (eqb-false 13 0 refl)) ∙ ap (brackets_answer x) (sym (passed ∙ length_refused x more))
+
+-- the same bytes are lent where a call before has kept their number
+pub service_kept : (case start : List ℕ) (number : ℕ) {d : BracketsDone} {n n' : ℕ} → d ≡ brackets_service (brackets_input case start number n) → n ≡ n'
+    → d ≡ brackets_service (brackets_input case start number n')
+service_kept case start number h e = h ∙ ap (λ (k : ℕ). brackets_service (brackets_input case start number k)) e
 
 -- the equation, and the promises that follow from it
 pub meets : (x : BracketsInput) {d : BracketsDone} → d ≡ brackets_service x → (d ≡ brackets_service x) × (BracketsStates x d × PrintsExactly x d.reply)

@@ -1,19 +1,15 @@
 -- Records by number, and tests over all of them one by one.
 -- Assumes nothing.
 use Prim.Native.Nat.{ℕ, zero, suc, ◌+◌, ◌*◌, ◌-◌, ◌<◌, ◌≤◌}
-use Rattle.std.specs.Prelude.{Bool, true, false, ◌≡◌, length, take, drop}
-use Rattle.std.proofs.Math.Bool.{and-false}
-use Rattle.std.proofs.lemmas.Bool.{false≢true}
+use Rattle.std.specs.Prelude.{Bool, ◌≡◌, length, take, drop}
 use Rattle.std.proofs.Math.Path.{refl}
-use Rattle.std.proofs.Common.{ap, ap₂, sym, ◌∙◌, ⊎_elim, length-take, length-drop, drop-drop, take-take, zero-add, zero-mul, suc-mul, suc-add, add-one, arith}
-use mathlib.Core.List.Memᴰ
-use mathlib.Core.List.{List, [], ◌∷◌, ◌++◌, map, map-append, Memᴰ}
+use Rattle.std.proofs.Common.{ap, ap₂, sym, ◌∙◌, length-take, length-drop, drop-drop, take-take, zero-add, zero-mul, one-mul, suc-mul, suc-add, add-one, arith}
+use mathlib.Core.List.{List, [], ◌∷◌, ◌++◌, map, map-append}
 use Rattle.std.proofs.Math.Seq.{take-nil}
+use Rattle.std.specs.List.{list_all, range_with_len}
 use Rattle.words.specs.Lists.{every}
-use Rattle.words.specs.Lists.Laws.{every_append, every_cons}
 use Rattle.words.specs.Laws.Tests.{by_test}
 use Rattle.words.specs.Order.{less, rising, rising_from}
-use Rattle.words.specs.Order.Laws.{less_transitive, append_rising_less, append_rising_left, rising_snoc}
 use Rattle.files.specs.Bytes.{count_of, offset_of, records, records_of}
 use Rattle.bytes_in.specs.Records.{record_at, body_of, records_from}
 
@@ -112,69 +108,41 @@ body_is file n size a count e f =
 -- ---- tests of every record, by number
 
 module _ {A : Type 0} (f : List ℕ → A) (size : ℕ) (b : List ℕ) where
-  map_split : (n i : ℕ) → i < n
-      → map f (records n size b) ≡ map f (records i size b) ++ f (record_at size i b) ∷ map f (records (n - suc i) size (drop size (drop (i * size) b)))
-  map_split n i h = ap (map f) (records_split n size i b h) ∙ map-append f (records i size b) _
-
   pub map_more : (i : ℕ) → map f (records (i + 1) size b) ≡ map f (records i size b) ++ (f (record_at size i b) ∷ [])
   map_more i = ap (map f) (records_more size i b) ∙ map-append f (records i size b) _
 
+  -- a test of the records of these numbers
   module _ (test : A → Bool) where
-    pub every_none : every test (map f (records 0 size b)) ≡ true
-    unfolding every records
-    every_none = refl
+    every_from : (i k : ℕ) → list_all (λ j. test (f (record_at size j b))) (range_with_len i k) ≡ every test (map f (records k size (drop (i * size) b)))
+    unfolding every records record_at
+    every_from i zero = refl
+    every_from i (suc k) =
+        let d : i * size + size ≡ suc i * size = sym (suc-mul i size) in
+        by_test (test (f (take size (drop (i * size) b))))
+        (λ t. rw (every, t, drop-drop, d, add-one i) (every_from (suc i) k))
+        (λ t. rw (every, t))
 
-    pub every_more : (i : ℕ) → every test (map f (records i size b)) ≡ true → test (f (record_at size i b)) ≡ true
-        → every test (map f (records (i + 1) size b)) ≡ true
-    unfolding every
-    every_more i e t = rw (map_more i, every_append, e, every_cons, t)
-
-    pub every_not : (n i : ℕ) → i < n → test (f (record_at size i b)) ≡ false → every test (map f (records n size b)) ≡ false
-    every_not n i h t = rw (map_split n i h, every_append, every_cons, t) (and-false (every test (map f (records i size b))))
+    pub every_is : (n : ℕ) → list_all (λ j. test (f (record_at size j b))) (range_with_len 0 n) ≡ every test (map f (records n size b))
+    every_is n = every_from 0 n ∙ rw zero-mul
 
   module _ (key : A → List ℕ) where
-    pub rising_one : (n : ℕ) → n ≤ 1 → rising key (map f (records n size b)) ≡ true
-    unfolding rising rising_from records
-    rising_one zero h = refl
-    rising_one (suc zero) h = refl
-    rising_one (suc (suc n)) h = absurd (omega arith)
+    -- the record of this number comes after the one before it
+    abbrev pub follows : ℕ → Bool
+    follows j = less (key (f (record_at size (j - 1) b))) (key (f (record_at size j b)))
 
-    last_in : (i : ℕ) → Memᴰ (f (record_at size i b)) (map f (records (i + 1) size b))
-    last_in i = rw (map_more i) (Memᴰ.append_right (map f (records i size b)) (Memᴰ.head refl))
+    follows_suc : (i : ℕ) → follows (suc i) ≡ less (key (f (record_at size i b))) (key (f (record_at size (suc i) b)))
+    follows_suc i = ap (λ (j : ℕ). less (key (f (record_at size j b))) (key (f (record_at size (suc i) b)))) (let e : suc i - 1 ≡ i = omega arith in e)
 
-    -- what comes before the last record comes before what follows it
-    before_next : (i : ℕ) (y z : A) → rising key (map f (records (i + 1) size b)) ≡ true → less (key (f (record_at size i b))) (key y) ≡ true
-        → Memᴰ z (map f (records (i + 1) size b)) → less (key z) (key y) ≡ true
-    before_next i y z e t m =
-        let x : A = f (record_at size i b) in
-        let xs : List A = map f (records i size b) in
-        ⊎_elim
-        (λ k. less_transitive (key z) (key x) (key y) (append_rising_less key (x ∷ []) (rw (map_more i) at e) k (Memᴰ.head refl)) t)
-        (λ k. ap (λ (w : A). less (key w) (key y)) (Memᴰ.eq_of_singleton k) ∙ t)
-        (Memᴰ.append_cases xs (rw (map_more i) at m))
+    follow_from : (i k : ℕ) → list_all follows (range_with_len (suc i) k) ≡ rising_from key (f (record_at size i b)) (map f (records k size (drop (suc i * size) b)))
+    unfolding rising_from records record_at
+    follow_from i zero = refl
+    follow_from i (suc k) =
+        let d : suc i * size + size ≡ suc (suc i) * size = sym (suc-mul (suc i) size) in
+        by_test (less (key (f (take size (drop (i * size) b)))) (key (f (take size (drop (suc i * size) b)))))
+        (λ t. rw (follows_suc i, rising_from, t, drop-drop, d, add-one (suc i)) (follow_from (suc i) k))
+        (λ t. rw (follows_suc i, rising_from, t))
 
-    pub rising_more : (i : ℕ) → rising key (map f (records (i + 1) size b)) ≡ true
-        → less (key (f (record_at size i b))) (key (f (record_at size (i + 1) b))) ≡ true
-        → rising key (map f (records (i + 1 + 1) size b)) ≡ true
-    rising_more i e t =
-        rw (map_more (i + 1))
-        (rising_snoc key (map f (records (i + 1) size b)) (f (record_at size (i + 1) b)) e (λ z m. before_next i _ z e t m))
-
-    pub rising_not : (n i : ℕ) → i + 1 < n → less (key (f (record_at size i b))) (key (f (record_at size (i + 1) b))) ≡ false
-        → rising key (map f (records n size b)) ≡ false
-    rising_not n i h t =
-        by_test (rising key (map f (records n size b)))
-        (λ r.
-        absurd
-        (false≢true
-        (sym t ∙ append_rising_less key _ (rw (map_split n (i + 1) h) at r) (last_in i) (Memᴰ.head refl))))
-        (λ r. r)
-
-    pub rising_fewer : (n m : ℕ) → n ≤ m → rising key (map f (records m size b)) ≡ true → rising key (map f (records n size b)) ≡ true
-    rising_fewer n m h r =
-        let e : m ≡ n + (m - n) = omega arith in
-        let split : map f (records m size b) ≡ map f (records n size b) ++ map f (records (m - n) size (drop (n * size) b)) =
-        ap (λ (k : ℕ). map f (records k size b)) e
-        ∙ ap (map f) (records_add n (m - n) size b)
-        ∙ map-append f (records n size b) _ in
-        append_rising_left key (map f (records n size b)) _ (rw split at r)
+    pub rising_is : (n : ℕ) → list_all follows (range_with_len 1 (n - 1)) ≡ rising key (map f (records n size b))
+    unfolding rising records record_at
+    rising_is zero = refl
+    rising_is (suc n) = let e : suc n - 1 ≡ n = omega arith in rw e (follow_from 0 n ∙ rw (zero-mul, one-mul))

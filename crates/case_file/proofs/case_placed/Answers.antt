@@ -1,26 +1,22 @@
 -- `case_file::case_placed` meets its contract.
 -- Assumes nothing.
-use native.Mathlib.Omega.{arith}
-use Rattle.case_file.specs.Forms.Laws.{no_bytes, lines_most, no_form, form_placed, body_table}
-use borrow.Author.Rules.{rules}
+use mathlib.Core.Path.{ap, sym, ◌∙◌}
+use Rattle.std.specs.Prelude.{Some}
+use borrow.Author.Tests.{eqb-true}
+use Rattle.files.specs.Case.{case_bodies, code_body}
+use Rattle.case_file.specs.Forms.Laws.{no_bytes, placed_plain, placed_coded, placed_none}
 use Rattle.case_file.proofs.case_placed.Goals as goal
 
-pub returns-then-file-eq0 : goal.returns-then-file-eq0
-returns-then-file-eq0 c = no_bytes c.args.file.now c.if-file-eq0.true
+pub returns-then-is_empty : goal.returns-then-is_empty
+returns-then-is_empty c = no_bytes c.args.file.now (eqb-true _ _ (sym c.is_empty.ensures ∙ c.if-is_empty.true))
 
-pub returns-then-lines-eq0 : goal.returns-then-lines-eq0
-returns-then-lines-eq0 c =
-    no_form c.args.file.now c.byte_at.ensures.value c.form_of-lines.ensures.lines_value c.if-lines-eq0.true
+pub returns-in-Some-Plain : goal.returns-in-Some-Plain
+unfolding case_bodies code_body
+returns-in-Some-Plain c = placed_plain c.args.file.now c.byte_at.ensures.value c.form_of.ensures (c.in-Some-Plain.is ∙ ap Some c.in-Some-Plain.field-0-is) c.placed.ensures
 
-pub overflow_mul-lines : goal.overflow_mul-lines
-overflow_mul-lines c =
-    let l = lines_most c.args.file.now c.byte_at.ensures.value c.form_of-lines.ensures.lines_value in search rules
+pub returns-in-Some-Coded : goal.returns-in-Some-Coded
+unfolding case_bodies code_body
+returns-in-Some-Coded c = placed_coded c.args.file.now c.byte_at.ensures.value c.form_of.ensures (c.in-Some-Coded.is ∙ ap Some c.in-Some-Coded.field-0-is) c.placed-in-Some-Coded.ensures
 
-pub slice_bounds-placed-end : goal.slice_bounds-placed-end
-slice_bounds-placed-end c =
-    let l = lines_most c.args.file.now c.byte_at.ensures.value c.form_of-lines.ensures.lines_value in omega arith
-
-pub returns : goal.returns
-unfolding body_table
-returns c =
-    form_placed c.args.file.now c.byte_at.ensures.value c.form_of-lines.ensures.lines_value c.if-lines-eq0.false c.placed.ensures
+pub returns-in-None : goal.returns-in-None
+returns-in-None c = placed_none c.args.file.now c.byte_at.ensures.value c.form_of.ensures c.in-None.is

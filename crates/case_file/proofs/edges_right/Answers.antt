@@ -1,18 +1,15 @@
--- `case_file::edges_right` meets its contract. The invariant: the first i records keep their bounds.
+-- `case_file::edges_right` meets its contract.
 -- Assumes nothing.
-use mathlib.Core.Path.{ap, sym, ◌∙◌}
+use Rattle.std.proofs.Common.{refl, ◌∙◌, arith, rules, tests}
+use Rattle.std.proofs.lemmas.Iterator.{YieldsList-from_range}
+use Rattle.std.proofs.lemmas.Iterator.Search.{all_from_yields_List}
 use Rattle.files.specs.Case.{edge_bytes, edge_right}
-use Rattle.bytes_in.specs.Records.Laws.{every_none, every_more, every_not}
-use borrow.Author.Rules.{rules}
+use Rattle.bytes_in.specs.Records.{record_at}
+use Rattle.bytes_in.specs.Records.Laws.{every_is}
+use Rattle.case_records.specs.Values.{the_head}
 use Rattle.case_file.proofs.edges_right.Goals as goal
 
-pub loop-i-init : goal.loop-i-init
-loop-i-init c = (search rules, every_none _ _ _ _)
-
-pub returns-then-not-edge_right : goal.returns-then-not-edge_right
-returns-then-not-edge_right c =
-    sym (every_not edge_bytes 4 _ _ _ _ c.loop-i-test.true (ap (edge_right _) (sym c.edge_at.ensures) ∙ sym c.edge_right.ensures ∙ c.if-not-edge_right.true))
-
-pub loop-i-preserved : goal.loop-i-preserved
-loop-i-preserved c =
-    (search rules, every_more edge_bytes 4 _ _ _ c.loop-i.invariant.1 (ap (edge_right _) (sym c.edge_at.ensures) ∙ sym c.edge_right.ensures ∙ c.if-not-edge_right.false))
+pub returns : goal.returns
+returns c =
+    all_from_yields_List (λ i. edge_right (the_head c.args.h.head) (edge_bytes (record_at 4 i c.args.body.now))) _ _ c.all.result c.all.ensures.ran (YieldsList-from_range 0 c.args.n c.args.n refl (omega arith)) (λ x b q k. search (rules, tests))
+    ∙ every_is edge_bytes 4 c.args.body.now (edge_right (the_head c.args.h.head)) c.args.n

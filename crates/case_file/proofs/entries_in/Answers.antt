@@ -13,4 +13,4 @@ loop-i-init c = search rules
 
 pub loop-i-preserved : goal.loop-i-preserved
 loop-i-preserved c =
-    (search rules, entries_more _ _ _ _ _ _ c.loop-i.invariant.1 c.entry_count-count.ensures.value c.edge_at.ensures, search rules)
+    (entries_more _ _ _ _ _ _ c.loop-i.invariant.0 c.entry_count-count.ensures.value c.edge_at.ensures, search rules)

@@ -13,17 +13,17 @@ use Rattle.case_file.proofs.file_moves_right.Goals as goal
 
 pub count_of-requires : goal.count_of-requires
 count_of-requires c =
-    let p : CasePlaces c.args.file.now = case_places _ c.requires.0 in
+    let p : CasePlaces c.args.file.now = case_places _ c.requires in
     omega arith
 
 pub moves_right-requires : goal.moves_right-requires
 moves_right-requires c =
-    let p : CasePlaces c.args.file.now = case_places _ c.requires.0 in
-    (body_fits _ _ _ _ _ (omega arith) c.move_body.ensures c.count_of.ensures.value, omega arith, c.requires.1)
+    let p : CasePlaces c.args.file.now = case_places _ c.requires in
+    (body_fits _ _ _ _ _ (omega arith) c.move_body.ensures c.count_of.ensures.value, omega arith)
 
 pub returns : goal.returns
 unfolding move_records
 returns c =
     c.moves_right.ensures
-    ∙ ap (λ (xs : List (List ℕ)). every (move_right (the_head c.args.h) c.args.states) (map move_of xs))
+    ∙ ap (λ (xs : List (List ℕ)). every (move_right (the_head c.args.h.head) c.args.states) (map move_of xs))
     (records_here _ _ _ _ _ c.move_body.ensures c.count_of.ensures.value)

@@ -9,5 +9,4 @@ pub byte_at-requires : goal.byte_at-requires
 byte_at-requires c = let p : CasePlaces c.args.file.now = case_places _ c.requires in omega arith
 
 pub returns : goal.returns
-returns c =
-    codes_tell c.args.file.now c.byte_at.ensures.value c.form_of.ensures.lines_value c.form_of.ensures.codes_value
+returns c = codes_tell c.args.file.now c.byte_at.ensures.value

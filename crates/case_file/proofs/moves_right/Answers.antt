@@ -1,18 +1,15 @@
--- `case_file::moves_right` meets its contract. The invariant: the first i records keep their bounds.
+-- `case_file::moves_right` meets its contract.
 -- Assumes nothing.
-use mathlib.Core.Path.{ap, sym, ◌∙◌}
+use Rattle.std.proofs.Common.{refl, ◌∙◌, arith, rules, tests}
+use Rattle.std.proofs.lemmas.Iterator.{YieldsList-from_range}
+use Rattle.std.proofs.lemmas.Iterator.Search.{all_from_yields_List}
 use Rattle.files.specs.Case.{move_of, move_right}
-use Rattle.bytes_in.specs.Records.Laws.{every_none, every_more, every_not}
-use borrow.Author.Rules.{rules}
+use Rattle.bytes_in.specs.Records.{record_at}
+use Rattle.bytes_in.specs.Records.Laws.{every_is}
+use Rattle.case_records.specs.Values.{the_head}
 use Rattle.case_file.proofs.moves_right.Goals as goal
 
-pub loop-i-init : goal.loop-i-init
-loop-i-init c = (search rules, every_none _ _ _ _)
-
-pub returns-then-not-move_right : goal.returns-then-not-move_right
-returns-then-not-move_right c =
-    sym (every_not move_of 19 _ _ _ _ c.loop-i-test.true (ap (move_right _ _) (sym c.move_at.ensures) ∙ sym c.move_right.ensures ∙ c.if-not-move_right.true))
-
-pub loop-i-preserved : goal.loop-i-preserved
-loop-i-preserved c =
-    (search rules, every_more move_of 19 _ _ _ c.loop-i.invariant.1 (ap (move_right _ _) (sym c.move_at.ensures) ∙ sym c.move_right.ensures ∙ c.if-not-move_right.false))
+pub returns : goal.returns
+returns c =
+    all_from_yields_List (λ i. move_right (the_head c.args.h.head) c.args.states (move_of (record_at 19 i c.args.body.now))) _ _ c.all.result c.all.ensures.ran (YieldsList-from_range 0 c.args.n c.args.n refl (omega arith)) (λ x b q k. search (rules, tests))
+    ∙ every_is move_of 19 c.args.body.now (move_right (the_head c.args.h.head) c.args.states) c.args.n

@@ -1,21 +1,15 @@
--- `case_file::rules_right` meets its contract. The invariant: the first i records keep their bounds.
+-- `case_file::rules_right` meets its contract.
 -- Assumes nothing.
-use Prim.Native.Nat.{ℕ}
-use mathlib.Core.Path.{ap, sym, ◌∙◌}
-use mathlib.Core.List.{List}
+use Rattle.std.proofs.Common.{refl, ◌∙◌, arith, rules, tests}
+use Rattle.std.proofs.lemmas.Iterator.{YieldsList-from_range}
+use Rattle.std.proofs.lemmas.Iterator.Search.{all_from_yields_List}
 use Rattle.files.specs.Case.{rule_bytes, rule_right}
+use Rattle.bytes_in.specs.Records.{record_at}
+use Rattle.bytes_in.specs.Records.Laws.{every_is}
 use Rattle.case_records.specs.Values.{the_head}
-use Rattle.bytes_in.specs.Records.Laws.{every_none, every_more, every_not, part_is}
-use borrow.Author.Rules.{rules}
 use Rattle.case_file.proofs.rules_right.Goals as goal
 
-pub loop-i-init : goal.loop-i-init
-loop-i-init c = (search rules, every_none _ _ _ _)
-
-pub returns-then-not-rule_right : goal.returns-then-not-rule_right
-returns-then-not-rule_right c =
-    sym (every_not rule_bytes 5 _ _ _ _ c.loop-i-test.true (ap (λ (x : List ℕ). rule_right (the_head c.args.h) (rule_bytes x)) (sym (part_is 5 c.loop-i.i c.args.body.now)) ∙ sym c.rule_right.ensures ∙ c.if-not-rule_right.true))
-
-pub loop-i-preserved : goal.loop-i-preserved
-loop-i-preserved c =
-    (search rules, every_more rule_bytes 5 _ _ _ c.loop-i.invariant.1 (ap (λ (x : List ℕ). rule_right (the_head c.args.h) (rule_bytes x)) (sym (part_is 5 c.loop-i.i c.args.body.now)) ∙ sym c.rule_right.ensures ∙ c.if-not-rule_right.false))
+pub returns : goal.returns
+returns c =
+    all_from_yields_List (λ i. rule_right (the_head c.args.h) (rule_bytes (record_at 5 i c.args.body.now))) _ _ c.all.result c.all.ensures.ran (YieldsList-from_range 0 c.args.n c.args.n refl (omega arith)) (λ x b q k. search (rules, tests))
+    ∙ every_is rule_bytes 5 c.args.body.now (rule_right (the_head c.args.h)) c.args.n

@@ -1,24 +1,19 @@
 -- `case_records::edge_right` meets its contract.
 -- Assumes nothing.
-use Rattle.files.specs.Case.Records.{head_bounds}
-use mathlib.Core.Path.{sym, ◌∙◌}
-use borrow.Author.Tests.{lt-ltb, le-ltb}
+use Rattle.std.proofs.Common.{rules}
 use native.Mathlib.Omega.{arith}
+use Rattle.files.specs.Case.Records.{head_bounds}
 use Rattle.case_records.specs.Bounds.Laws.{edge_parts}
 use Rattle.case_records.proofs.edge_right.Goals as goal
 
 pub overflow_add-h : goal.overflow_add-h
-overflow_add-h c = omega (arith, head_bounds _ c.requires)
-
-pub returns-then-h-e : goal.returns-then-h-e
-returns-then-h-e c = rw (edge_parts, sym c.first_right.ensures ∙ c.if-first_right.true, le-ltb _ _ c.if-h-e.true)
+overflow_add-h c = omega (arith, head_bounds _ c.args.right.right)
 
 pub inner2-requires : goal.inner2-requires
-inner2-requires c = ((head_bounds _ c.requires).controls_few, (head_bounds _ c.requires).inner2_few)
+inner2-requires c = ((head_bounds _ c.args.right.right).controls_few, (head_bounds _ c.args.right.right).inner2_few)
 
-pub returns-then-first_right : goal.returns-then-first_right
-returns-then-first_right c =
-    rw (edge_parts, sym c.first_right.ensures ∙ c.if-first_right.true, lt-ltb _ _ c.if-h-e.false) c.inner2.ensures
+pub returns-then-e-h : goal.returns-then-e-h
+returns-then-e-h c = rw edge_parts (search rules)
 
-pub returns : goal.returns
-returns c = rw (edge_parts, sym c.first_right.ensures ∙ c.if-first_right.false)
+pub returns-else-e-h : goal.returns-else-e-h
+returns-else-e-h c = rw edge_parts (search rules)

@@ -1,17 +1,21 @@
 -- `case_records::first_right` meets its contract.
 -- Assumes nothing.
-use borrow.Author.Tests.{lt-ltb, le-ltb, eq-eqb, ne_eqb}
+use Rattle.std.proofs.Common.{rules}
 use Rattle.case_records.specs.Bounds.{first_right}
 use Rattle.case_records.proofs.first_right.Goals as goal
 
-pub returns-then-e-eq-FINAL_MARK : goal.returns-then-e-eq-FINAL_MARK
+pub returns-in-254 : goal.returns-in-254
 unfolding first_right
-returns-then-e-eq-FINAL_MARK c = rw (first_right, lt-ltb _ _ c.if-e-h.true, eq-eqb _ _ c.if-e-eq-FINAL_MARK.true)
+returns-in-254 c = search rules
 
-pub returns-then-e-h : goal.returns-then-e-h
+pub returns-in_default : goal.returns-in_default
 unfolding first_right
-returns-then-e-h c = rw (first_right, lt-ltb _ _ c.if-e-h.true, ne_eqb _ _ c.if-e-eq-FINAL_MARK.false)
+returns-in_default c = search rules
 
-pub returns : goal.returns
+pub returns-in_default-2 : goal.returns-in_default-2
 unfolding first_right
-returns c = rw (first_right, le-ltb _ _ c.if-e-h.false)
+returns-in_default-2 c = search rules
+
+pub returns-else-e-h : goal.returns-else-e-h
+unfolding first_right
+returns-else-e-h c = search rules

@@ -7,5 +7,5 @@ use Rattle.case_records.proofs.inner2.Goals as goal
 pub returns-then-none_below : goal.returns-then-none_below
 returns-then-none_below c = rw (inner2_parts, sym c.none_below.ensures ∙ c.if-none_below.true) c.existing2.ensures
 
-pub returns : goal.returns
-returns c = rw (inner2_parts, sym c.none_below.ensures ∙ c.if-none_below.false)
+pub returns-else-none_below : goal.returns-else-none_below
+returns-else-none_below c = c.if-none_below.false ∙ rw (inner2_parts, sym c.none_below.ensures ∙ c.if-none_below.false)

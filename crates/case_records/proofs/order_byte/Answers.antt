@@ -8,6 +8,6 @@ pub returns-then-e-h : goal.returns-then-e-h
 unfolding order_byte
 returns-then-e-h c = rw (order_byte, lt-ltb _ _ c.if-e-h.true)
 
-pub returns : goal.returns
+pub returns-else-e-h : goal.returns-else-e-h
 unfolding order_byte
-returns c = rw (order_byte, le-ltb _ _ c.if-e-h.false)
+returns-else-e-h c = rw (order_byte, le-ltb _ _ c.if-e-h.false)

@@ -1,14 +1,18 @@
 -- `case_tables::count_move` meets its contract.
 -- Assumes nothing.
-use mathlib.Core.Path.{◌∙◌}
+use mathlib.Core.Path.{ap, ◌∙◌}
+use native.Mathlib.Omega.{arith}
+use Rattle.tables.specs.Counts.{raised}
 use Rattle.case_tables.specs.Counting.Laws.{counted_inner, counted_past, counted_there}
 use Rattle.case_tables.proofs.count_move.Goals as goal
 
-pub returns-then-r-inner1 : goal.returns-then-r-inner1
-returns-then-r-inner1 c = counted_inner _ _ _ _ c.if-r-inner1.true
+pub returns-then-k-n : goal.returns-then-k-n
+returns-then-k-n c =
+    let e = c.in-Some.ensures in
+    c.raise_count.ensures ∙ ap (raised c.args.entries.now) e.1 ∙ counted_there _ _ _ _ e.0 (omega arith)
 
-pub returns-then-n-k : goal.returns-then-n-k
-returns-then-n-k c = counted_past _ _ _ _ c.if-r-inner1.false c.if-n-k.true
+pub returns-else-k-n : goal.returns-else-k-n
+returns-else-k-n c = let e = c.in-Some.ensures in counted_past _ _ _ _ e.0 (omega arith)
 
-pub returns : goal.returns
-returns c = c.raise_count.ensures ∙ counted_there _ _ _ _ c.if-r-inner1.false c.if-n-k.false
+pub returns-in_default : goal.returns-in_default
+returns-in_default c = counted_inner _ _ _ _ (omega (arith, c.in_default.ensures))

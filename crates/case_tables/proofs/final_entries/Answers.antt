@@ -18,7 +18,7 @@ use Rattle.case_tables.proofs.final_entries.Goals as goal
 
 pub loop-i-init : goal.loop-i-init
 unfolding records entries_of only
-loop-i-init c = (search rules, sym (final_none _ _), omega arith, omega arith)
+loop-i-init c = (sym (final_none _ _), omega arith, omega arith)
 
 pub final_entry-requires : goal.final_entry-requires
 final_entry-requires c =
@@ -26,15 +26,14 @@ final_entry-requires c =
     let e : (edge_bytes (record_at 4 c.loop-i.i c.args.body.now)).state < c.args.h.controls =
     rw (← ap (λ (x : EdgeBytes). x.state) c.edge_at-e.ensures) l in
     let w = entries_within (the_head c.args.h) c.args.body.now _ _ c.loop-i-test.true e in
-    let f : c.loop-i.r ≡ c.args.h.inner1 + length (entries_of (the_head c.args.h) (map edge_bytes (records c.loop-i.i 4 c.args.body.now))) = c.loop-i.invariant.2 in
+    let f : c.loop-i.r ≡ c.args.h.inner1 + length (entries_of (the_head c.args.h) (map edge_bytes (records c.loop-i.i 4 c.args.body.now))) = c.loop-i.invariant.1 in
     omega arith
 
 pub loop-i-preserved : goal.loop-i-preserved
 loop-i-preserved c =
     let n = entries_more (the_head c.args.h) c.args.body.now c.loop-i.i _ _ _ refl c.entry_count-r.ensures.value c.edge_at-e.ensures in
-    let r : c.loop-i.r ≡ c.args.h.inner1 + length (entries_of (the_head c.args.h) (map edge_bytes (records c.loop-i.i 4 c.args.body.now))) = c.loop-i.invariant.2 in (
-      search rules,
-      final_more _ _ _ _ _ _ c.loop-i.invariant.1 r c.edge_at-e.ensures c.final_entry.ensures c.join-set.ensures,
+    let r : c.loop-i.r ≡ c.args.h.inner1 + length (entries_of (the_head c.args.h) (map edge_bytes (records c.loop-i.i 4 c.args.body.now))) = c.loop-i.invariant.1 in (
+      final_more _ _ _ _ _ _ c.loop-i.invariant.0 r c.edge_at-e.ensures c.final_entry.ensures c.join-set.ensures,
       omega arith,
       search rules,
     )

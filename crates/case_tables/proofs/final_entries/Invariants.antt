@@ -1,5 +1,5 @@
 -- `case_tables::final_entries`: what its loops keep. The invariant: the set is that of the final entries among the first i edges, and the next entry
-use Prim.Native.Nat.{◌+◌, ◌≤◌, ◌-◌}
+use Prim.Native.Nat.{◌+◌, ◌≤◌}
 use mathlib.Core.Path.{◌≡◌}
 use mathlib.Core.List.{map}
 use lib.ListN.{length}
@@ -11,10 +11,6 @@ use Rattle.case_tables.proofs.final_entries.Given as goal
 
 abbrev pub invariant-loop-i : goal.invariant-loop-i
 invariant-loop-i l =
-    (l.i ≤ l.n)
-    × (l.set ≡ set_of (final_entries (the_head l.h) l.h.inner1 (map edge_bytes (records l.i 4 l.body))))
+    (l.set ≡ set_of (final_entries (the_head l.h) l.h.inner1 (map edge_bytes (records l.i 4 l.body))))
     × (l.r ≡ l.h.inner1 + length (entries_of (the_head l.h) (map edge_bytes (records l.i 4 l.body))))
     × (l.r ≤ l.h.inner1 + l.i)
-
-abbrev pub decreases-loop-i : goal.decreases-loop-i
-decreases-loop-i l = l.n - l.i

@@ -29,9 +29,8 @@ add_entry-k-requires c = (
 
 pub loop-i-preserved : goal.loop-i-preserved
 loop-i-preserved c = (
-  search rules,
-  entries_step _ _ _ _ _ _ _ _ c.loop-i.invariant.1 c.loop-i.invariant.2 c.edge_at.ensures c.add_entry-k.ensures.t_after,
-  c.add_entry-k.ensures.value ∙ entries_more _ _ _ _ _ _ c.loop-i.invariant.2 refl c.edge_at.ensures,
+  entries_step _ _ _ _ _ _ _ _ c.loop-i.invariant.0 c.loop-i.invariant.1 c.edge_at.ensures c.add_entry-k.ensures.t_after,
+  c.add_entry-k.ensures.value ∙ entries_more _ _ _ _ _ _ c.loop-i.invariant.1 refl c.edge_at.ensures,
   search rules,
   search rules,
 )

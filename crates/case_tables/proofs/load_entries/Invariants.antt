@@ -1,5 +1,5 @@
 -- `case_tables::load_entries`: what its loops keep. The invariant: the entries among the first i edges are written.
-use Prim.Native.Nat.{◌≤◌, ◌-◌}
+use Prim.Native.Nat.{◌≤◌}
 use mathlib.Core.Path.{◌≡◌}
 use mathlib.Core.List.{map}
 use lib.ListN.{length}
@@ -12,11 +12,7 @@ use Rattle.case_tables.proofs.load_entries.Given as goal
 
 abbrev pub invariant-loop-i : goal.invariant-loop-i
 invariant-loop-i l =
-    (l.i ≤ l.n)
-    × (l.t ≡ written entry_row l.initial.t 0 (entries_of (the_head l.h) (map edge_bytes (records l.i 4 l.body))))
+    (l.t ≡ written entry_row l.initial.t 0 (entries_of (the_head l.h) (map edge_bytes (records l.i 4 l.body))))
     × (l.k ≡ length (entries_of (the_head l.h) (map edge_bytes (records l.i 4 l.body))))
     × (l.k ≤ l.i)
     × (length l.t ≡ length l.initial.t)
-
-abbrev pub decreases-loop-i : goal.decreases-loop-i
-decreases-loop-i l = l.n - l.i

@@ -5,6 +5,3 @@ use Rattle.case_tables.proofs.load_inner.Given as goal
 
 abbrev pub invariant-loop-i : goal.invariant-loop-i
 invariant-loop-i l = InnerFrom (the_head l.h) l.body l.initial.t l.t l.n l.i l.k
-
-abbrev pub decreases-loop-i : goal.decreases-loop-i
-decreases-loop-i l = l.i

@@ -1,5 +1,4 @@
 -- `case_tables::load_moves`: what its loops keep. The invariant: the first i moves are written and counted.
-use Prim.Native.Nat.{◌≤◌, ◌-◌}
 use mathlib.Core.Path.{◌≡◌}
 use mathlib.Core.List.{map}
 use lib.ListN.{length}
@@ -12,10 +11,6 @@ use Rattle.case_tables.proofs.load_moves.Given as goal
 
 abbrev pub invariant-loop-i : goal.invariant-loop-i
 invariant-loop-i l =
-    (l.i ≤ l.n)
-    × (l.t ≡ written move_row l.initial.t 0 (map move_of (records l.i 19 l.body)))
+    (l.t ≡ written move_row l.initial.t 0 (map move_of (records l.i 19 l.body)))
     × (length l.t ≡ length l.initial.t)
     × CountedSo l.inner1 l.known l.initial.entries l.entries (map move_of (records l.i 19 l.body))
-
-abbrev pub decreases-loop-i : goal.decreases-loop-i
-decreases-loop-i l = l.n - l.i

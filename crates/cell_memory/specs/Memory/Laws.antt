@@ -3,13 +3,12 @@
 use Prim.Native.Nat.{ℕ, zero, suc, ◌+◌, ◌*◌, ◌<◌, ◌≤◌}
 use Rattle.std.specs.Prelude.{true, false, ◌≡◌, refl, take, drop, set, eqb, ltb}
 use Rattle.std.proofs.Math.Path.{ap, sym, fun_ext}
-use Rattle.std.proofs.Common.{ap₂, ◌∙◌, add-zero, length-append, length-take, length-drop, length-take-le, take_at, drop_at, drop-drop, get_or-take, get_or-drop}
+use Rattle.std.proofs.Common.{ap₂, ◌∙◌, add-zero, length-append, length-take, length-drop, drop-drop, get_or-take, get_or-drop}
 use mathlib.Core.List.{List, [], ◌∷◌, ◌++◌, append_assoc}
 use native.Mathlib.Omega.{arith}
 use Rattle.std.proofs.Math.ListN.{length, get_or, length-set, get_or-replicate, get_or-append, get_or-eq_default}
-use Rattle.std.proofs.lemmas.List.{replicate-append-replicate}
 use Rattle.std.proofs.lemmas.List.Edits.{sets, sets-eq}
-use Rattle.std.proofs.Math.Seq.{length-sets, drop-append-add, get_or-set_same, get_or-set_other, get_or-append-add}
+use Rattle.std.proofs.Math.Seq.{length-sets, get_or-set_same, get_or-set_other, get_or-append-add}
 use borrow.Author.Tests.{ne_eqb, eqb-true, eqb-false, ltb-true, ltb-false}
 use Rattle.words.specs.Lists.{zeros}
 use Rattle.words.specs.Lists.Laws.{length_zeros}
@@ -19,8 +18,6 @@ use Rattle.walks.specs.Guide.{Guided, no_guided}
 use Rattle.cell_memory.specs.declared.Cell.{Cell}
 use Rattle.cell_memory.specs.declared.Cell.TheVariants.{Empty1, Symbol, Empty2, Above}
 use Rattle.cell_memory.specs.Memory.{cell_of, value_of, of_kind, cell_in, choices_in, choice_in, guided_cell, guided_in, fields, with_cell, with_choice, with_choices}
-use Rattle.words.specs.Copied.{Copied}
-use Rattle.words.specs.Copied.Laws.{copied_sets}
 
 -- ---- cells by value
 
@@ -165,7 +162,7 @@ module _ (ws : List ℕ) (i : ℕ) (c : Cell) where
       (λ e. get_or_after (fields c ++ zeros 64) ws (i * 68) k (omega (arith, ltb-false k (i * 68) e)))
 
   pub with_cell_guided : i * 68 + 68 ≤ length ws → guided_cell (with_cell ws i c) i ≡ record { cell = cell_of c; choice = λ q. 0 }
-  unfolding with_cell guided_cell cell_in zeros
+  unfolding with_cell guided_cell cell_in
   with_cell_guided fits =
       let vs : List ℕ = fields c ++ zeros 64 in
       let l : length (fields c ++ zeros 64) ≡ 68 = written_length c in
@@ -273,48 +270,40 @@ module _ (ws : List ℕ) (i : ℕ) where
   unfolding cell_in of_kind
   cell_in_empty1 e f g = rw (of_kind, ne_eqb _ _ e, ne_eqb _ _ f, ne_eqb _ _ g)
 
--- ---- the loop that copies choices
+-- ---- a part is written over
 
-pub choices_copied : {ws₀ ws ns : List ℕ} {q : ℕ} (i : ℕ) → Copied ws₀ (i * 68 + 4) ns q ws → length ns ≤ q → i * 68 + 4 + length ns ≤ length ws₀
-    → ws ≡ with_choices ws₀ i ns
-unfolding with_choices
-choices_copied i h l fits = copied_sets h l fits
+pub part_put : (ws part : List ℕ) (at n : ℕ) → n ≡ length part → at + length part ≤ length ws → take at ws ++ (part ++ drop n (drop at ws)) ≡ sets ws at part
+part_put ws part at n e fits =
+    let d : at + n ≡ at + length part = omega arith in
+    ap (λ (r : List ℕ). take at ws ++ (part ++ r)) (drop-drop n at ws ∙ ap (λ (k : ℕ). drop k ws) d)
+    ∙ sym (append_assoc (take at ws) part (drop (at + length part) ws))
+    ∙ sym (sets-eq part ws at fits)
 
--- ---- a cell is written as 68 zeros, and then its fields
+-- ---- a cell's fields are written, and then 64 zeros
 
-zeros_then : (n m : ℕ) (l : List ℕ) → drop n (zeros (n + m) ++ l) ≡ zeros m ++ l
-unfolding zeros
-zeros_then n m l =
-    ap (λ (r : List ℕ). drop n (r ++ l)) (sym (replicate-append-replicate n m 0))
-    ∙ ap (drop n) (append_assoc (zeros n) (zeros m) l)
-    ∙ drop_at (zeros n) (zeros m ++ l) n (length_zeros n)
+sets_append : (vs ns l : List ℕ) (i : ℕ) → sets l i (vs ++ ns) ≡ sets (sets l i vs) (i + length vs) ns
+sets_append [] ns l i = ap (λ (k : ℕ). sets l k ns) (sym (add-zero i))
+sets_append (v ∷ vs) ns l i =
+    let e : suc i + length vs ≡ i + suc (length vs) = omega arith in
+    sets_append vs ns (set l i v) (suc i) ∙ ap (λ (k : ℕ). sets (sets (set l i v) (suc i) vs) k ns) e
 
--- n zeros written from `at` on, and then fs over the first of them, are fs and the m zeros that are left
-zeros_and : (ws blank fs out : List ℕ) (at n m : ℕ) → n ≡ length fs + m → at + n ≤ length ws → blank ≡ zeros (length (take n (drop at ws)))
-    → out ≡ sets (take at ws ++ (blank ++ drop n (drop at ws))) at fs → out ≡ sets ws at (fs ++ zeros m)
-zeros_and ws blank fs out at n m size fits z e =
-    let len : length (take at ws) ≡ at = length-take-le at ws (omega arith) in
-    let count : length (take n (drop at ws)) ≡ length fs + m = simp (length-take, length-drop) (omega arith) in
-    let rest : List ℕ = drop (at + n) ws in
-    let zs : List ℕ = zeros (length fs + m) ++ rest in
-    let mid : take at ws ++ (blank ++ drop n (drop at ws)) ≡ take at ws ++ zs =
-    ap₂ (λ (x y : List ℕ). take at ws ++ (x ++ y)) (z ∙ ap zeros count) (drop-drop n at ws) in
-    let room : at + length fs ≤ length (take at ws ++ zs) = simp (length-append, length_zeros, length-drop) (omega arith) in
-    let seam : at + length fs ≡ length (take at ws) + length fs = omega arith in
-    let after : drop (at + length fs) (take at ws ++ zs) ≡ zeros m ++ rest =
-    ap (λ (k : ℕ). drop k (take at ws ++ zs)) seam ∙ drop-append-add (take at ws) zs (length fs) ∙ zeros_then (length fs) m rest in
-    let both : length (fs ++ zeros m) ≡ n = length-append fs (zeros m) ∙ ap (λ (k : ℕ). length fs + k) (length_zeros m) ∙ sym size in
-    e ∙ ap (λ (l : List ℕ). sets l at fs) mid
-    ∙ sets-eq fs (take at ws ++ zs) at room
-    ∙ ap₂ (λ (x y : List ℕ). x ++ fs ++ y) (take_at (take at ws) zs at len) after
-    ∙ sym (append_assoc (take at ws ++ fs) (zeros m) rest)
-    ∙ ap (λ (l : List ℕ). l ++ rest) (append_assoc (take at ws) fs (zeros m))
-    ∙ ap (λ (k : ℕ). take at ws ++ (fs ++ zeros m) ++ drop (at + k) ws) (sym both)
-    ∙ sym (sets-eq (fs ++ zeros m) ws at (omega arith))
+-- part over the n words from `at` on
+abbrev pub over : List ℕ → ℕ → ℕ → List ℕ → List ℕ
+over ws at n part = take at ws ++ (part ++ drop n (drop at ws))
 
-pub put_is : (ws blank out : List ℕ) (i n : ℕ) (c : Cell) → i * 68 + 68 ≤ length ws → n ≡ 68 → blank ≡ zeros (length (take n (drop (i * 68) ws)))
-    → out ≡ sets (take (i * 68) ws ++ (blank ++ drop n (drop (i * 68) ws))) (i * 68) (fields c) → out ≡ with_cell ws i c
-unfolding with_cell
-put_is ws blank out i n c fits size z e =
+pub put_is : (ws part blank : List ℕ) (at n m : ℕ) (c : Cell) → at + 68 ≤ length ws → n ≡ 4 → m ≡ 64 → part ≡ fields c
+    → blank ≡ zeros (length (take m (drop (at + 4) (over ws at n part)))) → over (over ws at n part) (at + 4) m blank ≡ sets ws at (fields c ++ zeros 64)
+put_is ws part blank at n m c fits sn sm e z =
     let f : length (fields c) ≡ 4 = fields_length c in
-    zeros_and ws blank (fields c) out (i * 68) n 64 (omega arith) (omega arith) z e
+    let l : length part ≡ 4 = ap length e ∙ f in
+    let first : over ws at n part ≡ sets ws at part = part_put ws part at n (omega arith) (omega arith) in
+    let long : length (sets ws at part) ≡ length ws = length-sets ws at part in
+    let count : length (take m (drop (at + 4) (sets ws at part))) ≡ 64 = simp (length-take, length-drop) (omega arith) in
+    let blank_is : blank ≡ zeros 64 = z ∙ ap (λ (t : List ℕ). zeros (length (take m (drop (at + 4) t)))) first ∙ ap zeros count in
+    let len : length blank ≡ 64 = ap length blank_is ∙ length_zeros 64 in
+    let at_end : at + 4 ≡ at + length (fields c) = omega arith in
+    ap (λ (t : List ℕ). over t (at + 4) m blank) first
+    ∙ part_put (sets ws at part) blank (at + 4) m (omega arith) (omega arith)
+    ∙ ap₂ (λ (x y : List ℕ). sets (sets ws at x) (at + 4) y) e blank_is
+    ∙ ap (λ (k : ℕ). sets (sets ws at (fields c)) k (zeros 64)) at_end
+    ∙ sym (sets_append (fields c) (zeros 64) ws at)

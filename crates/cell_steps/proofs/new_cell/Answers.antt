@@ -1,5 +1,6 @@
 -- `cell_steps::new_cell` meets its contract.
 -- Assumes nothing.
+use Rattle.std.proofs.Math.Logic.{⊎_elim}
 use mathlib.Core.Path.{◌≡◌, refl, ap}
 use Rattle.stacks.specs.Stack.{new_cells}
 use Rattle.walks.specs.Cell.{cells_after}
@@ -69,14 +70,10 @@ pub returns-in-Pop1 : goal.returns-in-Pop1
 unfolding cells_after cell_of
 returns-in-Pop1 c = cell_one _ _ _ _ _ _ _ c.in-Pop1.is refl c.requires.0
 
-pub returns-in-Pop2 : goal.returns-in-Pop2
-unfolding cells_after cell_of
-returns-in-Pop2 c = cell_none _ _ _ _ _ _ c.in-Pop2.is refl
-
 pub returns-in-Collapse1 : goal.returns-in-Collapse1
 unfolding cells_after cell_of
 returns-in-Collapse1 c = cell_one _ _ _ _ _ _ _ c.in-Collapse1.is refl c.requires.0
 
-pub returns-in-Collapse2 : goal.returns-in-Collapse2
+pub returns-in-Pop2 : goal.returns-in-Pop2
 unfolding cells_after cell_of
-returns-in-Collapse2 c = cell_none _ _ _ _ _ _ c.in-Collapse2.is refl
+returns-in-Pop2 c = ⊎_elim (λ e. cell_none _ _ _ _ _ _ e refl) (λ e. cell_none _ _ _ _ _ _ e refl) c.in-Pop2.is

@@ -1,5 +1,7 @@
 -- `cell_steps::put_chosen` meets its contract.
 -- Assumes nothing.
+use Prim.Native.Nat.{ℕ}
+use Rattle.std.proofs.Math.Logic.{⊎_elim}
 use mathlib.Core.Path.{◌≡◌, refl, ap}
 use Rattle.stacks.specs.Stack.{new_cells}
 use Rattle.case_records.specs.declared.Operation.{Operation}
@@ -18,13 +20,8 @@ choose_top-requires c =
 pub choose_pushed-requires : goal.choose_pushed-requires
 unfolding new_cells
 choose_pushed-requires c =
-    let e : new_cells (the_operation c.args.op) ≡ 3 = ap (λ (o : Operation). new_cells (the_operation o)) c.in-Push1.is in
-    search rules
-
-pub choose_pushed-requires-in-Push2 : goal.choose_pushed-requires-in-Push2
-unfolding new_cells
-choose_pushed-requires-in-Push2 c =
-    let e : new_cells (the_operation c.args.op) ≡ 3 = ap (λ (o : Operation). new_cells (the_operation o)) c.in-Push2.is in
+    let count : Operation → ℕ = λ o. new_cells (the_operation o) in
+    let e : new_cells (the_operation c.args.op) ≡ 3 = ⊎_elim (λ e. ap count e.1) (λ e. ap count e.1) c.in-Push1.is in
     search rules
 
 pub choose_copied-requires : goal.choose_copied-requires
@@ -36,13 +33,8 @@ choose_copied-requires c =
 pub put_choice-requires : goal.put_choice-requires
 unfolding new_cells
 put_choice-requires c =
-    let e : new_cells (the_operation c.args.op) ≡ 1 = ap (λ (o : Operation). new_cells (the_operation o)) c.in-Pop1.is in
-    search rules
-
-pub put_choice-requires-in-Collapse1 : goal.put_choice-requires-in-Collapse1
-unfolding new_cells
-put_choice-requires-in-Collapse1 c =
-    let e : new_cells (the_operation c.args.op) ≡ 1 = ap (λ (o : Operation). new_cells (the_operation o)) c.in-Collapse1.is in
+    let count : Operation → ℕ = λ o. new_cells (the_operation o) in
+    let e : new_cells (the_operation c.args.op) ≡ 1 = ⊎_elim (λ e. ap count e) (λ e. ap count e) c.in-Pop1.is in
     search rules
 
 pub returns-in-Rewrite : goal.returns-in-Rewrite
@@ -51,25 +43,16 @@ returns-in-Rewrite c = chosen_by _ _ _ _ _ _ _ _ c.in-Rewrite.is c.choose_top.en
 
 pub returns-in-Push1 : goal.returns-in-Push1
 unfolding step_chosen
-returns-in-Push1 c = chosen_by _ _ _ _ _ _ _ _ c.in-Push1.is c.choose_pushed.ensures
-
-pub returns-in-Push2 : goal.returns-in-Push2
-unfolding step_chosen
-returns-in-Push2 c = chosen_by _ _ _ _ _ _ _ _ c.in-Push2.is c.choose_pushed-in-Push2.ensures
+returns-in-Push1 c =
+    let put = c.choose_pushed.ensures in
+    ⊎_elim (λ e. chosen_by _ _ _ _ _ _ _ _ e.1 put) (λ e. chosen_by _ _ _ _ _ _ _ _ e.1 put) c.in-Push1.is
 
 pub returns-in-Pop1 : goal.returns-in-Pop1
 unfolding step_chosen with_chosen
-returns-in-Pop1 c = chosen_by _ _ _ _ _ _ _ _ c.in-Pop1.is (put_one with_chosen _ _ _ c.put_choice.ensures)
+returns-in-Pop1 c =
+    let put = put_one with_chosen _ _ _ c.put_choice.ensures in
+    ⊎_elim (λ e. chosen_by _ _ _ _ _ _ _ _ e put) (λ e. chosen_by _ _ _ _ _ _ _ _ e put) c.in-Pop1.is
 
 pub returns-in-Pop2 : goal.returns-in-Pop2
 unfolding step_chosen put_from
-returns-in-Pop2 c = chosen_by _ _ _ _ _ _ _ _ c.in-Pop2.is refl
-
-pub returns-in-Collapse1 : goal.returns-in-Collapse1
-unfolding step_chosen with_chosen
-returns-in-Collapse1 c =
-    chosen_by _ _ _ _ _ _ _ _ c.in-Collapse1.is (put_one with_chosen _ _ _ c.put_choice-in-Collapse1.ensures)
-
-pub returns-in-Collapse2 : goal.returns-in-Collapse2
-unfolding step_chosen put_from
-returns-in-Collapse2 c = chosen_by _ _ _ _ _ _ _ _ c.in-Collapse2.is refl
+returns-in-Pop2 c = ⊎_elim (λ e. chosen_by _ _ _ _ _ _ _ _ e refl) (λ e. chosen_by _ _ _ _ _ _ _ _ e refl) c.in-Pop2.is

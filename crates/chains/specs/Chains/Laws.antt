@@ -1,12 +1,12 @@
 -- The last element of a key, chains of no element, and chains with an element more.
 -- Assumes nothing.
-use Rattle.std.specs.Prelude.{ℕ, zero, suc, ◌+◌, ◌-◌, ◌≤◌, ◌<◌, ◌≡◌, List, length, get_or, set, replicate, eqb}
+use Rattle.std.specs.Prelude.{ℕ, zero, suc, ◌+◌, ◌-◌, ◌≤◌, ◌<◌, ◌≡◌, List, length, get_or, set, replicate, eqb, Option, Some}
 use Rattle.std.proofs.Math.Path.{refl}
 use Rattle.std.proofs.Common.{ap, sym, ◌∙◌, subst, ⊎_elim, eq-or-lt_of_le, le_of_suc-le-suc, add-one, arith, length-set, get_or-set_same, get_or-set_other}
 use Rattle.std.proofs.lemmas.List.{length-replicate, get_or-replicate}
 use borrow.Author.Tests.{eqb-true, eqb-false, eq-eqb, ne_eqb}
 use Rattle.words.specs.Laws.Tests.{by_test}
-use Rattle.chains.specs.Chains.{last_below, Chained}
+use Rattle.chains.specs.Chains.{number_after, last_below, Chained}
 
 -- ---- the last element of a key
 
@@ -35,6 +35,13 @@ module _ (key : ℕ → ℕ) (k : ℕ) where
   -- a chain goes down
   pub last_less : (c r : ℕ) → 0 < c → r ≡ last_below key k (c - 1) → r < c
   last_less c r h e = let b : last_below key k (c - 1) ≤ c - 1 = last_below_lem (c - 1) in omega arith
+
+  -- the element before element i has a lower number
+  pub chain_falls : (i : ℕ) (next r : Option ℕ) → next ≡ Some i → number_after r ≡ last_below key k i → number_after r < number_after next
+  chain_falls i next r s e =
+      let n : number_after next ≡ i + 1 = ap number_after s in
+      let b : last_below key k i ≤ i = last_below_lem i in
+      omega arith
 
   pub last_key : (n i : ℕ) → last_below key k n ≡ suc i → (i < n) × (key i ≡ k)
   last_key zero i e = let z : last_below key k 0 ≡ 0 = last_start in absurd (omega arith)

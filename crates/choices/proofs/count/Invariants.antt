@@ -1,10 +1,10 @@
 -- `choices::count`: what its loops keep.
-use Prim.Native.Nat.{ℕ, ◌≤◌}
-use Rattle.move_index.specs.Keys.{ByState}
+use Prim.Native.Nat.{◌≤◌}
+use Rattle.chains.specs.Chains.{number_after}
 use Rattle.choices.proofs.count.Given as goal
 
-abbrev pub invariant-loop-c : goal.invariant-loop-c
-invariant-loop-c l = (k : ℕ) → ByState k l.moves l.states → l.c ≤ k
+abbrev pub invariant-loop-next : goal.invariant-loop-next
+invariant-loop-next l = number_after l.next ≤ l.fn.z.moves
 
-abbrev pub decreases-loop-c : goal.decreases-loop-c
-decreases-loop-c l = l.c
+abbrev pub decreases-loop-next : goal.decreases-loop-next
+decreases-loop-next l = number_after l.next

@@ -2,41 +2,38 @@
 -- Assumes nothing.
 use mathlib.Core.Path.{ap, sym, ◌∙◌}
 use native.Mathlib.Omega.{arith}
-use Rattle.chains.specs.Chains.Laws.{last_less}
+use borrow.Author.Rules.{rules}
+use Rattle.chains.specs.Chains.{number_after}
+use Rattle.chains.specs.Chains.Laws.{chain_falls}
 use Rattle.joins.specs.Joining.{candidate_of}
 use Rattle.choices.specs.Unchanged.Laws.{walked_start, walked_other, walked_choice, unchanged_end}
 use Rattle.choices.proofs.unchanged.Goals as goal
-use Rattle.choices.proofs.unchanged.Goals.{in-To+else-not-same_joins, in_default}
+use Rattle.choices.proofs.unchanged.Goals.{in-Some-candidate+else-ne, in_default-candidate}
 
-pub loop-c-init : goal.loop-c-init
-loop-c-init c = λ n h. walked_start _ n _ _ _ _ _ c.state_key.ensures.value (c.last-c.ensures _ n h)
+pub loop-next-init : goal.loop-next-init
+loop-next-init c = walked_start _ _ _ _ _ _ _ c.state_key.ensures.value (c.last-next.ensures _ _ c.requires.1)
 
 pub move_at-requires : goal.move_at-requires
 move_at-requires c =
-    let w = c.loop-c.invariant _ c.requires.1 in
-    omega (arith, w.within, c.requires.0.moves_lent)
+    omega (arith, ap number_after c.in-Some.is, c.loop-next.invariant.within, c.requires.0.moves_lent)
 
-pub before-c-requires : goal.before-c-requires
-before-c-requires c =
-    let w = c.loop-c.invariant _ c.requires.1 in
-    (c.requires.1.long, omega (arith, w.within, c.requires.1.few))
+pub before-next-requires : goal.before-next-requires
+before-next-requires c =
+    (c.requires.1.long, omega (arith, ap number_after c.in-Some.is, c.loop-next.invariant.within, c.requires.1.few))
 
-pub loop-c-smaller : goal.loop-c-smaller
-loop-c-smaller c =
-    let loop = c.loop-c in
-    let w = loop.invariant _ c.requires.1 in
-    last_less _ _ loop.c _ (omega arith) (c.before-c.ensures _ _ c.requires.1 (omega (arith, w.within)))
+pub loop-next-smaller : goal.loop-next-smaller
+loop-next-smaller c =
+    chain_falls _ _ _ _ _ c.in-Some.is (c.before-next.ensures _ _ c.requires.1 (omega (arith, ap number_after c.in-Some.is, c.loop-next.invariant.within)))
 
-pub loop-c-preserved : goal.loop-c-preserved
-loop-c-preserved c =
-    λ n h.
-    let loop = c.loop-c in
-    let walk = loop.invariant n h in
-    let back = c.before-c.ensures _ n h (omega (arith, walk.within)) in
+pub loop-next-preserved : goal.loop-next-preserved
+loop-next-preserved c =
+    let here = ap number_after c.in-Some.is in
+    let walk = c.loop-next.invariant in
+    let back = c.before-next.ensures _ _ c.requires.1 (omega (arith, here, walk.within)) in
     elim c.match-candidate.branch [
-      | in-To+else-not-same_joins w ↦ walked_choice _ n _ _ _ loop.c _ _ _ _ walk (omega arith) (sym (ap (candidate_of _ _ _) c.move_at.ensures) ∙ sym w.in-To.ensures) (sym w.same_joins.ensures ∙ w.if-not-same_joins.false) w.oldest-is back
-      | in_default w ↦ walked_other _ n _ _ _ loop.c _ _ _ walk (omega arith) (sym (ap (candidate_of _ _ _) c.move_at.ensures) ∙ sym w.in_default.ensures) w.oldest-is back
+      | in-Some-candidate+else-ne w ↦ walked_choice _ _ _ _ _ _ _ (number_after c.loop-next.oldest) _ _ (rw (sym here) walk) (sym (ap (candidate_of _ _ _) c.move_at.ensures) ∙ sym w.in-Some-candidate.ensures) (search rules) (ap number_after w.oldest-is) back
+      | in_default-candidate w ↦ walked_other _ _ _ _ _ _ _ (number_after c.loop-next.oldest) _ (rw (sym here) walk) (sym (ap (candidate_of _ _ _) c.move_at.ensures) ∙ sym w.in_default-candidate.ensures) (ap number_after w.oldest-is) back
     ]
 
 pub returns : goal.returns
-returns c = λ A e. unchanged_end A _ _ e _ _ _ _ _ (c.loop-c.invariant _ c.requires.1) c.loop-c-test.false
+returns c = λ A e. unchanged_end A _ _ e _ _ _ _ _ c.loop-next.invariant (omega (arith, ap number_after c.in_default.is))

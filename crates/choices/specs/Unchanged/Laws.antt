@@ -1,6 +1,6 @@
 -- The walk begins at the last move of the key, goes on to the one before, and ends where a choice changes the joins or the chain ends.
 -- Assumes nothing.
-use Rattle.std.specs.Prelude.{ℕ, suc, ◌-◌, ◌≤◌, ◌<◌, Bool, true, false, ◌&&◌, ◌≡◌, length, eqb, ltb}
+use Rattle.std.specs.Prelude.{ℕ, ◌+◌, ◌-◌, ◌≤◌, ◌<◌, ◌&&◌, ◌≡◌, length, eqb, ltb}
 use Rattle.std.proofs.Math.Path.{ap}
 use Rattle.std.proofs.Common.{ap₂, sym, ◌∙◌, subst, arith, eqb-true, eq-eqb, ltb-true, ltb-false}
 use Rattle.std.proofs.Math.Option.{none, some, none-ne-some}
@@ -18,30 +18,7 @@ use Rattle.tables.specs.Layouts.{move_row}
 use Rattle.move_index.specs.Keys.{state_key, state_key_at}
 use Rattle.joins.specs.Joining.{candidate_of}
 use Rattle.joins.specs.Joining.Laws.{candidate_yes, candidate_no}
-use Rattle.choices.specs.Unchanged.{Unchanged, same_joins, choice_at, Walked}
-
--- ---- joins compared
-
-pub same_joins_lem : (j k : Joins) → same_joins j k ≡ true → j ≡ k
-unfolding same_joins
-same_joins_lem j k e =
-    let a : Bool = eqb j.order k.order in
-    let b : Bool = a && eqb j.B k.B in
-    let in_b : b ≡ true = and_left b _ e in
-    let order : j.order ≡ k.order = eqb-true _ _ (and_left a _ in_b) in
-    let B : j.B ≡ k.B = eqb-true _ _ (and_right a _ in_b) in
-    let R : j.R ≡ k.R = eqb-true _ _ (and_right b _ e) in
-    λ i. record { order = order i; B = B i; R = R i }
-
--- joins that differ in a word
-pub joins_differ : (word : Joins → ℕ) (j k : Joins) → (word j ≡ word k → ⊥) → false ≡ same_joins j k
-joins_differ word j k h =
-    by_test (same_joins j k) {X = false ≡ same_joins j k} (λ t. absurd (h (ap word (same_joins_lem j k t)))) (λ f. sym f)
-
--- joins that agree in all words but the last
-pub joins_last : (j k : Joins) → j.order ≡ k.order → j.B ≡ k.B → eqb j.R k.R ≡ same_joins j k
-unfolding same_joins
-joins_last j k o b = rw (same_joins, eq-eqb j.order k.order o, eq-eqb j.B k.B b)
+use Rattle.choices.specs.Unchanged.{Unchanged, choice_at, Walked}
 
 -- ---- choices
 
@@ -76,44 +53,44 @@ module _ (moves : List ℕ) (n q a : ℕ) (j : Joins) where
       }
 
   -- The move before a move that is no choice or leaves j as it is: r is its number plus 1, and the oldest choice is a new one or the same.
-  walked_before : (c r oldest old' : ℕ) → Walked moves n q a j c oldest → 0 < c
-      → ((k : Joins) → choice_at moves q a j (c - 1) ≡ some k → k ≡ j) → old' ≤ n → (0 < old' → choice_at moves q a j (old' - 1) ≡ some j)
-      → r ≡ last_below (state_key_at moves) (state_key_at moves (c - 1)) (c - 1) → Walked moves n q a j r old'
-  walked_before c r oldest old' w p f o x e =
-      let l : c ≤ n = w.within in
-      let b : last_below (state_key_at moves) (state_key_at moves (c - 1)) (c - 1) ≤ c - 1 = last_below_lem (state_key_at moves) (state_key_at moves (c - 1)) (c - 1) in
-      let s : c ≡ suc (c - 1) = omega arith in
-      let k : state_key_at moves (c - 1) ≡ state_key q a = w.keyed (c - 1) s in
+  walked_before : (m r oldest old' : ℕ) → Walked moves n q a j (m + 1) oldest
+      → ((k : Joins) → choice_at moves q a j m ≡ some k → k ≡ j) → old' ≤ n → (0 < old' → choice_at moves q a j (old' - 1) ≡ some j)
+      → r ≡ last_below (state_key_at moves) (state_key_at moves m) m → Walked moves n q a j r old'
+  walked_before m r oldest old' w f o x e =
+      let l : m + 1 ≤ n = w.within in
+      let b : last_below (state_key_at moves) (state_key_at moves m) m ≤ m = last_below_lem (state_key_at moves) (state_key_at moves m) m in
+      let k : state_key_at moves m ≡ state_key q a = w.keyed m (omega arith) in
       record {
         within = omega arith;
-        keyed = λ i z. (last_key (state_key_at moves) (state_key_at moves (c - 1)) (c - 1) i (sym e ∙ z)).1 ∙ k;
+        keyed = λ i z. (last_key (state_key_at moves) (state_key_at moves m) m i (sym e ∙ z)).1 ∙ k;
         leave =
-            λ i u h m z. by_test (ltb i (c - 1))
-            (λ t. let y : i < c - 1 = ltb-true i (c - 1) t in
-            absurd (last_none (state_key_at moves) (state_key_at moves (c - 1)) (c - 1) i (omega arith) y (choice_key_lem moves q a j i z ∙ sym k)))
-            (λ t. let y : c - 1 ≤ i = ltb-false i (c - 1) t in
-            by_test (ltb i c)
-            (λ t. let v : i < c = ltb-true i c t in
-            let d : i ≡ c - 1 = omega arith in
-            f m (ap (choice_at moves q a j) (sym d) ∙ z))
-            (λ t. w.leave i (ltb-false i c t) h m z));
+            λ i u h g z. by_test (ltb i m)
+            (λ t. let y : i < m = ltb-true i m t in
+            absurd (last_none (state_key_at moves) (state_key_at moves m) m i (omega arith) y (choice_key_lem moves q a j i z ∙ sym k)))
+            (λ t. let y : m ≤ i = ltb-false i m t in
+            by_test (ltb i (m + 1))
+            (λ t. let v : i < m + 1 = ltb-true i (m + 1) t in
+            let d : i ≡ m = omega arith in
+            f g (ap (choice_at moves q a j) (sym d) ∙ z))
+            (λ t. w.leave i (ltb-false i (m + 1) t) h g z));
         old = o;
         one = x;
       }
 
-  -- the move is no choice
-  pub walked_other : (c r oldest old' : ℕ) → Walked moves n q a j c oldest → 0 < c → choice_at moves q a j (c - 1) ≡ none → old' ≡ oldest
-      → r ≡ last_below (state_key_at moves) (state_key_at moves (c - 1)) (c - 1) → Walked moves n q a j r old'
-  walked_other c r oldest old' w p f o e =
+  -- move m is no choice
+  pub walked_other : (m r oldest old' : ℕ) → Walked moves n q a j (m + 1) oldest → choice_at moves q a j m ≡ none → old' ≡ oldest
+      → r ≡ last_below (state_key_at moves) (state_key_at moves m) m → Walked moves n q a j r old'
+  walked_other m r oldest old' w f o e =
       subst (λ (i : ℕ). Walked moves n q a j r i) (sym o)
-      (walked_before c r oldest oldest w p (λ k z. absurd (none-ne-some k (sym f ∙ z))) w.old w.one e)
+      (walked_before m r oldest oldest w (λ k z. absurd (none-ne-some k (sym f ∙ z))) w.old w.one e)
 
-  -- the move is a choice that leaves j as it is
-  pub walked_choice : (c r oldest old' : ℕ) (k : Joins) → Walked moves n q a j c oldest → 0 < c → choice_at moves q a j (c - 1) ≡ some k
-      → same_joins k j ≡ true → old' ≡ c → r ≡ last_below (state_key_at moves) (state_key_at moves (c - 1)) (c - 1) → Walked moves n q a j r old'
-  walked_choice c r oldest old' k w p f s o e =
-      let z : k ≡ j = same_joins_lem k j s in
-      subst (λ (i : ℕ). Walked moves n q a j r i) (sym o) (walked_before c r oldest c w p (λ m y. cc) w.within (λ h. f ∙ ap some z) e)
+  -- move m is a choice that leaves j as it is
+  pub walked_choice : (m r oldest old' : ℕ) (k : Joins) → Walked moves n q a j (m + 1) oldest → choice_at moves q a j m ≡ some k
+      → k ≡ j → old' ≡ m + 1 → r ≡ last_below (state_key_at moves) (state_key_at moves m) m → Walked moves n q a j r old'
+  walked_choice m r oldest old' k w f z o e =
+      let d : m + 1 - 1 ≡ m = omega arith in
+      subst (λ (i : ℕ). Walked moves n q a j r i) (sym o)
+      (walked_before m r oldest (m + 1) w (λ g y. cc) w.within (λ h. ap (choice_at moves q a j) d ∙ f ∙ ap some z) e)
 
 -- ---- the answers
 

@@ -6,8 +6,8 @@ use Rattle.control_moves.proofs.by_moves.Goals as goal
 
 pub by_control-requires : goal.by_control-requires
 by_control-requires c =
-    (c.requires.0, settled_can _ c.args.to _ _ c.settled_goal-by.ensures c.requires.1, source_held c.args.z _ _ _ c.args.to _ _ _ c.requires.2 c.settled_states-s.ensures (search rules) c.settled_goal-by.ensures)
+    (settled_can _ c.args.to _ _ c.settled_goal-goal.ensures c.requires.0, source_held c.args.by.now.moves.held.table _ _ _ c.args.to _ _ _ c.requires.1 c.settled_states-s.ensures (search rules) c.settled_goal-goal.ensures)
 
 pub by_newer-requires : goal.by_newer-requires
 by_newer-requires c =
-    (c.requires.0, c.requires.1, unsettled_held c.args.z _ _ _ c.args.to _ c.requires.4 c.requires.2, held_below c.args.z _ _ _ c.args.to _ _ c.requires.2 c.requires.3 _ _ c.reads_new.ensures c.if-reads_new.false c.first_move-first.ensures)
+    (c.requires.0, unsettled_held c.args.by.now.moves.held.table _ _ _ c.args.to _ c.requires.3 c.requires.1, held_below c.args.by.now.moves.held.table _ _ _ c.args.to _ _ c.requires.1 c.requires.2 _ _ c.reads_new.ensures c.if-reads_new.false c.first_move-first.ensures)

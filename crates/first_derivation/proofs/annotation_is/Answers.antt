@@ -1,17 +1,15 @@
 -- `first_derivation::annotation_is` meets its contract.
 -- Assumes nothing.
-use mathlib.Core.Path.{sym, ◌∙◌}
-use borrow.Author.Tests.{eqb-true, eqb-false}
-use Rattle.first_reading.specs.Words.Laws.{wanted_order, wanted_B, wanted_R}
+use native.Mathlib.Omega.{arith}
+use Rattle.words.specs.Order.{same}
+use Rattle.first_reading.specs.Search.{joins_key, wanted}
 use Rattle.first_derivation.proofs.annotation_is.Goals as goal
+use Rattle.first_derivation.proofs.annotation_is.Goals.{then-x-k, else-x-k}
 
-pub returns-then-x-k : goal.returns-then-x-k
-returns-then-x-k c = sym (wanted_order _ _ (λ z. c.if-x-k.true (sym z)))
+pub returns-then-is_single : goal.returns-then-is_single
+unfolding joins_key wanted same
+returns-then-is_single c = elim c.if-x-k.branch [ then-x-k w ↦ grind arith | else-x-k w ↦ grind arith ]
 
-pub returns-then-not-is_single : goal.returns-then-not-is_single
-returns-then-not-is_single c =
-    sym (wanted_B _ _ (sym c.if-x-k.false) (eqb-false _ _ (sym c.is_single.ensures ∙ c.if-not-is_single.true)))
-
-pub returns : goal.returns
-returns c =
-    sym (wanted_R _ _ (sym c.if-x-k.false) (eqb-true _ _ (sym c.is_single.ensures ∙ c.if-not-is_single.false)))
+pub returns-else-is_single : goal.returns-else-is_single
+unfolding joins_key wanted same
+returns-else-is_single c = elim c.if-x-k.branch [ then-x-k w ↦ grind arith | else-x-k w ↦ grind arith ]

@@ -2,7 +2,7 @@
 -- Assumes nothing.
 use mathlib.Core.Path.{ap}
 use Rattle.case_records.specs.Values.{the_operation}
-use Rattle.first_derivation.specs.Premises.Moves.{rewrite_derives, push1_derives, push2_derives, copy_derives, no_move_lem, no_move_by}
+use Rattle.first_derivation.specs.Premises.Moves.{rewrite_derives, push1_derives, push2_derives, copy_derives, no_move_gives}
 use Rattle.first_derivation.proofs.by_move.Goals as goal
 
 pub returns-in-Rewrite : goal.returns-in-Rewrite
@@ -30,13 +30,4 @@ returns-in-Copy c =
     copy_derives _ _ _ _ _ _ _ c.requires.1 _ m _ s (ap the_operation c.in-Copy.is) c.first_edges.ensures
 
 pub returns-in-Pop1 : goal.returns-in-Pop1
-returns-in-Pop1 c = no_move_lem _ _ _ _ _ _ (ap the_operation c.in-Pop1.is) (no_move_by _ _ _ _).0
-
-pub returns-in-Pop2 : goal.returns-in-Pop2
-returns-in-Pop2 c = no_move_lem _ _ _ _ _ _ (ap the_operation c.in-Pop2.is) (no_move_by _ _ _ _).1
-
-pub returns-in-Collapse1 : goal.returns-in-Collapse1
-returns-in-Collapse1 c = no_move_lem _ _ _ _ _ _ (ap the_operation c.in-Collapse1.is) (no_move_by _ _ _ _).2
-
-pub returns-in-Collapse2 : goal.returns-in-Collapse2
-returns-in-Collapse2 c = no_move_lem _ _ _ _ _ _ (ap the_operation c.in-Collapse2.is) (no_move_by _ _ _ _).3
+returns-in-Pop1 c = no_move_gives _ _ _ _ _ _ c.in-Pop1.is

@@ -12,7 +12,7 @@ loop-e-init c = passed_none
 
 pub returns-then-try_entry : goal.returns-then-try_entry
 returns-then-try_entry c =
-    entry_found c.args.z _ _ _ _ c.loop-e.invariant c.loop-e-test.true (sym c.try_entry.ensures ∙ c.if-try_entry.true)
+    entry_found c.args.tables.now.table _ _ _ _ c.loop-e.invariant c.loop-e-test.true (sym c.try_entry.ensures ∙ c.if-try_entry.true)
 
 pub loop-e-preserved : goal.loop-e-preserved
 loop-e-preserved c =
@@ -20,4 +20,4 @@ loop-e-preserved c =
 
 pub returns : goal.returns
 returns c =
-    sym (ap (map (λ s. first_or_zero s.premise)) (entries_below c.args.z _ _ _ _ ∙ passed_all c.loop-e.invariant c.loop-e-test.false))
+    sym (ap (map (λ s. first_or_zero s.premise)) (entries_below c.args.tables.now.table _ _ _ _ ∙ passed_all c.loop-e.invariant c.loop-e-test.false))

@@ -1,14 +1,10 @@
 -- `first_derivation::first_move`: what its loops keep.
-use Prim.Native.Nat.{◌-◌}
 use Rattle.tables.specs.Records.{as_result}
-use Rattle.tables.specs.Held.{automaton_of}
+use Rattle.tables.specs.View.{automaton_in}
 use Rattle.case_records.specs.Values.{the_operation}
 use Rattle.first_reading.specs.Answer.{NotFoundBelow, Unchanged}
 use Rattle.first_derivation.specs.Premises.{move_gives}
 use Rattle.first_derivation.proofs.first_move.Given as goal
 
 abbrev pub invariant-loop-i : goal.invariant-loop-i
-invariant-loop-i l = NotFoundBelow l.n (move_gives (automaton_of l.z l.inner l.entries l.moves) l.a (as_result l.x) (the_operation l.op) l.p l.b) l.i × Unchanged l.initial.edges l.edges × Unchanged l.initial.chosen l.chosen
-
-abbrev pub decreases-loop-i : goal.decreases-loop-i
-decreases-loop-i l = l.n - l.i
+invariant-loop-i l = NotFoundBelow l.tables.table.moves (move_gives (automaton_in l.tables) l.a (as_result l.x) (the_operation l.op) l.p l.b) l.i × Unchanged l.initial.edges l.edges × Unchanged l.initial.chosen l.chosen

@@ -2,20 +2,14 @@
 -- Assumes nothing.
 use mathlib.Core.Path.{ap}
 use Rattle.case_records.specs.Values.{the_operation}
-use Rattle.first_derivation.specs.Premises.Rules.{step_rewrite, step_push1, step_push2, step_copy, step_pop1, step_pop2, step_collapse1, step_collapse2}
+use Rattle.first_derivation.specs.Premises.Rules.{step_reads, step_copy, step_pop1, step_pop2, step_collapse1, step_collapse2}
 use Rattle.first_derivation.proofs.first_step.Goals as goal
 
 pub returns-in-Rewrite : goal.returns-in-Rewrite
-returns-in-Rewrite c = step_rewrite _ _ _ _ _ _ _ (ap the_operation c.in-Rewrite.is) c.first_move.ensures
-
-pub returns-in-Push1 : goal.returns-in-Push1
-returns-in-Push1 c = step_push1 _ _ _ _ _ _ _ (ap the_operation c.in-Push1.is) c.first_move-in-Push1.ensures
-
-pub returns-in-Push2 : goal.returns-in-Push2
-returns-in-Push2 c = step_push2 _ _ _ _ _ _ _ (ap the_operation c.in-Push2.is) c.first_move-in-Push2.ensures
+returns-in-Rewrite c = step_reads _ _ _ _ _ _ _ c.in-Rewrite.op-is c.in-Rewrite.is c.first_move-in-Rewrite.ensures
 
 pub returns-in-Copy : goal.returns-in-Copy
-returns-in-Copy c = step_copy _ _ _ _ _ _ _ (ap the_operation c.in-Copy.is) c.first_move-in-Copy.ensures
+returns-in-Copy c = step_copy _ _ _ _ _ _ _ (ap the_operation c.in-Copy.is) c.first_move.ensures
 
 pub returns-in-Pop1 : goal.returns-in-Pop1
 returns-in-Pop1 c = step_pop1 _ _ _ _ _ _ _ _ _ (ap the_operation c.in-Pop1.is) c.first_entry.ensures

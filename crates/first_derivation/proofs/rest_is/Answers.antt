@@ -1,14 +1,15 @@
 -- `first_derivation::rest_is` meets its contract.
 -- Assumes nothing.
-use mathlib.Core.Path.{sym, ◌∙◌}
-use Rattle.first_reading.specs.Words.Laws.{wanted_order, wanted_B, wanted_R}
+use native.Mathlib.Omega.{arith}
+use Rattle.words.specs.Order.{same}
+use Rattle.first_reading.specs.Search.{joins_key, wanted}
 use Rattle.first_derivation.proofs.rest_is.Goals as goal
+use Rattle.first_derivation.proofs.rest_is.Goals.{then-x-eq0, else-x-eq0}
 
-pub returns-then-x-ne0 : goal.returns-then-x-ne0
-returns-then-x-ne0 c = sym (wanted_order _ _ (λ z. c.if-x-ne0.true (sym z)))
+pub returns-then-x-eq0-2 : goal.returns-then-x-eq0-2
+unfolding joins_key wanted same
+returns-then-x-eq0-2 c = grind arith
 
-pub returns-then-x-ne0-2 : goal.returns-then-x-ne0-2
-returns-then-x-ne0-2 c = sym (wanted_B _ _ (sym c.if-x-ne0.false) (λ z. c.if-x-ne0-2.true (sym z)))
-
-pub returns : goal.returns
-returns c = c.is_single.ensures ∙ sym (wanted_R _ _ (sym c.if-x-ne0.false) (sym c.if-x-ne0-2.false))
+pub returns-else-x-eq0-2 : goal.returns-else-x-eq0-2
+unfolding joins_key wanted same
+returns-else-x-eq0-2 c = elim c.if-x-eq0.branch [ then-x-eq0 w ↦ grind arith | else-x-eq0 w ↦ grind arith ]

@@ -1,6 +1,6 @@
 -- What the slices hold after the search where they held zeros before: the choices of the derivation that was found.
 -- Assumes nothing.
-use Rattle.std.specs.Prelude.{ℕ, ◌<◌, ◌≤◌, ◌≡◌, refl, length, get_or, set, replicate, eqb, ltb}
+use Rattle.std.specs.Prelude.{ℕ, ◌<◌, ◌≤◌, ◌≡◌, refl, length, get_or, set, replicate, eqb, ltb, None, Some, Option as Found}
 use Rattle.std.proofs.Math.Path.{ap, fun_ext}
 use Rattle.std.proofs.Common.{sym, ◌∙◌, arith, length-set, get_or-set_same, get_or-set_other, eqb-true, ltb-true, ltb-false}
 use Rattle.std.proofs.Math.Option.{Option, none, some, map, some-injective, some-ne-none}
@@ -16,8 +16,7 @@ use Rattle.walks.specs.Guide.{first_or_zero, chooses_all}
 use Rattle.first_reading.specs.First.{is_some}
 use Rattle.first_reading.specs.Answer.{written_all, written_by}
 use Rattle.first_reading.specs.Answer.Laws.{answers_fails}
-use Rattle.first_derivation.specs.declared.First.{First}
-use Rattle.first_derivation.specs.declared.First.TheVariants.{Missing, Found}
+use Rattle.first_derivation.specs.declared.Derivation.{Derivation as DerivationWords}
 use Rattle.first_derivation.specs.Premises.{edge_states, read_states}
 use Rattle.first_derivation.specs.Derived.{operation_by, derivation_edges, derivation_moves, step_of, FindsFirst, StatesSmall}
 use Rattle.first_derivation.specs.Derived.Small.{Below, edges_below, reads_below}
@@ -90,12 +89,12 @@ operation_is rules n h = rw (operation_by, h)
 
 module _ {A : Automaton} {rules : List Rule} {x : Result} {es₀ es ms₀ ms : List ℕ} where
   -- no derivation is found, and the slices are as they were
-  pub missing_none : FindsFirst A rules x Missing es₀ es ms₀ ms → (first_derivation A rules x ≡ none) × (es ≡ es₀) × (ms ≡ ms₀)
+  pub missing_none : FindsFirst A rules x None es₀ es ms₀ ms → (first_derivation A rules x ≡ none) × (es ≡ es₀) × (ms ≡ ms₀)
   unfolding is_some
   missing_none h = answers_fails h.written
 
   -- a derivation with these numbers is found
-  pub found_some : {n i : ℕ} → FindsFirst A rules x (Found n i) es₀ es ms₀ ms
+  pub found_some : {n i : ℕ} → FindsFirst A rules x (Some (record { rule = n; premise = i })) es₀ es ms₀ ms
       → (d : Derivation) × (first_derivation A rules x ≡ some d) × (d.rule ≡ n) × (first_or_zero d.premise ≡ i)
   found_some {n} {i} h = go (first_derivation A rules x) refl h.numbers
     where
@@ -106,7 +105,7 @@ module _ {A : Automaton} {rules : List Rule} {x : Result} {es₀ es ms₀ ms : L
           let s = some-injective _ (step_of d) (k ∙ ap (map step_of) e) in
           (d, e, sym (ap (λ t. t.rule) s), sym (ap (λ t. t.premise) s))
 
-  module _ {r : First} {d : Derivation} (h : FindsFirst A rules x r es₀ es ms₀ ms) (is : first_derivation A rules x ≡ some d) where
+  module _ {r : Found DerivationWords} {d : Derivation} (h : FindsFirst A rules x r es₀ es ms₀ ms) (is : first_derivation A rules x ≡ some d) where
     pub edges_written : es ≡ derivation_edges A rules d es₀
     unfolding written_by
     edges_written = h.written.edges.words ∙ ap (λ (o : Option Derivation). written_by (derivation_edges A rules) o es₀) is

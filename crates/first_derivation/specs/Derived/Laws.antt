@@ -2,7 +2,7 @@
 -- Assumes nothing.
 use Prim.Native.Nat.{ℕ, zero, suc, ◌+◌, ◌<◌, ◌≤◌}
 use Rattle.std.proofs.Math.Bool.{true}
-use Rattle.std.specs.Prelude.{◌≡◌, get_or}
+use Rattle.std.specs.Prelude.{◌≡◌, get_or, None, Some, Option as Found}
 use Rattle.std.proofs.Math.Path.{refl, ap, ap₂, sym, subst}
 use Rattle.std.proofs.Common.{◌∙◌, add-zero, zero-add}
 use Rattle.std.proofs.Math.Option.{Option, none, some, map, some-injective, some-ne-none}
@@ -23,9 +23,6 @@ use Rattle.first_reading.specs.First.{is_some, or_else, first_below}
 use Rattle.first_reading.specs.First.Laws.{or_else_none, or_else_assoc}
 use Rattle.first_reading.specs.Answer.{written_all, NotFoundBelow, Unchanged}
 use Rattle.first_reading.specs.Answer.Laws.{answer_map, answers_none, answers_is, answers_eq, answers_from, answers_fails, is_some_map, passed_hit, passed_all}
-use Rattle.first_derivation.specs.declared.Premise.{Premise}
-use Rattle.first_derivation.specs.declared.Premise.TheVariants.{Nothing, By}
-use Rattle.first_derivation.specs.declared.First.TheVariants.{Missing, Found}
 use Rattle.first_derivation.specs.Search as Search
 use Rattle.first_derivation.specs.Search.{derived, by_rule, first_from}
 use Rattle.first_derivation.specs.Search.Laws.{derivation_first}
@@ -81,11 +78,11 @@ module _ (A : Automaton) (x : Result) (body : List ℕ) (k : ℕ) (ρ : Rule) (i
   gives_is = ap (λ (r : Rule). map (derived k x) (by_rule A x r)) (sym is)
 
   -- rule k does not give x
-  pub rule_fails : {r : Premise} {es₀ es ms₀ ms : List ℕ} → r ≡ Nothing → FindsByRule A x ρ r es₀ es ms₀ ms
+  pub rule_fails : {r : Found ℕ} {es₀ es ms₀ ms : List ℕ} → r ≡ None → FindsByRule A x ρ r es₀ es ms₀ ms
       → (rule_gives A x body k ≡ none) × (es ≡ es₀) × (ms ≡ ms₀)
   unfolding is_some
   rule_fails {r} e h =
-      let f = answers_fails (answers_is (ap (λ (q : Premise). is_some (premise_in q)) e) h.written) in
+      let f = answers_fails (answers_is (ap (λ (q : Found ℕ). is_some (premise_in q)) e) h.written) in
       (gives_is ∙ ap (map (derived k x)) f.0, f.1, f.2)
 
 -- the numbers of a step by rule k
@@ -109,20 +106,20 @@ module _ (A : Automaton) (x : Result) (n : ℕ) (body : List ℕ) where
 
   -- no rule gives x
   pub first_missing : {i : ℕ} {es₀ es ms₀ ms : List ℕ} → Unchanged es₀ es → Unchanged ms₀ ms → NotFoundBelow n (rule_gives A x body) i → n ≤ i
-      → FindsFirst A R x Missing es₀ es ms₀ ms
+      → FindsFirst A R x None es₀ es ms₀ ms
   unfolding is_some
   first_missing {i} {es₀} {es} {ms₀} {ms} s t h l =
       let e : first_derivation A R x ≡ none = rules_below ∙ passed_all h l in
       record { numbers = ap (map step_of) (sym e); written = answers_from s t (answers_none es ms e) }
 
   -- rule k gives x
-  pub rule_found : (k : ℕ) (ρ : Rule) → ρ ≡ rule_of (rule_bytes (record_at 5 k body)) → {i : ℕ} {r : Premise} {es₀ es ms₀ ms : List ℕ} → r ≡ By i
+  pub rule_found : (k : ℕ) (ρ : Rule) → ρ ≡ rule_of (rule_bytes (record_at 5 k body)) → {i : ℕ} {r : Found ℕ} {es₀ es ms₀ ms : List ℕ} → r ≡ Some i
       → NotFoundBelow n (rule_gives A x body) k → k < n → FindsByRule A x ρ r es₀ es ms₀ ms
-      → FindsFirst A R x (Found k i) es₀ es ms₀ ms
+      → FindsFirst A R x (Some (record { rule = k; premise = i })) es₀ es ms₀ ms
   unfolding is_some rule_in derivation_edges derivation_moves step_edges step_moves writes_edges writes_moves
   rule_found k ρ is {i} {r} {es₀} {es} {ms₀} {ms} is-by h below g =
-      let f : FindsByRule A x ρ (By i) es₀ es ms₀ ms =
-      subst (λ (q : Premise). FindsByRule A x ρ q es₀ es ms₀ ms) is-by g in
+      let f : FindsByRule A x ρ (Some i) es₀ es ms₀ ms =
+      subst (λ (q : Found ℕ). FindsByRule A x ρ q es₀ es ms₀ ms) is-by g in
       let op : operation_by R k ≡ ρ.operation = operation_in n body k below ∙ ap (λ (r : Rule). r.operation) (sym is) in
       let gives : rule_gives A x body k ≡ map (derived k x) (by_rule A x ρ) = gives_is A x body k ρ is in
       let s : is_some (rule_gives A x body k) ≡ true = ap is_some gives ∙ is_some_map (derived k x) (by_rule A x ρ) ∙ sym f.written.edges.success in

@@ -23,9 +23,8 @@ use Rattle.tables.specs.declared.Table.{Table}
 use Rattle.tables.specs.Rows.{row_at, rows_in}
 use Rattle.tables.specs.Rows.Laws.{length_rows_in, get_or_rows_in}
 use Rattle.tables.specs.Layouts.{move_row, entry_row, edge_row}
-use Rattle.tables.specs.Held.{automaton_of}
+use Rattle.tables.specs.Held.{automaton_of, EdgesStand, EntriesStand}
 use Rattle.tables.specs.Held.Laws.{none_set}
-use Rattle.first_reading.specs.Words.{TablesWithin}
 use Rattle.first_derivation.specs.Premises.{edge_states, read_states}
 use Rattle.first_derivation.specs.Derived.{StatesSmall}
 
@@ -57,17 +56,17 @@ module _ (z : Table) (inner entries moves : List ℕ) where
       let row : row_at entry_row entries e ≡ x = sym (get_or_rows_in entry_row z.entries entries e no_entry (omega arith)) ∙ is no_entry in
       subst (λ (s : ℕ). s < 2 ^ 64) (ap (λ (y : Entry). y.S) row ∙ sym (entry_at_set A r h)) (words (e * entry_width + 1)))
 
-  first_small : TablesWithin z inner entries moves → (e : ℕ) → (edge_at A e).first < 64
+  first_small : EdgesStand z inner → EntriesStand z entries → (e : ℕ) → (edge_at A e).first < 64
   unfolding edge_at
-  first_small h e =
-      let few : z.inner1 + z.entries ≤ 64 = h.entries_stand.states_few in
+  first_small d h e =
+      let few : z.inner1 + z.entries ≤ 64 = h.states_few in
       let len : length (rows_in entry_row z.entries entries) ≡ z.entries = length_rows_in entry_row z.entries entries in
       let lenI : length (rows_in edge_row z.edges inner) ≡ z.edges = length_rows_in edge_row z.edges inner in
       by_test (ltb e (length (edges A)))
       (λ t. ⊎_elim
       (λ (l : e < length (rows_in edge_row z.edges inner)).
       let below : e < z.edges = omega arith in
-      subst (λ (x : Edge). x.first < 64) (sym (edge_at_inner A e l ∙ get_or_rows_in edge_row z.edges inner e no_edge below)) (h.edges_stand.firsts_small e below))
+      subst (λ (x : Edge). x.first < 64) (sym (edge_at_inner A e l ∙ get_or_rows_in edge_row z.edges inner e no_edge below)) (d.firsts_small e below))
       (λ (k : (n : ℕ) × (n < length A.entries) × (e ≡ entry_edge A n)).
       let g = entry_edge_lem A (record { below = k.1; control_is = refl; set_is = refl }) in
       let b : k.0 < z.entries = omega arith in
@@ -76,8 +75,8 @@ module _ (z : Table) (inner entries moves : List ℕ) where
       (edge_cases A e (ltb-true e (length (edges A)) t)))
       (λ t. subst (λ (x : Edge). x.first < 64) (sym (get_or-eq_default (edges A) no_edge (ltb-false e (length (edges A)) t))) (omega arith))
 
-  pub states_small : TablesWithin z inner entries moves → ((j : ℕ) → get_or entries j 0 < 2 ^ 64) → ((j : ℕ) → get_or moves j 0 < 2 ^ 64) → StatesSmall A
-  states_small h es ms = record { rests_small = rest_small ms; sets_small = set_small es; firsts_small = first_small h }
+  pub states_small : EdgesStand z inner → EntriesStand z entries → ((j : ℕ) → get_or entries j 0 < 2 ^ 64) → ((j : ℕ) → get_or moves j 0 < 2 ^ 64) → StatesSmall A
+  states_small d h es ms = record { rests_small = rest_small ms; sets_small = set_small es; firsts_small = first_small d h }
 
 -- ---- the states of a derivation's choices
 

@@ -1,6 +1,6 @@
 -- The loops over the moves and the entries for a premise.
 -- Assumes nothing.
-use Rattle.std.specs.Prelude.{ℕ, ◌<◌, ◌+◌, Bool, false, ◌≡◌, refl, List, [], length, get_or}
+use Rattle.std.specs.Prelude.{ℕ, ◌<◌, ◌+◌, Bool, false, ◌≡◌, refl, List, [], length, get_or, None, Some, Option as Found}
 use Rattle.std.proofs.Math.Bool.{true, ◌&&◌}
 use Rattle.std.proofs.lemmas.Bool.{false≢true}
 use Rattle.std.proofs.Math.Path.{ap, ap₂, sym}
@@ -24,8 +24,6 @@ use Rattle.first_reading.specs.First.Laws.{only_if_yes, only_if_no, at_place, fi
 use Rattle.first_reading.specs.Answer.{Answers, NotFoundBelow, Unchanged}
 use Rattle.first_reading.specs.Answer.Laws.{answer_map, answers_none, answers_eq, answers_from, passed_hit}
 use Rattle.first_reading.specs.Search.{joins_key, wanted, Numbers, no_numbers}
-use Rattle.first_derivation.specs.declared.Premise.{Premise}
-use Rattle.first_derivation.specs.declared.Premise.TheVariants.{Nothing, By}
 use Rattle.first_derivation.specs.Search.{PremiseNumbers, with_premise, by_move, by_entry, first_move, first_entry}
 use Rattle.first_derivation.specs.Premises.{writes_edges, writes_moves, FindsDerivation, step_edges, step_moves, move_gives, entry_gives, Finds, TriesPremise, premise_of, FindsMove}
 
@@ -40,15 +38,15 @@ number_of i false o h = absurd (false≢true h)
 
 module _ (A : Automaton) (op : Operation) where
   pub finds_by : {o : Option PremiseNumbers} {es₀ es ms₀ ms : List ℕ} (i : ℕ) → some i ≡ premise_of o
-      → Answers o (step_edges A op) (step_moves A op) true es₀ es ms₀ ms → Finds A op o (By i) es₀ es ms₀ ms
+      → Answers o (step_edges A op) (step_moves A op) true es₀ es ms₀ ms → Finds A op o (Some i) es₀ es ms₀ ms
   unfolding is_some
   finds_by i e h = record { number = e; written = h }
 
-  pub finds_nothing : {o : Option PremiseNumbers} (es ms : List ℕ) → o ≡ none → Finds A op o Nothing es es ms ms
+  pub finds_nothing : {o : Option PremiseNumbers} (es ms : List ℕ) → o ≡ none → Finds A op o None es es ms ms
   unfolding is_some
   finds_nothing es ms e = record { number = ap premise_of (sym e); written = answers_none es ms e }
 
-  pub finds_from : {o : Option PremiseNumbers} {r : Premise} {es₀ es fs ms₀ ms ns : List ℕ} → Unchanged es₀ es → Unchanged ms₀ ms → Finds A op o r es fs ms ns → Finds A op o r es₀ fs ms₀ ns
+  pub finds_from : {o : Option PremiseNumbers} {r : Found ℕ} {es₀ es fs ms₀ ms ns : List ℕ} → Unchanged es₀ es → Unchanged ms₀ ms → Finds A op o r es fs ms ns → Finds A op o r es₀ fs ms₀ ns
   finds_from h k f = record { number = f.number; written = answers_from h k f.written }
 
 -- ---- a move
@@ -66,7 +64,7 @@ module _ (z : Table) (inner entries moves : List ℕ) (a : ℕ) (x : Result) (op
   -- the premise that the loop found
   pub move_found : {i : ℕ} {es₀ es ms₀ ms : List ℕ} → NotFoundBelow z.moves (move_gives A a x op p' b) i → i < z.moves
       → TriesPremise A a x op p' b i true es₀ es ms₀ ms
-      → FindsMove A a x op p' b (By i) es₀ es ms₀ ms
+      → FindsMove A a x op p' b (Some i) es₀ es ms₀ ms
   unfolding move_gives
   move_found {i} h l g =
       let s : is_some (move_gives A a x op p' b i) ≡ true = sym g.edges.success in

@@ -5,6 +5,7 @@ use Rattle.std.proofs.Math.Path.{ap, ap₂, sym, subst}
 use Rattle.std.proofs.Common.{◌∙◌}
 use Rattle.std.proofs.Math.Option.{Option, none, some, map}
 use Rattle.std.proofs.Math.Dec.{eqb}
+use Rattle.std.proofs.Math.Logic.{◌⊎◌, ⊎_elim}
 use Rattle.words.specs.Sets.{join, members}
 use Rattle.words.proofs.Sets.Laws.{join_empty_left}
 use Rattle.words.specs.Order.{same}
@@ -16,6 +17,9 @@ use Rattle.tables.specs.Rows.{row_at}
 use Rattle.tables.specs.Layouts.{move_row}
 use Rattle.tables.specs.Held.{automaton_of, table_of}
 use Rattle.tables.specs.Held.Laws.{row_move}
+use Rattle.case_records.specs.declared.Operation.{Operation as OperationWords}
+use Rattle.case_records.specs.declared.Operation.TheVariants.{Pop1, Pop2, Collapse1, Collapse2}
+use Rattle.case_records.specs.Values.{the_operation}
 use Rattle.first_reading.specs.First.{only_if, is_some}
 use Rattle.first_reading.specs.Answer.{written_all}
 use Rattle.first_reading.specs.Answer.Laws.{answer_eq, answer_by, answer_still, answers_none}
@@ -110,3 +114,12 @@ pub no_move_by : (A : Automaton) (a : ℕ) (x : Result) (i : ℕ)
     → (by_move A a x pop1 i ≡ none) × (by_move A a x pop2 i ≡ none) × (by_move A a x collapse1 i ≡ none) × (by_move A a x collapse2 i ≡ none)
 unfolding by_move
 no_move_by A a x i = (refl, refl, refl, refl)
+
+-- the four that take no move
+pub no_move_gives : (A : Automaton) (a : ℕ) (x : Result) (i : ℕ) {v : OperationWords} (es ms : List ℕ)
+    → (v ≡ Pop1) ⊎ ((v ≡ Pop2) ⊎ ((v ≡ Collapse1) ⊎ (v ≡ Collapse2))) → FindsDerivation A a x (the_operation v) i false es es ms ms
+no_move_gives A a x i es ms is =
+    let no = no_move_by A a x i in
+    ⊎_elim (λ e. no_move_lem A a x i es ms (ap the_operation e) no.0)
+    (λ f. ⊎_elim (λ e. no_move_lem A a x i es ms (ap the_operation e) no.1)
+    (λ g. ⊎_elim (λ e. no_move_lem A a x i es ms (ap the_operation e) no.2) (λ e. no_move_lem A a x i es ms (ap the_operation e) no.3) g) f) is

@@ -1,11 +1,12 @@
 -- A rule: no premise, the search by its operation, and its control and symbol.
 -- Assumes nothing.
-use Rattle.std.specs.Prelude.{ℕ, Bool, ◌≡◌, List, []}
+use Rattle.std.specs.Prelude.{ℕ, Bool, ◌≡◌, List, [], Option as Found}
 use Rattle.std.proofs.Math.Bool.{true, false, ◌&&◌}
 use Rattle.std.proofs.Math.Path.{refl, ap, sym, subst}
 use Rattle.std.proofs.Common.{ap₂, ◌∙◌, eq-eqb, ne_eqb}
 use Rattle.std.proofs.Math.Option.{Option, none, some}
 use Rattle.std.proofs.Math.Dec.{eqb}
+use Rattle.std.proofs.Math.Logic.{◌⊎◌, ⊎_elim}
 use Rattle.words.specs.Sets.{single}
 use Rattle.words.specs.Order.{same}
 use Rattle.stacks.specs.Stack.{Operation, rewrite, push1, push2, copy, pop1, pop2, collapse1, collapse2}
@@ -15,12 +16,14 @@ use Rattle.automata.specs.Derivation.{Result, Joins, no_joins, control_entries}
 use Rattle.walks.specs.Guide.{first_or_zero}
 use Rattle.tables.specs.declared.Table.{Table}
 use Rattle.tables.specs.Held.{automaton_of, table_of}
+use Rattle.case_records.specs.declared.Operation.{Operation as OperationWords}
+use Rattle.case_records.specs.declared.Operation.TheVariants.{Rewrite, Push1, Push2}
+use Rattle.case_records.specs.Values.{the_operation}
 use Rattle.first_reading.specs.First.{only_if, is_some}
 use Rattle.first_reading.specs.First.Laws.{only_if_yes, only_if_no, only_if_none}
 use Rattle.first_reading.specs.Answer.{written_all}
 use Rattle.first_reading.specs.Answer.Laws.{answer_still, is_some_map}
 use Rattle.first_reading.specs.Search.{joins_key, wanted}
-use Rattle.first_derivation.specs.declared.Premise.{Premise}
 use Rattle.first_derivation.specs.Search.{PremiseNumbers, by_entry, first_entry, first_move, entry_joins, by_none, first_step, by_rule}
 use Rattle.first_derivation.specs.Premises.{writes_edges, writes_moves, edge_states, read_states, step_edges, step_moves, premise_in, Finds, premise_of, FindsMove, FindsStep, FindsByRule}
 
@@ -42,7 +45,7 @@ module _ (x : Result) (S : ℕ) (j : Joins) where
 -- ---- by the operation
 
 -- the operation chooses no edge and no move
-pub finds_plain : (A : Automaton) {op op' : Operation} {o : Option PremiseNumbers} {r : Premise} (es ms : List ℕ) → op ≡ op'
+pub finds_plain : (A : Automaton) {op op' : Operation} {o : Option PremiseNumbers} {r : Found ℕ} (es ms : List ℕ) → op ≡ op'
     → ((s : PremiseNumbers) (ws : List ℕ) → step_edges A op' s ws ≡ ws) → ((s : PremiseNumbers) (ws : List ℕ) → step_moves A op' s ws ≡ ws)
     → premise_in r ≡ premise_of o → Finds A op o r es es ms ms
 finds_plain A {op} {op'} {o} {r} es ms e f g h =
@@ -55,13 +58,13 @@ module _ (z : Table) (inner entries moves : List ℕ) (a : ℕ) (x : Result) (p'
   A = automaton_of z inner entries moves
 
   -- the search for a move
-  step_move : {op op' : Operation} (b : ℕ) {r : Premise} {es₀ es ms₀ ms : List ℕ} → op ≡ op' → first_step A a x op' p' ≡ first_move A a x op' p' b
+  step_move : {op op' : Operation} (b : ℕ) {r : Found ℕ} {es₀ es ms₀ ms : List ℕ} → op ≡ op' → first_step A a x op' p' ≡ first_move A a x op' p' b
       → FindsMove A a x op' p' b r es₀ es ms₀ ms → FindsStep A a x op p' r es₀ es ms₀ ms
   step_move {op} {op'} b {r} {es₀} {es} {ms₀} {ms} e f h =
       subst (λ (q : Operation). FindsStep A a x q p' r es₀ es ms₀ ms) (sym e)
       (subst (λ (o : Option PremiseNumbers). Finds A op' o r es₀ es ms₀ ms) (sym f) h)
 
-  module _ {op : Operation} {r : Premise} {es₀ es ms₀ ms : List ℕ} where
+  module _ {op : Operation} {r : Found ℕ} {es₀ es ms₀ ms : List ℕ} where
     pub step_rewrite : {b : ℕ} → op ≡ rewrite b → FindsMove A a x (rewrite b) p' b r es₀ es ms₀ ms → FindsStep A a x op p' r es₀ es ms₀ ms
     unfolding first_step
     step_rewrite {b} e h = step_move b e refl h
@@ -79,11 +82,21 @@ module _ (z : Table) (inner entries moves : List ℕ) (a : ℕ) (x : Result) (p'
     step_copy e h =
         step_move a refl (ap (λ (q : Operation). first_step A a x q p') e ∙ ap (λ (q : Operation). first_move A a x q p' a) (sym e)) h
 
+  -- the three whose premise reads the symbol that they write
+  pub step_reads : {w v : OperationWords} {b : ℕ} {r : Found ℕ} {es₀ es ms₀ ms : List ℕ} → w ≡ v → (v ≡ Rewrite b) ⊎ ((v ≡ Push1 b) ⊎ (v ≡ Push2 b))
+      → FindsMove A a x (the_operation w) p' b r es₀ es ms₀ ms → FindsStep A a x (the_operation v) p' r es₀ es ms₀ ms
+  unfolding first_step
+  step_reads {w} {v} {b} {r} {es₀} {es} {ms₀} {ms} op_is is h =
+      let S : OperationWords → Option PremiseNumbers = λ o. first_step A a x (the_operation o) p' in
+      let M : OperationWords → Option PremiseNumbers = λ o. first_move A a x (the_operation o) p' b in
+      let reads : S v ≡ M v = ⊎_elim (λ e. ap S e ∙ ap M (sym e)) (λ f. ⊎_elim (λ e. ap S e ∙ ap M (sym e)) (λ e. ap S e ∙ ap M (sym e)) f) is in
+      step_move b refl reads (subst (λ (o : OperationWords). FindsMove A a x (the_operation o) p' b r es₀ es ms₀ ms) op_is h)
+
   entries_only : (c : Bool) → first_entry (table_of z entries []) x (entry_joins c) p' ≡ first_entry A x (entry_joins c) p'
   unfolding first_entry control_entries by_entry entry_set entry_at
   entries_only c = refl
 
-  module _ {op : Operation} {r : Premise} (es ms : List ℕ) where
+  module _ {op : Operation} {r : Found ℕ} (es ms : List ℕ) where
     pub step_pop1 : op ≡ pop1 → premise_in r ≡ premise_of (first_entry (table_of z entries []) x (entry_joins false) p')
         → FindsStep A a x op p' r es es ms ms
     unfolding first_step step_edges step_moves writes_edges writes_moves edge_states read_states written_all
@@ -119,7 +132,7 @@ module _ (A : Automaton) (x : Result) (ρ : Rule) where
   unfolding by_rule
   rule_symbol e h = only_if_no _ _ (ap₂ ◌&&◌ (eq-eqb ρ.control x.control e) (ne_eqb ρ.symbol x.symbol h))
 
-  pub rule_step : {r : Premise} {es₀ es ms₀ ms : List ℕ} → ρ.control ≡ x.control → ρ.symbol ≡ x.symbol
+  pub rule_step : {r : Found ℕ} {es₀ es ms₀ ms : List ℕ} → ρ.control ≡ x.control → ρ.symbol ≡ x.symbol
       → FindsStep A ρ.symbol x ρ.operation ρ.next r es₀ es ms₀ ms → FindsByRule A x ρ r es₀ es ms₀ ms
   unfolding by_rule
   rule_step {r} {es₀} {es} {ms₀} {ms} e f h =

@@ -1,15 +1,17 @@
 -- `first_reading::first_edges` and `first_reading::follow` meet their contracts.
 -- Assumes nothing.
+use borrow.Author.Tests.{ne_eqb}
 use Rattle.std.proofs.Common.{sym, ◌∙◌}
 use Rattle.first_reading.specs.Answer.Laws.{answers_none, answers_is, answers_eq, answers_fails, answers_from, same_refl, same_after, passed_none, passed_more, passed_hit, passed_all}
-use Rattle.first_reading.specs.Words.Edges.{base_other, base_answers, followed_other, followed_no_part, followed_yes, followed_no, edges_below, states_edges}
+use Rattle.first_reading.specs.Words.Edges.{base_other, base_answers, followed_other, followed_no_part, followed_yes, followed_no, edges_counted, states_edges}
 use Rattle.first_reading.proofs.+edges.Goals as goal
 
 pub first_edges-returns-then-s-x : goal.first_edges-returns-then-s-x
-first_edges-returns-then-s-x t c = answers_none _ _ (base_other _ _ _ _ _ _ _ _ _ _ c.if-left-eq0.true c.if-s-x.true)
+first_edges-returns-then-s-x t c = base_answers _ _ _ _ _ _ _ _ _ _ c.if-left-eq0.true c.if-s-x.true c.first_reading.ensures _
 
-pub first_edges-returns-then-left-eq0 : goal.first_edges-returns-then-left-eq0
-first_edges-returns-then-left-eq0 t c = base_answers _ _ _ _ _ _ _ _ _ _ c.if-left-eq0.true c.if-s-x.false c.first_reading.ensures _
+pub first_edges-returns-else-s-x : goal.first_edges-returns-else-s-x
+first_edges-returns-else-s-x t c =
+    answers_is (sym (ne_eqb _ _ c.if-s-x.false)) (answers_none _ _ (base_other _ _ _ _ _ _ _ _ _ _ c.if-left-eq0.true c.if-s-x.false))
 
 pub first_edges-loop-e-init : goal.first_edges-loop-e-init
 first_edges-loop-e-init t c = (passed_none, same_refl _, same_refl _)
@@ -19,7 +21,7 @@ first_edges-returns-then-follow t c =
     let inv = c.loop-e.invariant in
     let least = c.least_member-part.ensures.s_value in
     let found = c.follow.ensures in
-    let hit = edges_below _ _ _ _ _ _ _ _ _ _ _ _ _ least ∙ passed_hit inv.0 c.loop-e-test.true (sym found.edges.success ∙ c.if-follow.true) in
+    let hit = edges_counted _ _ _ _ _ _ _ _ _ _ _ _ _ c.edge_count-n.ensures least ∙ passed_hit inv.0 c.loop-e-test.true (sym found.edges.success ∙ c.if-follow.true) in
     answers_from inv.1 inv.2 (states_edges least (answers_eq hit (answers_is c.if-follow.true found)))
 
 pub first_edges-loop-e-preserved : goal.first_edges-loop-e-preserved
@@ -31,7 +33,7 @@ first_edges-loop-e-preserved t c =
 pub first_edges-returns : goal.first_edges-returns
 first_edges-returns t c =
     let inv = c.loop-e.invariant in
-    let missed = edges_below _ _ _ _ _ _ _ _ _ _ _ _ _ c.least_member-part.ensures.s_value ∙ passed_all inv.0 c.loop-e-test.false in
+    let missed = edges_counted _ _ _ _ _ _ _ _ _ _ _ _ _ c.edge_count-n.ensures c.least_member-part.ensures.s_value ∙ passed_all inv.0 c.loop-e-test.false in
     answers_from inv.1 inv.2 (answers_none _ _ missed)
 
 pub follow-returns-then-g-q : goal.follow-returns-then-g-q

@@ -42,10 +42,10 @@ read_with-returns-in_default t c =
 
 pub read_with-returns-then-first_reading : goal.read_with-returns-then-first_reading
 read_with-returns-then-first_reading t c =
-    tried_yes _ _ _ _ _ _ _ _ c.requires.1 _ _ _ c.move_at-m.ensures c.candidate.ensures c.parts_within.ensures _ _ _ (ap as_joined c.in-To.is)
+    tried_yes _ _ _ _ _ _ _ _ c.requires.1 _ _ _ c.move_at-m.ensures c.candidate.ensures c.parts_within.ensures _ _ _ (ap as_joined c.in-Some.is)
     (answer_is c.if-first_reading.true c.first_reading.ensures)
 
 pub read_with-returns : goal.read_with-returns
 read_with-returns t c =
-    tried_no _ _ _ _ _ _ _ _ c.requires.1 _ _ _ c.move_at-m.ensures c.candidate.ensures c.parts_within.ensures _ _ _ (ap as_joined c.in-To.is)
+    tried_no _ _ _ _ _ _ _ _ c.requires.1 _ _ _ c.move_at-m.ensures c.candidate.ensures c.parts_within.ensures _ _ _ (ap as_joined c.in-Some.is)
     (answer_is c.if-first_reading.false c.first_reading.ensures)

@@ -1,6 +1,6 @@
 -- `first_reading::first_reading` and `first_reading::read_with` call each other. The measure is the number of states left, doubled, so that it
 -- falls with each call.
-use Rattle.std.proofs.Common.{◌-◌, ◌+◌, ◌*◌, length}
+use Rattle.std.proofs.Common.{◌+◌, ◌*◌, length}
 use Rattle.words.specs.Sets.{members}
 use Rattle.tables.specs.Records.{as_result}
 use Rattle.joins.specs.Joining.{the_joins}
@@ -19,6 +19,3 @@ abbrev pub invariant-first_reading-loop-i : goal.invariant-first_reading-loop-i
 invariant-first_reading-loop-i l =
     NotFoundBelow l.n (tried (moves_in l.n l.moves) l.a (wanted (as_result l.x)) l.part.member (members l.part.others) (the_joins l.order l.b l.r)) l.i
     × Unchanged l.initial.chosen l.chosen
-
-abbrev pub decreases-first_reading-loop-i : goal.decreases-first_reading-loop-i
-decreases-first_reading-loop-i l = l.n - l.i

@@ -1,14 +1,15 @@
 -- `first_reading::is_wanted` meets its contract.
 -- Assumes nothing.
-use mathlib.Core.Path.{sym}
-use Rattle.first_reading.specs.Words.Laws.{wanted_order, wanted_B, wanted_R}
+use native.Mathlib.Omega.{arith}
+use Rattle.words.specs.Order.{same}
+use Rattle.first_reading.specs.Search.{joins_key, wanted}
 use Rattle.first_reading.proofs.is_wanted.Goals as goal
-
-pub returns-then-order-x : goal.returns-then-order-x
-returns-then-order-x c = sym (wanted_order _ _ c.if-order-x.true)
+use Rattle.first_reading.proofs.is_wanted.Goals.{then-order-x, else-order-x}
 
 pub returns-then-b-x : goal.returns-then-b-x
-returns-then-b-x c = sym (wanted_B _ _ c.if-order-x.false c.if-b-x.true)
+unfolding joins_key wanted same
+returns-then-b-x c = grind arith
 
-pub returns : goal.returns
-returns c = sym (wanted_R _ _ c.if-order-x.false c.if-b-x.false)
+pub returns-else-b-x : goal.returns-else-b-x
+unfolding joins_key wanted same
+returns-else-b-x c = elim c.if-order-x.branch [ then-order-x w ↦ grind arith | else-order-x w ↦ grind arith ]

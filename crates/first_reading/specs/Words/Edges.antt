@@ -140,6 +140,15 @@ edges_below z inner entries moves a goal j S left q qs names s e =
     (length-append (rows_in edge_row z.edges inner) (entry_edges z.inner1 (rows_in entry_row z.entries entries))
     ∙ ap₂ ◌+◌ (length_rows_in edge_row z.edges inner) (length_entry_edges z.inner1 (rows_in entry_row z.entries entries) ∙ length_rows_in entry_row z.entries entries))
 
+-- the same, where the number of edges is n
+pub edges_counted : (z : Table) (inner entries moves : List ℕ) (a : ℕ) (goal : List ℕ) (j : Joins) (S left q : ℕ) (qs : List ℕ) (names s : ℕ) {n : ℕ}
+    → n ≡ z.edges + z.entries → members left ≡ q ∷ qs
+    → first_edges (automaton_of z inner entries moves) a goal j S (members left) names s
+    ≡ first_below n (followed (automaton_of z inner entries moves) a goal j S q qs names s)
+edges_counted z inner entries moves a goal j S left q qs names s count e =
+    edges_below z inner entries moves a goal j S left q qs names s e
+    ∙ ap (λ (k : ℕ). first_below k (followed (automaton_of z inner entries moves) a goal j S q qs names s)) (sym count)
+
 -- the same states
 pub states_edges : {l k : List ℕ} {o : Option Numbers} {w : Numbers → List ℕ → List ℕ} {t : Bool} {es₀ es ms₀ ms : List ℕ} → l ≡ k
     → Answers o (writes_edges k) w t es₀ es ms₀ ms → Answers o (writes_edges l) w t es₀ es ms₀ ms

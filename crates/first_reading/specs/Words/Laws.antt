@@ -1,21 +1,18 @@
 -- What holds of the words of the code.
 -- Assumes nothing.
-use Rattle.std.specs.Prelude.{ℕ, Bool, ◌≡◌, eqb}
+use Rattle.std.specs.Prelude.{Bool, ◌≡◌, eqb}
 use Rattle.std.proofs.Math.Bool.{true, false, ◌&&◌, and-true}
 use Rattle.std.proofs.Math.Path.{refl, ap₂}
 use Rattle.std.proofs.Common.{◌∙◌}
 use Rattle.std.proofs.Math.Option.{none, some}
-use mathlib.Core.List.{List, [], ◌∷◌}
+use mathlib.Core.List.{[], ◌∷◌}
 use borrow.Author.Tests.{eq-eqb, ne_eqb}
 use Rattle.words.specs.Sets.{part_of}
 use Rattle.words.specs.Order.{same}
 use Rattle.automata.specs.Derivation.{Result, Joins}
-use Rattle.tables.specs.declared.Table.{Table}
 use Rattle.first_reading.specs.First.{only_if}
-use Rattle.first_reading.specs.Answer.{Unchanged}
 use Rattle.first_reading.specs.Search.{joins_key, wanted, within}
 use Rattle.first_reading.specs.Search.Laws.{same_cons}
-use Rattle.first_reading.specs.Words.{ReadyToSearch}
 
 -- ---- joins that are parts
 
@@ -53,15 +50,3 @@ module _ (j : Joins) (x : Result) where
       same_cons j.order x.order (j.B ∷ j.R ∷ []) (x.B ∷ x.R ∷ [])
       ∙ ap₂ ◌&&◌ (eq-eqb j.order x.order e) (same_cons j.B x.B (j.R ∷ []) (x.R ∷ []) ∙ ap₂ ◌&&◌ (eq-eqb j.B x.B f) (same_cons j.R x.R [] []))
       ∙ and-true (eqb j.R x.R)
-
--- ---- what the searches are given
-
--- slices that are as they were have their words still
-pub ready_still : {z : Table} {inner entries moves es₀ es ms₀ ms : List ℕ} → ReadyToSearch z inner entries moves es₀ ms₀ → Unchanged es₀ es → Unchanged ms₀ ms
-    → ReadyToSearch z inner entries moves es ms
-ready_still h e m =
-    record {
-      tables_within = h.tables_within;
-      word_for_each_edge = e.long ∙ h.word_for_each_edge;
-      word_for_each_move = m.long ∙ h.word_for_each_move;
-    }

@@ -1,7 +1,7 @@
 -- What guide leaves in lent memory, in each case.
 -- Assumes nothing.
 use Rattle.std.specs.Prelude.{ℕ, ◌<◌, ◌≡◌, List, length}
-use Rattle.std.proofs.Math.Path.{ap, sym}
+use Rattle.std.proofs.Math.Path.{refl, ap, sym}
 use Rattle.std.proofs.Common.{◌∙◌}
 use Rattle.std.proofs.Math.Option.{none, some}
 use Rattle.automata.specs.Saturation.{Saturated}
@@ -27,17 +27,17 @@ pub zeros_kept : {n k : ℕ} {l : List ℕ} → l ≡ zeros n → n ≡ k → l 
 zeros_kept e f = e ∙ ap zeros f
 
 module _ (x : GuideInput) {m e c t : List ℕ} (p : m ≡ zeros x.moves) (q : e ≡ zeros x.entries) (k : c ≡ zeros x.cells) where
-  pub left_refused : {n : ℕ} {r : Reply} → n ≡ number_refusal x.case x.start x.number → (n ≡ 0 → ⊥) → r ≡ Refused n → t ≡ zeros x.trace
-      → guide_done r m e c t ≡ guide_service x
+  pub left_refused : {n : ℕ} → n ≡ number_refusal x.case x.start x.number → (n ≡ 0 → ⊥) → t ≡ zeros x.trace
+      → guide_done (Refused n) m e c t ≡ guide_service x
   unfolding guide_left refused
-  left_refused is h o z =
-      done_same (o ∙ ap Refused is) p q k (z ∙ sym (padded_none x.trace)) ∙ sym (answers_refused x (λ n. h (is ∙ n)))
+  left_refused is h z =
+      done_same (ap Refused is) p q k (z ∙ sym (padded_none x.trace)) ∙ sym (answers_refused x (λ n. h (is ∙ n)))
 
   module _ (sound : FilesSound x.case x.start) (there : x.number < length (starts_of x.start)) where
-    pub left_exceeded : {r : Reply} → saturated (lent_of x.case x.moves x.entries) x.rounds ≡ none → r ≡ Refused 9 → t ≡ zeros x.trace
-        → guide_done r m e c t ≡ guide_service x
+    pub left_exceeded : saturated (lent_of x.case x.moves x.entries) x.rounds ≡ none → t ≡ zeros x.trace
+        → guide_done (Refused 9) m e c t ≡ guide_service x
     unfolding guide_left refused guide_lent
-    left_exceeded h o z = done_same o p q k (z ∙ sym (padded_none x.trace)) ∙ sym (answers_exceeded x sound there h)
+    left_exceeded h z = done_same refl p q k (z ∙ sym (padded_none x.trace)) ∙ sym (answers_exceeded x sound there h)
 
     pub left_guided : {r : Reply} {T : Saturated} → saturated (lent_of x.case x.moves x.entries) x.rounds ≡ some T → Leaves (guide_run x T) x.trace r t
         → guide_done r m e c t ≡ guide_service x

@@ -1,7 +1,7 @@
 -- The round of judge's word for the start that guide names: 0 where guide refuses, otherwise the least round whose table accepts the start.
 -- Assumes nothing.
 use Rattle.std.specs.Prelude.{ℕ, ◌≤◌, ◌<◌, ◌-◌, ◌≡◌, length, ltb}
-use Rattle.std.proofs.Math.Path.{ap, sym}
+use Rattle.std.proofs.Math.Path.{refl, ap, sym}
 use Rattle.std.proofs.Common.{◌∙◌, arith, ltb-true, ltb-false}
 use Rattle.std.proofs.Math.Option.{none, some}
 use mathlib.Core.List.{List, []}
@@ -9,6 +9,7 @@ use Rattle.std.proofs.Math.ListN.{get_or, get_or-eq_default}
 use Rattle.std.proofs.lemmas.List.{length-map}
 use Rattle.words.specs.Laws.Tests.{by_test}
 use Rattle.replies.specs.declared.Acceptance.{Acceptance}
+use Rattle.replies.specs.declared.Acceptance.TheVariants.{Never}
 use Rattle.replies.specs.Numbers.{answer_word, word_round}
 use Rattle.automata.specs.Saturation.{Saturated}
 use Rattle.rounds.specs.Won.{round2}
@@ -52,15 +53,16 @@ module _ (case start : List ℕ) (number rounds m e : ℕ) where
   unfolding word_round
   no_round a z e = ap (λ (k : ℕ). k - 1) z ∙ sym (ap word_round e)
 
-  pub won_refused : (a : Acceptance) {n : ℕ} → answer_word a ≡ 0 → n ≡ number_refusal case start number → (n ≡ 0 → ⊥)
-      → answer_word a - 1 ≡ judged_round case start number rounds m e
-  won_refused a z is h = no_round a z (refused_word (judge_cases x) (λ f. h (is ∙ f)))
+  pub won_refused : {n : ℕ} → n ≡ number_refusal case start number → (n ≡ 0 → ⊥)
+      → answer_word Never - 1 ≡ judged_round case start number rounds m e
+  unfolding answer_word
+  won_refused is h = no_round Never refl (refused_word (judge_cases x) (λ f. h (is ∙ f)))
 
   module _ (sound : FilesSound case start) where
-    pub won_exceeded : (a : Acceptance) → answer_word a ≡ 0 → saturated (lent_of case m e) rounds ≡ none → answer_word a - 1 ≡ judged_round case start number rounds m e
-    unfolding judge_left judge_lent
-    won_exceeded a z h =
-        no_round a z (ap (λ (d : JudgeDone). get_or d.answers number 0) (answers_exceeded x sound (starts_few sound) h) ∙ zero_past 64 [] number (omega arith))
+    pub won_exceeded : saturated (lent_of case m e) rounds ≡ none → answer_word Never - 1 ≡ judged_round case start number rounds m e
+    unfolding judge_left judge_lent answer_word
+    won_exceeded h =
+        no_round Never refl (ap (λ (d : JudgeDone). get_or d.answers number 0) (answers_exceeded x sound (starts_few sound) h) ∙ zero_past 64 [] number (omega arith))
 
     pub won_guided : {T : Saturated} {a : Acceptance} → number < length (starts_of start) → saturated (lent_of case m e) rounds ≡ some T
         → a ≡ round2 T (configuration_of start (start_at start number)).stack (start_at start number).control

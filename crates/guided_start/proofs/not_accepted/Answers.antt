@@ -8,6 +8,6 @@ pub returns-then-more : goal.returns-then-more
 unfolding unaccepted
 returns-then-more c = sym (ap unaccepted c.if-more.true)
 
-pub returns : goal.returns
+pub returns-else-more : goal.returns-else-more
 unfolding unaccepted
-returns c = sym (ap unaccepted c.if-more.false)
+returns-else-more c = sym (ap unaccepted c.if-more.false)

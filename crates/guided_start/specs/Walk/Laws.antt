@@ -18,11 +18,12 @@ use Rattle.files.specs.Start.{cells_of}
 use Rattle.bytes_in.specs.Records.{body_of}
 use Rattle.case_file.specs.Forms.{HoldsRules}
 use Rattle.tables.specs.declared.Table.{Table}
+use Rattle.saturation.specs.declared.after_rounds.AfterRounds.{AfterRounds}
 use Rattle.results.specs.Collecting.{rules_in}
 use Rattle.saturate.specs.Case.Laws.{rules_are, rules_stand}
 use Rattle.cell_memory.specs.Memory.{guided_in}
 use Rattle.rounds.specs.Won.{accepts_stack}
-use Rattle.saturation.specs.Held.{saturated_in}
+use Rattle.saturation.specs.Held.{saturated_by}
 use Rattle.acceptance.specs.Cells.Laws.{states_below, cell_won}
 use Rattle.start_records.specs.Body.{cells_in}
 use Rattle.least_choices.specs.Starts.{Prepared, start_cells}
@@ -32,9 +33,9 @@ use Rattle.guided_walk.specs.Turns.{RunStands, Leaves}
 use Rattle.sound_files.specs.Sound.Laws.{cells_count, cells_few, cells_lent_holds}
 use Rattle.sound_files.specs.Sound.Rounds.{cells_are}
 use Rattle.guided_start.specs.Tables.{TablesStand}
-use Rattle.guided_start.specs.Tables.Laws.{reading_stands}
+use Rattle.guided_start.specs.Tables.Laws.{reading_few}
 use Rattle.guided_start.specs.Run.Laws.{leaves_same}
-use Rattle.guided_start.specs.Walk.{Ready}
+use Rattle.guided_start.specs.Walk.{ReadyBy}
 
 -- ---- the start's cells
 
@@ -43,10 +44,9 @@ module _ (file : List ℕ) {body : List ℕ} {n : ℕ} (b : body ≡ body_of fil
   cells_number = count ∙ sym (cells_count file)
 
   -- what is asked before they are written
-  pub prepared : {case : List ℕ} {z : Table} {inner entries moves : List ℕ} {k : ℕ} {sizes rounds : List ℕ}
-      → Ready case file z inner entries moves k sizes rounds → Prepared z inner entries moves body n rounds
-  prepared {z = z} {inner} {entries} {moves} {k} {sizes} {rounds} r =
-      let T : Saturated = saturated_in z inner entries moves k sizes in
+  pub prepared : {case : List ℕ} (run : AfterRounds) {rounds : List ℕ} → ReadyBy case file run rounds → Prepared run.tables body n rounds
+  prepared run {rounds} r =
+      let T : Saturated = saturated_by run in
       let few = cells_few file r.start_is.in_place in
       let room = r.start_rounds.rounds_lent in
       let e = cells_number in
@@ -78,15 +78,14 @@ module _ (file : List ℕ) {body : List ℕ} {n : ℕ} (b : body ≡ body_of fil
 module _ (case : List ℕ) (sound : case_refusal case ≡ 0) {body : List ℕ} {count : ℕ} (h : HoldsRules case body count) where
   -- what is asked for the walk
   pub run_stands : {z : Table} {inner entries moves : List ℕ} {k : ℕ} {sizes cells : List ℕ} {most : ℕ} → TablesStand z inner entries moves k sizes
-      → most * 68 ≤ length cells → most ≤ 4096 → RunStands z inner entries moves body count sizes k cells most
+      → most * 68 ≤ length cells → most ≤ 4096 → RunStands z body count cells most
   run_stands t l m =
       let n = (case_placed_lem case sound).rules_count in
       let e = h.count_is in
       record {
-        tables_stand = reading_stands t;
+        tables_few = reading_few t;
         rules_stand = rules_stand case sound body count h;
         rules_few = omega arith;
-        sizes_lent = t.sizes_lent;
         cells_lent_holds = l;
         cells_few = m;
       }

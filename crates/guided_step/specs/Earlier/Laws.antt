@@ -14,8 +14,8 @@ use Rattle.tables.specs.declared.Table.{Table}
 use Rattle.tables.specs.Rows.{first_of, Layout, row_at, rows_in}
 use Rattle.tables.specs.Rows.Laws.{length_rows_in, get_or_rows_in, rows_in_list}
 use Rattle.tables.specs.Layouts.{move_row, entry_row, edge_row}
-use Rattle.tables.specs.Held.{automaton_of, table_of, entry_for}
-use Rattle.first_reading.specs.Words.{TablesWithin}
+use Rattle.tables.specs.Held.{automaton_of, table_of, entry_for, EdgesStand, EntriesStand, MovesStand}
+use Rattle.first_reading.specs.Words.{TablesFew}
 use Rattle.saturation.specs.Sizes.{the_size}
 use Rattle.saturation.specs.Layout.{size_row}
 use Rattle.guided_step.specs.Earlier.{table_up_to}
@@ -100,15 +100,18 @@ table_up_to_lem z inner entries moves s =
       moves = take_rows_in move_row s.moves z.moves moves i;
     }
 
-pub up_to_stands : {z : Table} {inner entries moves : List ℕ} (s : Size) → TablesWithin z inner entries moves → TablesWithin (table_up_to z s) inner entries moves
-up_to_stands {z} s h =
-    record {
-      edges_stand = record { edges_lent = h.edges_stand.edges_lent; firsts_small = h.edges_stand.firsts_small };
-      entries_stand = record { entries_lent = omega (arith, h.entries_stand.entries_lent); states_few = omega (arith, h.entries_stand.states_few) };
-      moves_stand = record { moves_lent = omega (arith, h.moves_stand.moves_lent) };
-      edges_few = h.edges_few;
-      moves_few = omega (arith, h.moves_few);
-    }
+module _ {z : Table} (s : Size) where
+  pub up_to_edges : {inner : List ℕ} → EdgesStand z inner → EdgesStand (table_up_to z s) inner
+  up_to_edges h = record { edges_lent = h.edges_lent; firsts_small = h.firsts_small }
+
+  pub up_to_entries : {entries : List ℕ} → EntriesStand z entries → EntriesStand (table_up_to z s) entries
+  up_to_entries h = record { entries_lent = omega (arith, h.entries_lent); states_few = omega (arith, h.states_few) }
+
+  pub up_to_moves : {moves : List ℕ} → MovesStand z moves → MovesStand (table_up_to z s) moves
+  up_to_moves h = record { moves_lent = omega (arith, h.moves_lent) }
+
+  pub up_to_few : TablesFew z → TablesFew (table_up_to z s)
+  up_to_few h = record { edges_few = h.edges_few; moves_few = omega (arith, h.moves_few) }
 
 -- ---- the result that a move stands for
 

@@ -23,8 +23,8 @@ use Rattle.tables.specs.declared.Table.{Table}
 use Rattle.tables.specs.Rows.{rows_in}
 use Rattle.tables.specs.Rows.Laws.{length_rows_in}
 use Rattle.tables.specs.Layouts.{move_row, entry_row, edge_row}
-use Rattle.tables.specs.Held.{automaton_of}
-use Rattle.first_reading.specs.Words.{TablesWithin}
+use Rattle.tables.specs.Held.{automaton_of, EntriesStand}
+use Rattle.first_reading.specs.Words.{TablesFew}
 use Rattle.first_derivation.specs.Premises.{edge_states, read_states}
 use Rattle.first_derivation.specs.Derived.Choices.{by_state}
 use Rattle.cell_steps.specs.Steps.Choices.{top_state, root_edge, HoldsRest, HoldsNumbers}
@@ -84,13 +84,13 @@ pub record Sized (A : Automaton) : Type 0 where
   pub inner_few : length A.inner ≤ 64
   pub moves_few : length A.moves ≤ 1024
 
-pub table_sized : {z : Table} {inner entries moves : List ℕ} → TablesWithin z inner entries moves → Sized (automaton_of z inner entries moves)
-table_sized {z} {inner} {entries} {moves} h =
+pub table_sized : (z : Table) (inner entries moves : List ℕ) → TablesFew z → EntriesStand z entries → Sized (automaton_of z inner entries moves)
+table_sized z inner entries moves h g =
     let i : length (rows_in edge_row z.edges inner) ≡ z.edges = length_rows_in edge_row z.edges inner in
     let e : length (rows_in entry_row z.entries entries) ≡ z.entries = length_rows_in entry_row z.entries entries in
     let m : length (rows_in move_row z.moves moves) ≡ z.moves = length_rows_in move_row z.moves moves in
     record {
-      states_few = omega (arith, h.entries_stand.states_few);
+      states_few = omega (arith, g.states_few);
       inner_few = omega (arith, h.edges_few);
       moves_few = omega (arith, h.moves_few);
     }

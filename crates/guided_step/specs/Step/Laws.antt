@@ -1,6 +1,6 @@
 -- What the answers of the code say of one step.
 -- Assumes nothing.
-use Rattle.std.specs.Prelude.{ℕ, ◌≤◌, ◌<◌, ◌≡◌, List, [], get_or, replicate}
+use Rattle.std.specs.Prelude.{ℕ, ◌≤◌, ◌<◌, ◌≡◌, List, [], get_or, replicate, None, Some, Option as Found}
 use Rattle.std.proofs.Math.Path.{ap, sym, subst}
 use Rattle.std.proofs.Common.{◌∙◌}
 use Rattle.std.proofs.Math.Option.{Option, some}
@@ -21,13 +21,12 @@ use Rattle.tables.specs.declared.Table.{Table}
 use Rattle.tables.specs.Rows.{first_of, rows_in}
 use Rattle.tables.specs.Rows.Laws.{length_first_of, get_or_first_of}
 use Rattle.tables.specs.Layouts.{move_row}
-use Rattle.tables.specs.Held.{automaton_of, table_of}
+use Rattle.tables.specs.Held.{automaton_of, table_of, EdgesStand, EntriesStand, MovesStand}
 use Rattle.results.specs.Collecting.{rule_in, rules_in}
 use Rattle.saturation.specs.Sizes.{the_size}
 use Rattle.saturation.specs.Layout.{size_row}
-use Rattle.first_reading.specs.Words.{TablesWithin}
-use Rattle.first_derivation.specs.declared.First.{First}
-use Rattle.first_derivation.specs.declared.First.TheVariants.{Missing, Found}
+use Rattle.first_reading.specs.Words.{TablesFew}
+use Rattle.first_derivation.specs.declared.Derivation.{Derivation as DerivationWords}
 use Rattle.first_derivation.specs.Premises.{edge_states, read_states}
 use Rattle.first_derivation.specs.Derived.{operation_by, FindsFirst, StatesSmall}
 use Rattle.first_derivation.specs.Derived.Choices.{by_state, Blank, blank_zeros, missing_none, found_some, edges_chosen, moves_chosen, operation_is}
@@ -36,11 +35,10 @@ use Rattle.guided_step.specs.declared.Next.{Next}
 use Rattle.guided_step.specs.declared.Next.TheVariants.{Arrived, Stuck, To}
 use Rattle.guided_step.specs.declared.Walk.{Walk}
 use Rattle.guided_step.specs.declared.Tip.{Tip}
-use Rattle.guided_step.specs.declared.Tip.TheVariants.{Nothing, At}
 use Rattle.guided_step.specs.Walks.{walk_in, top_by, tip_of}
 use Rattle.guided_step.specs.Walks.Laws.{top_of_moves}
 use Rattle.guided_step.specs.Earlier.{table_up_to}
-use Rattle.guided_step.specs.Earlier.Laws.{table_up_to_lem, up_to_stands, result_table}
+use Rattle.guided_step.specs.Earlier.Laws.{table_up_to_lem, up_to_edges, up_to_entries, up_to_moves, up_to_few, result_table}
 use Rattle.saturation.specs.Held.{saturated_in}
 use Rattle.guided_step.specs.Step.{FindsBefore, StepSmall, Taken, Gives, AtTop, NextIs}
 use Rattle.guided_step.specs.Step.Chosen.{holds_kept, Sized, says_small}
@@ -57,14 +55,24 @@ module _ (z : Table) (inner entries moves : List ℕ) (k : ℕ) (sizes : List �
   before_is e =
       ap (λ (b : Table). automaton_of b inner entries moves) e ∙ table_up_to_lem z inner entries moves (last_up_to (the_size 0 0) (rows_in size_row k sizes) i)
 
-  pub before_stands : {b : Table} → b ≡ table_up_to z (last_up_to (the_size 0 0) (rows_in size_row k sizes) i) → TablesWithin z inner entries moves → TablesWithin b inner entries moves
-  before_stands e h = subst (λ (b : Table). TablesWithin b inner entries moves) (sym e) (up_to_stands (last_up_to (the_size 0 0) (rows_in size_row k sizes) i) h)
+  module _ {b : Table} (e : b ≡ table_up_to z (last_up_to (the_size 0 0) (rows_in size_row k sizes) i)) where
+    pub before_edges : EdgesStand z inner → EdgesStand b inner
+    before_edges h = subst (λ (b : Table). EdgesStand b inner) (sym e) (up_to_edges (last_up_to (the_size 0 0) (rows_in size_row k sizes) i) h)
+
+    pub before_entries : EntriesStand z entries → EntriesStand b entries
+    before_entries h = subst (λ (b : Table). EntriesStand b entries) (sym e) (up_to_entries (last_up_to (the_size 0 0) (rows_in size_row k sizes) i) h)
+
+    pub before_moves : MovesStand z moves → MovesStand b moves
+    before_moves h = subst (λ (b : Table). MovesStand b moves) (sym e) (up_to_moves (last_up_to (the_size 0 0) (rows_in size_row k sizes) i) h)
+
+    pub before_few : TablesFew z → TablesFew b
+    before_few h = subst TablesFew (sym e) (up_to_few (last_up_to (the_size 0 0) (rows_in size_row k sizes) i) h)
 
   pub before_small : {b : Table} → b ≡ table_up_to z (last_up_to (the_size 0 0) (rows_in size_row k sizes) i) → StatesSmall (automaton_of b inner entries moves) → StatesSmall (before T i)
   before_small e h = subst StatesSmall (before_is e) h
 
   -- the search for a first derivation, as the code calls it
-  pub finds_before : {rules : List Rule} {b : Table} {x : Result} {m : Move} {r : First} {es₀ es ms₀ ms : List ℕ}
+  pub finds_before : {rules : List Rule} {b : Table} {x : Result} {m : Move} {r : Found DerivationWords} {es₀ es ms₀ ms : List ℕ}
       → b ≡ table_up_to z (last_up_to (the_size 0 0) (rows_in size_row k sizes) i) → m ≡ get_or (rows_in move_row z.moves moves) i no_move
       → x ≡ result_of (table_of z entries []) m → FindsFirst (automaton_of b inner entries moves) rules x r es₀ es ms₀ ms
       → FindsBefore rules T i r es₀ es ms₀ ms
@@ -84,11 +92,11 @@ module _ (rules : List Rule) (T : Saturated) (x : Top) (i : ℕ) where
   unfolding at_top
   step_arrived e h = record { gives = λ w. rw (at_top, lt-ltb i (own_moves T.sizes) (subst (λ (n : ℕ). i < n) e h)) }
 
-  pub step_stuck : {o : ℕ} {r : First} {es₀ es ms₀ ms : List ℕ} → o ≡ own_moves T.sizes → o ≤ i → r ≡ Missing
+  pub step_stuck : {o : ℕ} {r : Found DerivationWords} {es₀ es ms₀ ms : List ℕ} → o ≡ own_moves T.sizes → o ≤ i → r ≡ None
       → FindsFirst (before T i) rules X r es₀ es ms₀ ms → AtTop rules T x i Stuck es ms
   unfolding at_top by_derivation
   step_stuck {r = r} {es₀} {es} {ms₀} {ms} e h m f =
-      let g : FindsFirst (before T i) rules X Missing es₀ es ms₀ ms = subst (λ (a : First). FindsFirst (before T i) rules X a es₀ es ms₀ ms) m f in
+      let g : FindsFirst (before T i) rules X None es₀ es ms₀ ms = subst (λ (a : Found DerivationWords). FindsFirst (before T i) rules X a es₀ es ms₀ ms) m f in
       record { gives = λ w. rw (at_top, le-ltb i (own_moves T.sizes) (subst (λ (n : ℕ). n ≤ i) e h), (missing_none g).0, by_derivation) }
 
   -- by the first derivation and its rule
@@ -98,7 +106,7 @@ module _ (rules : List Rule) (T : Saturated) (x : Top) (i : ℕ) where
   goes_by w {d} {ρ} h e g k =
       rw (at_top, le-ltb i (own_moves T.sizes) h, e, by_derivation, g) (ap (λ (m : ℕ). walks.to m (walks.moved rules T w (top_by x i) d ρ)) k)
 
-  taken : {d : Derivation} {n p : ℕ} {r : First} {es₀ es ms₀ ms : List ℕ} → own_moves T.sizes ≤ i → Sized T.table → StatesSmall (before T i)
+  taken : {d : Derivation} {n p : ℕ} {r : Found DerivationWords} {es₀ es ms₀ ms : List ℕ} → own_moves T.sizes ≤ i → Sized T.table → StatesSmall (before T i)
       → Blank es₀ → Blank ms₀ → FindsFirst (before T i) rules X r es₀ es ms₀ ms → first_derivation (before T i) rules X ≡ some d → d.rule ≡ n
       → first_or_zero d.premise ≡ p → Derives (before T i) rules d → (w : walks.Walk) → Taken rules T w (at_top rules T w (some (top_by x i))) x n p es ms
   taken {d} {n} {p} {r} {es₀} {es} {ms₀} {ms} h few small be bm f e k q D w =
@@ -119,10 +127,10 @@ module _ (rules : List Rule) (T : Saturated) (x : Top) (i : ℕ) where
         small = subst (StepSmall T.table ρ.operation) q (says_small few ρ d ρ.operation (says_kept (before_extends T i) ρ d ρ.operation D.says));
       }
 
-  pub step_to : {o n p : ℕ} {r : First} {es₀ es ms₀ ms : List ℕ} → o ≡ own_moves T.sizes → o ≤ i → Sized T.table → StatesSmall (before T i)
-      → es₀ ≡ replicate 64 0 → ms₀ ≡ replicate 64 0 → r ≡ Found n p → FindsFirst (before T i) rules X r es₀ es ms₀ ms → AtTop rules T x i (To x n p) es ms
+  pub step_to : {o n p : ℕ} {r : Found DerivationWords} {es₀ es ms₀ ms : List ℕ} → o ≡ own_moves T.sizes → o ≤ i → Sized T.table → StatesSmall (before T i)
+      → es₀ ≡ replicate 64 0 → ms₀ ≡ replicate 64 0 → r ≡ Some (record { rule = n; premise = p }) → FindsFirst (before T i) rules X r es₀ es ms₀ ms → AtTop rules T x i (To x n p) es ms
   step_to {o} {n} {p} {r} {es₀} {es} {ms₀} {ms} e h few small be bm m f =
-      let g = found_some (subst (λ (a : First). FindsFirst (before T i) rules X a es₀ es ms₀ ms) m f) in
+      let g = found_some (subst (λ (a : Found DerivationWords). FindsFirst (before T i) rules X a es₀ es ms₀ ms) m f) in
       record {
         gives = taken (subst (λ (k : ℕ). k ≤ i) e h) few small (subst Blank (sym be) blank_zeros) (subst Blank (sym bm) blank_zeros) f g.1 g.2 g.3
             (derivations_out (before T i) rules (first_derivation_out (before T i) rules X g.1).0);
@@ -146,7 +154,7 @@ module _ (rules : List Rule) (z : Table) (inner entries moves : List ℕ) (k : �
   W = walk_in w cells
 
   -- the top that the code finds is that of the walk
-  abbrev TipIs : Tip → Type 0
+  abbrev TipIs : Found Tip → Type 0
   TipIs t = tip_of t ≡ walks.top_of (automaton_of z inner entries []) W (walks.guided_at W w.root).cell
 
   next_at : {o : Option walks.Top} → o ≡ walks.top_of (automaton_of z inner entries []) W (walks.guided_at W w.root).cell
@@ -155,9 +163,9 @@ module _ (rules : List Rule) (z : Table) (inner entries moves : List ℕ) (k : �
   next_at e = ap (at_top rules S W) (e ∙ top_of_moves z inner entries moves W (walks.guided_at W w.root).cell)
 
   -- "the walk has also arrived where no move is needed"
-  pub next_empty : {t : Tip} {es ms : List ℕ} → TipIs t → t ≡ Nothing → NextIs rules S W Arrived es ms
+  pub next_empty : {t : Found Tip} {es ms : List ℕ} → TipIs t → t ≡ None → NextIs rules S W Arrived es ms
   unfolding at_top
   next_empty h e = record { gives = sym (next_at (ap tip_of (sym e) ∙ h)) }
 
-  pub next_to : {t : Tip} {x : Top} {i : ℕ} {r : Next} {es ms : List ℕ} → TipIs t → t ≡ At x i → AtTop rules S x i r es ms → NextIs rules S W r es ms
+  pub next_to : {t : Found Tip} {x : Top} {i : ℕ} {r : Next} {es ms : List ℕ} → TipIs t → t ≡ Some (record { top = x; number = i }) → AtTop rules S x i r es ms → NextIs rules S W r es ms
   next_to {r = r} {es} {ms} h e g = record { gives = subst (λ (o : walks.Next). Gives rules S W o r es ms) (next_at (ap tip_of (sym e) ∙ h)) (g.gives W) }

@@ -9,10 +9,10 @@ use Rattle.guided_walk.proofs.by_move.Goals as goal
 
 pub entry_edge-requires : goal.entry_edge-requires
 entry_edge-requires c =
-    let state : c.move_of-m.result.state ≡ (move_at (moves_only c.args.z c.args.moves.now) c.args.premise).state =
-    move_state c.args.z c.args.moves.now c.args.premise c.move_of-m.ensures in
+    let state : c.move_of-m.result.state ≡ (move_at (moves_only c.args.tables.now.table c.args.tables.now.moves.now) c.args.premise).state =
+    move_state c.args.tables.now.table c.args.tables.now.moves.now c.args.premise c.move_of-m.ensures in
     search rules
 
 pub returns : goal.returns
 returns c =
-    move_choice_lem _ _ (move_state c.args.z c.args.moves.now c.args.premise c.move_of-m.ensures) c.entry_of_state.ensures c.entry_edge.ensures
+    move_choice_lem _ _ (move_state c.args.tables.now.table c.args.tables.now.moves.now c.args.premise c.move_of-m.ensures) c.saturating_sub.ensures c.entry_edge.ensures

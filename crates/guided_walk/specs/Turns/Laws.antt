@@ -90,7 +90,6 @@ length_moved rules T w x d ρ =
 -- one word more is written
 rest_more : (trace : List ℕ) (i n : ℕ) → i < length trace → drop i trace ≡ zeros (length trace - i)
     → drop (i + 1) (set trace i n) ≡ zeros (length (set trace i n) - (i + 1))
-unfolding zeros
 rest_more trace i n h e =
     let k : length trace - i ≡ suc (length trace - (i + 1)) = omega arith in
     let f : get_or trace i 0 ∷ drop (suc i) trace ≡ 0 ∷ zeros (length trace - (i + 1)) = sym (drop-cons trace i 0 h) ∙ e ∙ ap zeros k in

@@ -18,14 +18,13 @@ use Rattle.guided_step.specs.Walks.{walk_in}
 use Rattle.guided_walk.specs.Turns.{RunStands, Leaves, Walking, report_from, TurnFollows}
 
 -- the same with other cells, as many
-pub run_stands : {z : Table} {inner entries moves body sizes cells cells' : List ℕ} {count k most : ℕ}
-    → RunStands z inner entries moves body count sizes k cells most → length cells' ≡ length cells → RunStands z inner entries moves body count sizes k cells' most
+pub run_stands : {z : Table} {body cells cells' : List ℕ} {count most : ℕ} → RunStands z body count cells most → length cells' ≡ length cells
+    → RunStands z body count cells' most
 run_stands h e =
     record {
-      tables_stand = h.tables_stand;
+      tables_few = h.tables_few;
       rules_stand = h.rules_stand;
       rules_few = h.rules_few;
-      sizes_lent = h.sizes_lent;
       cells_lent_holds = omega (arith, h.cells_lent_holds);
       cells_few = h.cells_few;
     }

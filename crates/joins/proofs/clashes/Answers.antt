@@ -1,17 +1,14 @@
 -- `joins::clashes` meets its contract.
 -- Assumes nothing.
-use borrow.Author.Tests.{eq-eqb, ne_eqb}
+use native.Mathlib.Omega.{arith}
 use Rattle.automata.specs.Derivation.{clash}
 use Rattle.joins.proofs.clashes.Goals as goal
+use Rattle.joins.proofs.clashes.Goals.{then-k-ne0, else-k-ne0}
 
-pub returns-then-k-eq0 : goal.returns-then-k-eq0
+pub returns-then-l-ne0 : goal.returns-then-l-ne0
 unfolding clash
-returns-then-k-eq0 c = rw (eq-eqb _ _ c.if-k-eq0.true, clash)
+returns-then-l-ne0 c = grind arith
 
-pub returns-then-l-eq0 : goal.returns-then-l-eq0
+pub returns-else-l-ne0 : goal.returns-else-l-ne0
 unfolding clash
-returns-then-l-eq0 c = rw (ne_eqb _ _ c.if-k-eq0.false, eq-eqb _ _ c.if-l-eq0.true, clash)
-
-pub returns : goal.returns
-unfolding clash
-returns c = rw (ne_eqb _ _ c.if-k-eq0.false, ne_eqb _ _ c.if-l-eq0.false, clash)
+returns-else-l-ne0 c = elim c.if-k-ne0.branch [ then-k-ne0 w ↦ grind arith | else-k-ne0 w ↦ grind arith ]

@@ -9,4 +9,4 @@ returns-then-clashes c = sym (joins_clash _ _ (sym c.clashes.ensures ∙ c.if-cl
 
 pub returns : goal.returns
 returns c =
-    joins_both _ _ (sym c.clashes.ensures ∙ c.if-clashes.false) c.larger.ensures c.join.ensures c.join-2.ensures
+    joins_both _ _ (sym c.clashes.ensures ∙ c.if-clashes.false) c.max.ensures c.join.ensures c.join-2.ensures

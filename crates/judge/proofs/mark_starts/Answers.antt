@@ -2,7 +2,7 @@
 -- Assumes nothing.
 use mathlib.Core.Path.{sym, ◌∙◌}
 use native.Mathlib.Omega.{arith}
-use Rattle.saturation.specs.Held.{saturated_in}
+use Rattle.saturation.specs.Held.{saturated_on}
 use Rattle.acceptance.specs.Cells.Laws.{states_below}
 use Rattle.sound_files.specs.Sound.Laws.{start_long, starts_count}
 use Rattle.sound_files.specs.Sound.Rounds.{made_zero}
@@ -25,5 +25,5 @@ put_marks-requires c =
 
 pub returns : goal.returns
 returns c =
-    marks_written _ (saturated_in c.args.z _ _ _ _ _) (states_below c.requires.0) _ c.requires.3 c.start_rounds.ensures.filled _
+    marks_written _ (saturated_on c.args.tables.now _ _) (states_below c.requires.0) _ c.requires.3 c.start_rounds.ensures.filled _
     (c.count_of-n.ensures.value ∙ sym (starts_count c.args.start.now)) c.put_marks.ensures

@@ -6,8 +6,5 @@ use borrow.Author.Rules.{rules}
 use Rattle.judge.proofs.put_marks.Goals as goal
 
 pub loop-i-preserved : goal.loop-i-preserved
-loop-i-preserved c = (
-  search rules,
-  marks_more _ _ _ c.requires.1 c.loop-i.invariant.1 c.loop-i-test.true (search rules) c.start_accepted.ensures.value
-      c.mark_of.ensures refl,
-)
+loop-i-preserved c =
+    marks_more _ _ _ c.requires.1 c.loop-i.invariant c.loop-i-test.true (search rules) c.start_accepted.ensures.value c.mark_of.ensures refl

@@ -1,5 +1,4 @@
 -- `judge::put_marks`: what its loops keep.
-use Prim.Native.Nat.{◌-◌, ◌≤◌}
 use mathlib.Core.List.{map}
 use Rattle.files.specs.Start.{starts_of}
 use Rattle.judge.specs.WrittenBelow.{WrittenBelow}
@@ -7,7 +6,4 @@ use Rattle.judge.specs.Marks.{mark_by}
 use Rattle.judge.proofs.put_marks.Given as goal
 
 abbrev pub invariant-loop-i : goal.invariant-loop-i
-invariant-loop-i l = (l.i ≤ l.n) × WrittenBelow (map (mark_by l.more l.rounds) (starts_of l.start)) l.initial.answers l.answers l.i
-
-abbrev pub decreases-loop-i : goal.decreases-loop-i
-decreases-loop-i l = l.n - l.i
+invariant-loop-i l = WrittenBelow (map (mark_by l.more l.rounds) (starts_of l.start)) l.initial.answers l.answers l.i

@@ -7,7 +7,6 @@ use Rattle.std.proofs.Common.{◌∙◌}
 use Rattle.std.proofs.Math.Option.{none, some}
 use mathlib.Core.List.{List, ◌++◌, map}
 use Rattle.std.proofs.Math.ListN.{length, drop, length-map}
-use Rattle.replies.specs.declared.Judged.{Judged}
 use Rattle.automata.specs.Saturation.{Saturated, rounds_added}
 use Rattle.files.specs.Start.{starts_of}
 use Rattle.services.specs.Memory.{padded}
@@ -29,22 +28,20 @@ done_same p k q r s = λ i. record { code = p i; rounds = k i; moves = q i; entr
 
 module _ (x : JudgeInput) {m e a : List ℕ} where
   pub left_refused : {c n : ℕ} → n ≡ x.answers → c ≡ answers_refusal x.case x.start n → (c ≡ 0 → ⊥) → m ≡ zeros x.moves → e ≡ zeros x.entries
-      → a ≡ zeros x.answers → {reply : Judged} → reply ≡ the_refused c → judge_done reply m e a ≡ judge_service x
+      → a ≡ zeros x.answers → judge_done (the_refused c) m e a ≡ judge_service x
   unfolding judge_left
-  left_refused {c} k is h p q r y =
+  left_refused {c} k is h p q r =
       let same : c ≡ answers_refusal x.case x.start x.answers = is ∙ ap (λ (i : ℕ). answers_refusal x.case x.start i) k in
-      ap (λ (z : Judged). judge_done z m e a) y
-      ∙ done_same same refl p q (r ∙ sym (padded_none x.answers))
+      done_same same refl p q (r ∙ sym (padded_none x.answers))
       ∙ sym (answers_refused x (λ z. h (same ∙ z)))
 
   module _ (sound : FilesSound x.case x.start) (lent : length (starts_of x.start) ≤ x.answers) {k l : ℕ} (kept : k ≡ x.moves) (kept' : l ≡ x.entries)
       (p : m ≡ zeros k) (q : e ≡ zeros l) where
-    pub left_exceeded : saturated (lent_of x.case x.moves x.entries) x.rounds ≡ none → a ≡ zeros x.answers → {reply : Judged} → reply ≡ the_refused 9
-        → judge_done reply m e a ≡ judge_service x
+    pub left_exceeded : saturated (lent_of x.case x.moves x.entries) x.rounds ≡ none → a ≡ zeros x.answers
+        → judge_done (the_refused 9) m e a ≡ judge_service x
     unfolding judge_left judge_lent
-    left_exceeded h z y =
-        ap (λ (w : Judged). judge_done w m e a) y
-        ∙ done_same refl refl (p ∙ ap zeros kept) (q ∙ ap zeros kept') (z ∙ sym (padded_none x.answers))
+    left_exceeded h z =
+        done_same refl refl (p ∙ ap zeros kept) (q ∙ ap zeros kept') (z ∙ sym (padded_none x.answers))
         ∙ sym (answers_exceeded x sound lent h)
 
     -- a₀ being the answers before they are marked

@@ -1,8 +1,9 @@
 -- `least_choices::put_least_choices` meets its contract.
 -- Assumes nothing.
 use native.Mathlib.Omega.{arith}
+use Rattle.std.proofs.Math.Logic.{⊎_elim}
 use Rattle.automata.specs.Automaton.{edges}
-use Rattle.tables.specs.Held.{automaton_of}
+use Rattle.tables.specs.View.{automaton_in}
 use Rattle.acceptance.specs.Cells.Turns.{parts_symbol, parts_above}
 use Rattle.least_choices.specs.Starts.Turns.{by_empty1, by_symbol, by_empty2, by_above}
 use Rattle.least_choices.proofs.put_least_choices.Goals as goal
@@ -23,17 +24,16 @@ put_edge_choices-requires c =
     let w = below.0 in
     let t = below.1 in
     let room = p.3 in
-    (p.0.edges_stand, p.0.entries_stand, p.0.edges_named, p.1, omega arith, omega arith, p.4)
-
-pub returns-in-Empty1 : goal.returns-in-Empty1
-returns-in-Empty1 c = by_empty1 (automaton_of c.args.z _ _ _) _ _ _ _ _ c.in-Empty1.is
+    (p.0.edges_named, p.1, omega arith, omega arith, p.4)
 
 pub returns-in-Symbol : goal.returns-in-Symbol
-returns-in-Symbol c = by_symbol (automaton_of c.args.z _ _ _) _ _ _ _ _ _ _ _ c.in-Symbol.is c.put_move_choices.ensures
-
-pub returns-in-Empty2 : goal.returns-in-Empty2
-returns-in-Empty2 c = by_empty2 (automaton_of c.args.z _ _ _) _ _ _ _ _ c.in-Empty2.is
+returns-in-Symbol c = by_symbol (automaton_in c.args.tables.now) _ _ _ _ _ _ _ _ c.in-Symbol.is c.put_move_choices.ensures
 
 pub returns-in-Above : goal.returns-in-Above
 unfolding edges
-returns-in-Above c = by_above (automaton_of c.args.z _ _ _) _ _ _ _ _ _ _ c.in-Above.is c.put_edge_choices.ensures
+returns-in-Above c = by_above (automaton_in c.args.tables.now) _ _ _ _ _ _ _ c.in-Above.is c.put_edge_choices.ensures
+
+pub returns-in-Empty1 : goal.returns-in-Empty1
+returns-in-Empty1 c =
+    let A = automaton_in c.args.tables.now in
+    ⊎_elim (λ e. by_empty1 A _ _ _ _ _ e) (λ e. by_empty2 A _ _ _ _ _ e) c.in-Empty1.is

@@ -8,19 +8,17 @@ use Rattle.least_choices.specs.Choices.Laws.{looked_none, looked_more}
 use borrow.Author.Rules.{rules}
 use Rattle.least_choices.proofs.put_move_choices.Goals as goal
 
-pub loop-done-init : goal.loop-done-init
-loop-done-init c =
+pub loop-number-init : goal.loop-number-init
+loop-number-init c =
     let a = c.args in
-    let len = length_rows_in move_row a.z.moves a.moves.now in
-    (search rules, looked_none _ _ _ no_move _ _ (search rules))
+    let len = length_rows_in move_row a.tables.now.table.moves a.tables.now.moves.now in
+    looked_none _ _ _ no_move _ _ (search rules)
 
-pub loop-done-preserved : goal.loop-done-preserved
-loop-done-preserved c =
+pub loop-number-preserved : goal.loop-number-preserved
+loop-number-preserved c =
     let a = c.args in
-    let len = length_rows_in move_row a.z.moves a.moves.now in
-    let m = c.move_at-m.ensures in (
-      search rules,
-      looked_more _ _ _ no_move c.loop-done.invariant.1 (search rules) (search rules)
-          (move_small c.requires.0 (search rules) m)
-          (move_row_lem a.z _ (search rules) m) c.move_met-met.ensures c.put_choice_if.ensures,
-    )
+    let len = length_rows_in move_row a.tables.now.table.moves a.tables.now.moves.now in
+    let m = c.move_at-m.ensures in
+    (looked_more _ _ _ no_move c.loop-number.invariant (search rules) (search rules)
+    (move_small c.requires.0 (search rules) m)
+    (move_row_lem a.tables.now.table _ (search rules) m) c.move_met-met.ensures c.put_choice_if.ensures)

@@ -1,6 +1,6 @@
 -- `least_choices::put_start_cell` meets its contract.
 -- Assumes nothing.
-use Rattle.tables.specs.Held.{automaton_of}
+use Rattle.tables.specs.View.{automaton_in}
 use Rattle.least_choices.specs.Starts.Turns.{start_put, start_parts}
 use borrow.Author.Rules.{rules}
 use Rattle.least_choices.proofs.put_start_cell.Goals as goal
@@ -15,5 +15,5 @@ put_least_choices-requires c =
 pub returns : goal.returns
 returns c =
     let a = c.args in
-    start_put (automaton_of a.z _ _ _) a.n _ _ c.cell_at-cell.result _ (search rules) c.cell_at-cell.ensures
+    start_put (automaton_in a.tables.now) a.n _ _ c.cell_at-cell.result _ (search rules) c.cell_at-cell.ensures
     c.annotation_order-k.ensures c.put_cell.ensures c.put_least_choices.ensures

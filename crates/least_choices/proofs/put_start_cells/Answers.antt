@@ -9,11 +9,9 @@ use Rattle.least_choices.proofs.put_start_cells.Goals as goal
 pub loop-i-preserved : goal.loop-i-preserved
 loop-i-preserved c =
     let a = c.args in
-    let p = c.requires.0 in (
-      search rules,
-      taken_more c.loop-i.invariant.1 p.formed (states_below p.stands) p.accepted_in_holds (length_cells_in a.n a.body.now) (search rules) (search rules)
-          c.put_start_cell.ensures,
-    )
+    let p = c.requires.0 in
+    (taken_more c.loop-i.invariant p.formed (states_below p.stands) p.accepted_in_holds (length_cells_in a.n a.body.now) (search rules) (search rules)
+    c.put_start_cell.ensures)
 
 pub returns : goal.returns
-returns c = taken_all c.loop-i.invariant.1 (length_cells_in _ _) c.loop-i-test.false
+returns c = taken_all c.loop-i.invariant (length_cells_in _ _) c.loop-i-test.false

@@ -13,7 +13,6 @@ use borrow.Author.Rules.{rules}
 use Rattle.listing_text.proofs.start_line.Goals as goal
 
 pub guide_with_rounds-reply-requires : goal.guide_with_rounds-reply-requires
-unfolding zeros
 guide_with_rounds-reply-requires c =
     let p = c.requires in
     let s = p.0.sound in

@@ -1,6 +1,6 @@
 -- Saturation gives what the lines of the starts ask.
 -- Assumes nothing.
-use Rattle.std.specs.Prelude.{ℕ, ◌*◌, ◌+◌, Bool, true, ◌≡◌, List, length}
+use Rattle.std.specs.Prelude.{ℕ, ◌*◌, ◌+◌, Bool, ◌≡◌, List, length}
 use Rattle.std.proofs.Common.{arith}
 use Rattle.automata.specs.Saturation.{all_rounds}
 use Rattle.rounds.specs.Limits.{closed_nothing, all_closed}
@@ -18,17 +18,17 @@ use Rattle.guided_start.specs.Tables.Laws.{tables_stand}
 use Rattle.listing_text.specs.Prepared.{TableReady}
 
 -- the tables of a case that fits
-pub prepared : {case start : List ℕ} {fits : Bool} {z : Table} {k : ℕ} {more : Bool} {inner entries moves sizes : List ℕ} → FilesSound case start
-    → CaseSaturated case all_rounds (1024 * 5) (64 * entry_width) fits z k more inner entries moves sizes → fits ≡ true → length inner ≡ 192 → length sizes ≡ 2050
+pub prepared : {case start : List ℕ} {z : Table} {k : ℕ} {more : Bool} {inner entries moves sizes : List ℕ} → FilesSound case start
+    → CaseSaturated case all_rounds (1024 * 5) (64 * entry_width) z k more inner entries moves sizes → length inner ≡ 192 → length sizes ≡ 2050
     → TableReady case start z inner entries moves (k + 1) sizes
 unfolding more_to_add
-prepared {case} s C f i l =
+prepared {case} s C i l =
     let x : Lent = lent_of case (1024 * 5) (64 * entry_width) in
-    let there = table_there C f in
+    let there = table_there C in
     record {
       sound = s;
-      tables = tables_stand C s.sound_case f i (omega arith);
-      counts = (C.standing f).counts;
+      tables = tables_stand C s.sound_case i (omega arith);
+      counts = C.standing.counts;
       table_is = there;
       nothing_left = closed_nothing (rules_of case) _ (all_closed (rules_of case) (lent x.moves x.entries) (own_of case) (is_saturated x all_rounds s.sound_case there) (omega arith));
     }

@@ -1,10 +1,10 @@
 -- A state as nine words and back, and the comparison of two states.
 -- Assumes nothing.
-use Rattle.std.specs.Prelude.{◌≡◌, ℕ, ◌+◌, ◌*◌, ◌/◌, ◌%◌, ◌<◌, ◌≤◌, true, false, List, [], ◌∷◌, length, ◌==◌, ◌≢◌, slice_index, refl}
-use Rattle.std.proofs.Common.{ap, sym, ◌∙◌, mod-lt, arith, eq-eqb}
+use Rattle.std.specs.Prelude.{◌≡◌, ℕ, ◌+◌, ◌*◌, ◌/◌, ◌%◌, ◌<◌, ◌≤◌, true, List, [], ◌∷◌, length, ◌==◌, ◌&&◌, slice_index, refl}
+use Rattle.std.proofs.Common.{ap, sym, ◌∙◌, mod-lt, arith}
 use Rattle.words.specs.Laws.Tests.{by_test}
 use Rattle.words.specs.Order.{same}
-use Rattle.words.specs.Order.Laws.{same_eq, differs_same}
+use Rattle.words.specs.Order.Laws.{same_eq}
 use Rattle.memo_table.specs.declared.State.{State}
 use Rattle.memo_table.specs.States.{state_words, state_from}
 
@@ -38,26 +38,20 @@ same_states x y e =
     ∙ ap (λ (l : List ℕ). state_from (λ j. slice_index l j)) (same_eq (state_words x) (state_words y) e)
     ∙ state_back y
 
--- states that differ in a word
-pub states_differ : (x y : State) (j : ℕ) → (slice_index (state_words x) j ≢ slice_index (state_words y) j) → false ≡ same (state_words x) (state_words y)
-states_differ x y j h = sym (differs_same (state_words x) (state_words y) (λ e. h (ap (λ (l : List ℕ). slice_index l j) e)))
-
-same_head : (v w : ℕ) (vs ws : List ℕ) → v ≡ w → same (v ∷ vs) (w ∷ ws) ≡ same vs ws
+same_first : (v w : ℕ) (vs ws : List ℕ) → same (v ∷ vs) (w ∷ ws) ≡ ((v == w) && same vs ws)
 unfolding same
-same_head v w vs ws e = rw (same, eq-eqb v w e)
+same_first v w vs ws = by_test (v == w) (λ e. rw (same, e)) (λ e. rw (same, e))
 
 same_one : (v w : ℕ) → same (v ∷ []) (w ∷ []) ≡ (v == w)
 unfolding same
 same_one v w = by_test (v == w) (λ e. rw (same, e)) (λ e. rw (same, e))
 
--- states that agree in all words but the last
-pub states_last : (x y : State) → x.kind ≡ y.kind → x.control ≡ y.control → x.symbol ≡ y.symbol → x.s ≡ y.s → x.left ≡ y.left
-    → x.named ≡ y.named → x.order ≡ y.order → x.b ≡ y.b → (x.r == y.r) ≡ same (state_words x) (state_words y)
+-- states are compared field by field
+pub same_fields : (x y : State) → ((x.kind == y.kind) && ((x.control == y.control) && ((x.symbol == y.symbol) && ((x.s == y.s) && ((x.left == y.left)
+    && ((x.named == y.named) && ((x.order == y.order) && ((x.b == y.b) && (x.r == y.r))))))))) ≡ same (state_words x) (state_words y)
 unfolding state_words
-states_last x y k c a s l n o b =
-    sym
-    (same_head _ _ _ _ k ∙ same_head _ _ _ _ c ∙ same_head _ _ _ _ a ∙ same_head _ _ _ _ s ∙ same_head _ _ _ _ l
-    ∙ same_head _ _ _ _ n ∙ same_head _ _ _ _ o ∙ same_head _ _ _ _ b ∙ same_one x.r y.r)
+same_fields x y =
+    sym (rw (same_first, same_first, same_first, same_first, same_first, same_first, same_first, same_first, same_one) refl)
 
 -- ---- places
 

@@ -1,42 +1,42 @@
 -- `move_index::has_move` meets its contract.
 -- Assumes nothing.
-use mathlib.Core.Path.{ap, sym, ◌∙◌}
+use mathlib.Core.Bool.{false}
+use mathlib.Core.Path.{◌≡◌, ap, sym, ◌∙◌}
 use native.Mathlib.Omega.{arith}
-use Rattle.chains.specs.Chains.Laws.{last_less}
+use Rattle.tables.specs.Records.{as_move}
+use Rattle.chains.specs.Chains.{number_after}
+use Rattle.chains.specs.Chains.Laws.{chain_falls}
 use Rattle.move_index.specs.Keys.{same_move}
+use Rattle.move_index.specs.Keys.Laws.{same_fields}
 use Rattle.move_index.specs.Search.Laws.{missed_start, missed_more, search_found, search_none}
 use Rattle.move_index.proofs.has_move.Goals as goal
 
-pub loop-c-init : goal.loop-c-init
-loop-c-init c = λ n h. missed_start _ n _ _ _ c.words_key.ensures.value (c.last-c.ensures _ n h)
+pub loop-next-init : goal.loop-next-init
+loop-next-init c = missed_start _ _ _ _ _ c.words_key.ensures.value (c.last-next.ensures _ _ c.requires.1)
 
 pub move_at-requires : goal.move_at-requires
-move_at-requires c =
-    let w = c.loop-c.invariant _ c.requires.1 in
-    omega (arith, w.within, c.requires.0.moves_lent)
+move_at-requires c = omega (arith, ap number_after c.in-Some.is, c.loop-next.invariant.within, c.requires.0.moves_lent)
 
-pub returns-then-same_move : goal.returns-then-same_move
-returns-then-same_move c =
-    let w = c.loop-c.invariant _ c.requires.1 in
-    search_found _ _ _ _ (omega (arith, w.within)) (sym (ap (same_move _) c.move_at.ensures) ∙ sym c.same_move.ensures ∙ c.if-same_move.true)
+pub before-next-requires : goal.before-next-requires
+before-next-requires c =
+    (c.requires.1.long, omega (arith, ap number_after c.in-Some.is, c.loop-next.invariant.within, c.requires.1.few))
 
-pub before-c-requires : goal.before-c-requires
-before-c-requires c =
-    let w = c.loop-c.invariant _ c.requires.1 in
-    (c.requires.1.long, omega (arith, w.within, c.requires.1.few))
+pub returns-then-eq : goal.returns-then-eq
+returns-then-eq c =
+    search_found _ _ _ _ (omega (arith, ap number_after c.in-Some.is, c.loop-next.invariant.within)) (sym (ap (same_move _) c.move_at.ensures) ∙ same_fields (as_move c.args.m) (as_move c.move_at.result) ∙ sym c.eq.ensures ∙ c.if-eq.true)
 
-pub loop-c-smaller : goal.loop-c-smaller
-loop-c-smaller c =
-    let loop = c.loop-c in
-    let w = loop.invariant _ c.requires.1 in
-    last_less _ _ loop.c _ (omega arith) (c.before-c.ensures _ _ c.requires.1 (omega (arith, w.within)))
+pub loop-next-smaller : goal.loop-next-smaller
+loop-next-smaller c =
+    let w = c.loop-next.invariant in
+    chain_falls _ _ _ _ _ c.in-Some.is (c.before-next.ensures _ _ c.requires.1 (omega (arith, ap number_after c.in-Some.is, w.within)))
 
-pub loop-c-preserved : goal.loop-c-preserved
-loop-c-preserved c =
-    λ n h.
-    let loop = c.loop-c in
-    let w = loop.invariant n h in
-    missed_more _ n _ loop.c _ w (omega arith) (sym (ap (same_move _) c.move_at.ensures) ∙ sym c.same_move.ensures ∙ c.if-same_move.false) (c.before-c.ensures _ n h (omega (arith, w.within)))
+pub loop-next-preserved : goal.loop-next-preserved
+loop-next-preserved c =
+    let w = c.loop-next.invariant in
+    let here = ap number_after c.in-Some.is in
+    let differ : same_move (as_move c.args.m) (as_move c.move_at.result) ≡ false = same_fields _ _ ∙ sym c.eq.ensures ∙ c.if-eq.false in
+    missed_more _ _ _ _ _ (rw (sym here) w) (sym (ap (same_move _) c.move_at.ensures) ∙ differ)
+    (c.before-next.ensures _ _ c.requires.1 (omega (arith, here, w.within)))
 
 pub returns : goal.returns
-returns c = search_none _ _ _ _ (c.loop-c.invariant _ c.requires.1) c.loop-c-test.false
+returns c = search_none _ _ _ _ c.loop-next.invariant (omega (arith, ap number_after c.in_default.is))

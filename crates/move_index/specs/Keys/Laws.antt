@@ -2,7 +2,7 @@
 -- Assumes nothing.
 use Rattle.std.specs.Prelude.{ℕ, ◌<◌, Bool, true, false, ◌&&◌, ◌≡◌, refl, List, eqb}
 use Rattle.std.proofs.Common.{ap, sym, ◌∙◌, arith, eqb-true, eq-eqb}
-use Rattle.words.specs.Laws.Tests.{by_test, and_left, and_right}
+use Rattle.words.specs.Laws.Tests.{and_left, and_right}
 use Rattle.automata.specs.Automaton.{Move}
 use Rattle.chains.specs.Chains.Laws.{chained_same}
 use Rattle.tables.specs.Rows.{row_at}
@@ -34,11 +34,6 @@ same_moves m n e =
     let R : m.R ≡ n.R = eqb-true _ _ (and_right d _ e) in
     λ i. record { state = state i; symbol = symbol i; order = order i; B = B i; R = R i }
 
--- moves that differ in a word
-pub moves_differ : (word : Move → ℕ) (m n : Move) → (word m ≡ word n → ⊥) → false ≡ same_move m n
-moves_differ word m n h =
-    by_test (same_move m n) {X = false ≡ same_move m n} (λ t. absurd (h (ap word (same_moves m n t)))) (λ f. sym f)
-
 -- moves that agree in all words but the last
 pub moves_last : (m n : Move) → m.state ≡ n.state → m.symbol ≡ n.symbol → m.order ≡ n.order → m.B ≡ n.B → eqb m.R n.R ≡ same_move m n
 unfolding same_move
@@ -56,3 +51,16 @@ module _ (n : ℕ) (moves moves' t : List ℕ) (h : (i : ℕ) → i < n → row_
 
   pub by_words_same : ByWords n moves t → ByWords n moves' t
   by_words_same c = chained_same _ _ n t (λ i l. ap words_key (h i l)) c
+
+-- ---- moves compared field by field
+
+and_nested : (a b c d e : Bool) → (a && b && c && d && e) ≡ a && (b && (c && (d && e)))
+and_nested false b c d e = refl
+and_nested true false c d e = refl
+and_nested true true false d e = refl
+and_nested true true true d e = refl
+
+pub same_fields : (m n : Move) → same_move m n
+    ≡ eqb m.state n.state && (eqb m.symbol n.symbol && (eqb m.order n.order && (eqb m.B n.B && eqb m.R n.R)))
+unfolding same_move
+same_fields m n = and_nested (eqb m.state n.state) (eqb m.symbol n.symbol) (eqb m.order n.order) (eqb m.B n.B) (eqb m.R n.R)

@@ -1,6 +1,6 @@
 -- The search begins at the last move of the key, goes on to the one before, and ends where the move is found or the chain ends.
 -- Assumes nothing.
-use Rattle.std.specs.Prelude.{ℕ, suc, ◌-◌, ◌≤◌, ◌<◌, true, false, ◌≡◌, List, length, ltb}
+use Rattle.std.specs.Prelude.{ℕ, ◌+◌, ◌≤◌, ◌<◌, true, false, ◌≡◌, List, length, ltb}
 use Rattle.std.proofs.lemmas.Bool.{false≢true}
 use Rattle.std.proofs.Common.{ap, sym, ◌∙◌, subst, arith, ltb-true, ltb-false}
 use Rattle.words.specs.Laws.Tests.{by_test}
@@ -34,26 +34,25 @@ module _ (moves : List ℕ) (n : ℕ) (m : Move) where
       }
 
   -- the move before a move that is not m
-  pub missed_more : (c r : ℕ) → Missed moves n m c → 0 < c → same_move m (row_at move_row moves (c - 1)) ≡ false
-      → r ≡ last_below (words_key_at moves) (words_key_at moves (c - 1)) (c - 1) → Missed moves n m r
-  missed_more c r w p f e =
-      let l : c ≤ n = w.within in
-      let b : last_below (words_key_at moves) (words_key_at moves (c - 1)) (c - 1) ≤ c - 1 = last_below_lem (words_key_at moves) (words_key_at moves (c - 1)) (c - 1) in
-      let s : c ≡ suc (c - 1) = omega arith in
-      let q : words_key_at moves (c - 1) ≡ words_key m = w.keyed (c - 1) s in
+  pub missed_more : (j r : ℕ) → Missed moves n m (j + 1) → same_move m (row_at move_row moves j) ≡ false
+      → r ≡ last_below (words_key_at moves) (words_key_at moves j) j → Missed moves n m r
+  missed_more j r w f e =
+      let l : j + 1 ≤ n = w.within in
+      let b : last_below (words_key_at moves) (words_key_at moves j) j ≤ j = last_below_lem (words_key_at moves) (words_key_at moves j) j in
+      let q : words_key_at moves j ≡ words_key m = w.keyed j (omega arith) in
       record {
         within = omega arith;
-        keyed = λ i s. (last_key (words_key_at moves) (words_key_at moves (c - 1)) (c - 1) i (sym e ∙ s)).1 ∙ q;
+        keyed = λ i s. (last_key (words_key_at moves) (words_key_at moves j) j i (sym e ∙ s)).1 ∙ q;
         differ =
-            λ i x h. by_test (ltb i (c - 1))
-            (λ t. let y : i < c - 1 = ltb-true i (c - 1) t in
-            other_key i (λ s. last_none (words_key_at moves) (words_key_at moves (c - 1)) (c - 1) i (omega arith) y (s ∙ sym q)))
-            (λ t. let y : c - 1 ≤ i = ltb-false i (c - 1) t in
-            by_test (ltb i c)
-            (λ t. let v : i < c = ltb-true i c t in
-            let z : c - 1 ≡ i = omega arith in
-            subst (λ (j : ℕ). same_move m (row_at move_row moves j) ≡ false) z f)
-            (λ t. w.differ i (ltb-false i c t) h));
+            λ i x h. by_test (ltb i j)
+            (λ t. let y : i < j = ltb-true i j t in
+            other_key i (λ s. last_none (words_key_at moves) (words_key_at moves j) j i (omega arith) y (s ∙ sym q)))
+            (λ t. let y : j ≤ i = ltb-false i j t in
+            by_test (ltb i (j + 1))
+            (λ t. let v : i < j + 1 = ltb-true i (j + 1) t in
+            let z : j ≡ i = omega arith in
+            subst (λ (k : ℕ). same_move m (row_at move_row moves k) ≡ false) z f)
+            (λ t. w.differ i (ltb-false i (j + 1) t) h));
       }
 
   -- move i is m

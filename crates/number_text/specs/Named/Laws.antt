@@ -2,7 +2,8 @@
 -- Assumes nothing.
 use Rattle.std.specs.Prelude.{ℕ, zero, suc, ◌+◌, ◌*◌, ◌-◌, ◌/◌, ◌%◌, ◌≤◌, ◌<◌, min, ◌≡◌, length, get_or, take, ltb}
 use Rattle.std.proofs.Math.Path.{refl, ap}
-use Rattle.std.proofs.Common.{sym, ◌∙◌, add-one, take_all, take-suc}
+use Rattle.std.proofs.Common.{inl, inr, sym, ◌∙◌, add-one, take_all, take-suc}
+use Rattle.std.specs.Char.{IsNotAsciiDigit}
 use mathlib.Core.List.{List, [], ◌∷◌, ◌++◌, foldl, foldl-append}
 use Rattle.std.proofs.Math.Nat.{min-eq_left, min-eq_right}
 use native.Mathlib.Omega.{arith}
@@ -18,15 +19,19 @@ module _ (most : ℕ) where
   -- ---- one byte more
 
   module _ (n b : ℕ) where
-    pub below_digits : b < 48 → with_digit most n b ≡ most
+    below_digits : b < 48 → with_digit most n b ≡ most
     unfolding with_digit
     below_digits h = rw (with_digit, lt-leb 48 b h) refl
 
-    pub above_digits : 57 < b → with_digit most n b ≡ most
+    above_digits : 57 < b → with_digit most n b ≡ most
     unfolding with_digit
     above_digits h =
         let l : 48 ≤ b = omega arith in
         rw (with_digit, le-leb 48 b l, lt-leb b 57 h) refl
+
+    pub no_digit : IsNotAsciiDigit b → most ≡ with_digit most n b
+    no_digit (inl h) = sym (below_digits h)
+    no_digit (inr h) = sym (above_digits h)
 
     pub digit_adds : 48 ≤ b → b ≤ 57 → with_digit most n b ≡ min (n * 10 + (b - 48)) most
     unfolding with_digit

@@ -1,8 +1,7 @@
 -- Numbers written one after another: a space before each, and a space between.
 -- Assumes nothing.
-use Rattle.std.specs.Prelude.{ℕ, suc, ◌-◌, ◌+◌, ◌*◌, ◌≤◌, ◌<◌, ◌≡◌, refl, List, [], ◌∷◌, ◌++◌, length, get_or, take, drop}
-use Rattle.std.proofs.Common.{ap, sym, ◌∙◌, add-zero, add-one, arith, length-take, take_all}
-use Rattle.std.proofs.Math.Nat.{min-le_left}
+use Rattle.std.specs.Prelude.{ℕ, ◌+◌, ◌*◌, ◌≤◌, ◌<◌, ◌≡◌, refl, List, ◌∷◌, ◌++◌, length, get_or, take}
+use Rattle.std.proofs.Common.{ap, sym, ◌∙◌, add-zero, add-one, arith, take_all}
 use Rattle.words.specs.Lists.{each}
 use Rattle.words.specs.Lists.Laws.{each_take, length_zero}
 use Rattle.services.specs.Listing.{ascii, decimal}
@@ -58,18 +57,7 @@ unfolding numbers_text
 no_numbers_lem ns l at e =
     (written_same (ap numbers_text (sym (length_zero ns e))) (record { place = sym (add-zero at); is = refl }), omega arith)
 
--- the numbers behind the first
-pub others_count : (ns : List ℕ) → length (take (length ns - 1) (drop 1 ns)) ≤ length ns - 1
-others_count ns =
-    let l = length-take (length ns - 1) (drop 1 ns) in
-    let m = min-le_left (length ns - 1) (length (drop 1 ns)) in
-    omega arith
-
 -- the first number, and the others with a space before each
-pub some_numbers : (ns : List ℕ) {n : ℕ} → 0 < length ns → n ≡ get_or ns 0 0
-    → decimal n ++ spaced_numbers (take (length ns - 1) (drop 1 ns)) ≡ numbers_text ns
+pub some_numbers : {ns others : List ℕ} {m n : ℕ} → ns ≡ m ∷ others → n ≡ m → decimal n ++ spaced_numbers others ≡ numbers_text ns
 unfolding numbers_text
-some_numbers [] h is = absurd (omega arith)
-some_numbers (m ∷ ns) {n} h is =
-    let all : take (suc (length ns) - 1) ns ≡ ns = take_all (suc (length ns) - 1) ns (omega arith) in
-    ap (λ (k : ℕ). decimal k ++ spaced_numbers (take (suc (length ns) - 1) ns)) is ∙ ap (λ (l : List ℕ). decimal m ++ spaced_numbers l) all
+some_numbers {others = others} e is = ap (λ (k : ℕ). decimal k ++ spaced_numbers others) is ∙ ap numbers_text (sym e)

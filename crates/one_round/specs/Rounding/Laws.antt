@@ -1,7 +1,6 @@
 -- What a round leaves in the tables, or that it passes a limit.
 -- Assumes nothing.
-use Rattle.std.specs.Prelude.{ℕ, ◌+◌, ◌-◌, ◌*◌, ◌≤◌, ◌<◌, Bool, true, false, ◌≡◌, List, leb, ltb}
-use Rattle.std.proofs.lemmas.Bool.{false≢true}
+use Rattle.std.specs.Prelude.{ℕ, ◌+◌, ◌-◌, ◌*◌, ◌≤◌, ◌<◌, ◌≡◌, List, leb, ltb, Option, Some, None}
 use Rattle.std.proofs.Math.Bool.{not}
 use Rattle.std.proofs.Math.Path.{refl, ap, sym}
 use Rattle.std.proofs.Common.{◌∙◌, subst, inl, inr}
@@ -25,8 +24,8 @@ use Rattle.tables.specs.Pending.Laws.{limited_fits, limited_over, pending_fits, 
 use Rattle.tables.specs.Held.{automaton_of, EntriesStand, MovesStand}
 use Rattle.tables.specs.Counts.{CountsStand}
 use Rattle.results.specs.Collecting.{new_results}
-use Rattle.added_results.specs.Adding.{Grows, Added}
-use Rattle.one_round.specs.Rounding.{Standing, Rounded}
+use Rattle.added_results.specs.Adding.{Grows, Over, Added, CountsKept}
+use Rattle.one_round.specs.Rounding.{Standing, Exceeds, Rounded}
 
 pub standing_entries : (z : Table) (most_moves most_entries : ℕ) (inner entries moves : List ℕ) → Standing z most_moves most_entries inner entries moves → EntriesStand z entries
 standing_entries z most_moves most_entries inner entries moves s =
@@ -87,38 +86,25 @@ module _ (rules : List Rule) where
         ∙ add_all_length (automaton_of z inner entries moves) (new_results rules (automaton_of z inner entries moves))
         ∙ ap (λ (k : ℕ). k + length (new_results rules (automaton_of z inner entries moves))) (length_rows_in move_row z.moves moves)
 
-    pub rounded_over : most_moves - z.moves < n → Rounded rules inner z most_moves most_entries entries moves false z entries moves
+    pub rounded_over : most_moves - z.moves < n → Exceeds rules inner z most_moves most_entries entries moves entries moves
     rounded_over l =
         let a : most_moves - z.moves < length (new_results rules (automaton_of z inner entries moves)) = collected_over l in
         let b : length (round rules (automaton_of z inner entries moves)).moves ≡ z.moves + length (new_results rules (automaton_of z inner entries moves)) = next_moves in
-        record {
-          grows = λ e. absurd (false≢true e);
-          standing = λ e. absurd (false≢true e);
-          over = λ e. inl (omega arith);
-          entries_long = refl;
-          moves_long = refl;
-        }
+        record { over = inl (omega arith); entries_long = refl; moves_long = refl }
 
-    pub rounded_added : (fits : Bool) (z' : Table) (entries' moves' : List ℕ) → n ≤ most_moves - z.moves
-        → Added z most_entries entries moves (rows_in result_row n pending) fits z' entries' moves' → CountsStand z' entries' moves'
-        → Rounded rules inner z most_moves most_entries entries moves fits z' entries' moves'
-    rounded_added fits z' entries' moves' l a k =
-        let b : Added z most_entries entries moves (new_results rules (automaton_of z inner entries moves)) fits z' entries' moves' =
-        subst (λ (k : List Result). Added z most_entries entries moves k fits z' entries' moves') (collected_rows l) a in
+    pub rounded_added : (r : Option Table) (entries' moves' : List ℕ) → n ≤ most_moves - z.moves
+        → Added z most_entries entries moves (rows_in result_row n pending) r entries' moves' → CountsKept r entries' moves'
+        → Rounded rules inner z most_moves most_entries entries moves r entries' moves'
+    rounded_added (Some z') entries' moves' l a k =
+        let b : Grows z entries moves (new_results rules (automaton_of z inner entries moves)) z' entries' moves' × (z'.entries ≤ most_entries) =
+        subst (λ (k : List Result). Grows z entries moves k z' entries' moves' × (z'.entries ≤ most_entries)) (collected_rows l) a in
         let len : length (new_results rules (automaton_of z inner entries moves)) ≡ n = sym (ap length (collected_rows l)) ∙ length_rows_in result_row n pending in
-        record {
-          grows = λ e. b.grows e;
-          standing = λ e. grown_standing fits z' entries' moves' b e (omega (arith, s.moves_few)) k;
-          over = λ e. inr (subst (λ (A : Automaton). most_entries < length A.entries) (sym (round_is (automaton_of z inner entries moves))) (b.over e inner));
-          entries_long = b.entries_long;
-          moves_long = b.moves_long;
-        }
+        record { grows = b.0; standing = grown_standing z' entries' moves' b.0 b.1 (omega (arith, s.moves_few)) k }
       where
-        grown_standing : (fits : Bool) (z' : Table) (entries' moves' : List ℕ)
-            → Added z most_entries entries moves (new_results rules (automaton_of z inner entries moves)) fits z' entries' moves' → fits ≡ true
+        grown_standing : (z' : Table) (entries' moves' : List ℕ)
+            → Grows z entries moves (new_results rules (automaton_of z inner entries moves)) z' entries' moves' → z'.entries ≤ most_entries
             → z.moves + length (new_results rules (automaton_of z inner entries moves)) ≤ most_moves → CountsStand z' entries' moves' → Standing z' most_moves most_entries inner entries' moves'
-        grown_standing fits z' entries' moves' b e m counts =
-            let g : Grows z entries moves (new_results rules (automaton_of z inner entries moves)) z' entries' moves' = b.grows e in
+        grown_standing z' entries' moves' g within m counts =
             let more : z'.moves ≡ z.moves + length (new_results rules (automaton_of z inner entries moves)) = g.moves_more in
             let states : z'.inner1 ≡ z.inner1 = g.same_states in
             let edges : z'.edges ≡ z.edges = g.same_edges in
@@ -130,8 +116,16 @@ module _ (rules : List Rule) where
             let room : z.edges * 3 ≤ length inner = s.edges.edges_lent in
             record {
               edges = record { edges_lent = omega arith; firsts_small = λ i h. s.edges.firsts_small i (omega arith) };
-              growing = record { entries_few = b.within e; entries_lent = omega arith; states_few = omega arith };
+              growing = record { entries_few = within; entries_lent = omega arith; states_few = omega arith };
               moves_few = omega arith;
               moves_lent = omega arith;
               counts = counts;
             }
+    rounded_added None entries' moves' l a k =
+        let b : Over z most_entries entries moves (new_results rules (automaton_of z inner entries moves)) entries' moves' =
+        subst (λ (k : List Result). Over z most_entries entries moves k entries' moves') (collected_rows l) a in
+        record {
+          over = inr (subst (λ (A : Automaton). most_entries < length A.entries) (sym (round_is (automaton_of z inner entries moves))) (b.over inner));
+          entries_long = b.entries_long;
+          moves_long = b.moves_long;
+        }

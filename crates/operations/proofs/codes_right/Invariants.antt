@@ -1,11 +1,10 @@
--- `operations::codes_right`: what its loops keep.
-use Prim.Native.Nat.{◌-◌}
-use lib.ListN.{length}
-use Rattle.operations.specs.Laws.Codes.{RightFrom}
+-- `operations::codes_right`: what its loop keeps.
+use Rattle.std.proofs.Common.{◌≡◌, length}
+use Rattle.files.specs.Codes.{codes_right}
 use Rattle.operations.proofs.codes_right.Given as goal
 
-abbrev pub invariant-loop-i : goal.invariant-loop-i
-invariant-loop-i l = RightFrom l.codes l.i
+abbrev pub invariant-loop-c : goal.invariant-loop-c
+invariant-loop-c l = codes_right l.codes ≡ codes_right l.rest
 
-abbrev pub decreases-loop-i : goal.decreases-loop-i
-decreases-loop-i l = length l.codes - l.i
+abbrev pub decreases-loop-c : goal.decreases-loop-c
+decreases-loop-c l = length l.rest

@@ -1,17 +1,21 @@
 -- `operations::our_code` meets its contract.
 -- Assumes nothing.
-use Rattle.operations.specs.Laws.Codes.{past_none, past_found, past_more, past_all}
-use borrow.Author.Rules.{rules}
+use Rattle.std.proofs.Common.{◌≡◌, eqb, ◌∙◌, rules, tests}
+use Rattle.std.specs.List.{position_from}
+use Rattle.std.proofs.lemmas.Iterator.{YieldsList-from_slice}
+use Rattle.std.proofs.lemmas.Iterator.Adapters.{position_from-zero}
+use Rattle.std.proofs.lemmas.Iterator.Search.{position_from_yields_List}
+use Rattle.operations.specs.Laws.Codes.{found_at, found_none}
+use Rattle.operations.proofs.our_code.Goals.{After-position}
 use Rattle.operations.proofs.our_code.Goals as goal
 
-pub loop-i-init : goal.loop-i-init
-loop-i-init c = past_none _ _
+found : (c : After-position) → c.position.result ≡ position_from (λ y. eqb y c.args.x) 0 c.args.codes.now
+found c =
+    position_from_yields_List (λ y. eqb y c.args.x) _ _ c.position.result c.position.ensures.ran (YieldsList-from_slice _ c.iter.ensures.rest) (λ x b q k. search (rules, tests))
+    ∙ position_from-zero (λ y. eqb y c.args.x) c.args.codes.now
 
-pub returns-then-byte_at-x : goal.returns-then-byte_at-x
-returns-then-byte_at-x c = past_found _ _ _ c.loop-i.invariant (search rules) c.byte_at.ensures.value c.if-byte_at-x.true
-
-pub loop-i-preserved : goal.loop-i-preserved
-loop-i-preserved c = past_more _ _ _ c.loop-i.invariant (search rules) c.byte_at.ensures.value c.if-byte_at-x.false
+pub returns-in_err-place : goal.returns-in_err-place
+returns-in_err-place c = rw c.from_residual.ensures (found_none c.args.x c.args.codes.now (found (goal.at.returns-in_err-place c).After-position) c.in_err-place.was)
 
 pub returns : goal.returns
-returns c = past_all _ _ _ c.loop-i.invariant (search rules)
+returns c = found_at c.args.x c.args.codes.now (found (goal.at.returns c).After-position) c.in_ok-place.was

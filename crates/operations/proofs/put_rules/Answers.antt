@@ -6,7 +6,6 @@ use mathlib.Core.Path.{ap, ◌∙◌}
 use mathlib.Core.List.{List}
 use lib.Seq.{sets}
 use Rattle.files.specs.Codes.{in_our_codes}
-use Rattle.bytes_in.specs.Records.Laws.{part_is}
 use Rattle.operations.proofs.put_rules.Goals as goal
 
 pub loop-i-init : goal.loop-i-init
@@ -16,4 +15,4 @@ pub loop-i-preserved : goal.loop-i-preserved
 loop-i-preserved c =
     put_more c.loop-i.invariant c.loop-i-test.true
     (c.put_rule.ensures
-    ∙ ap (λ (x : List ℕ). sets c.loop-i.rules (c.loop-i.i * 5) (in_our_codes c.args.codes.now x)) (part_is 5 c.loop-i.i c.args.body.now))
+    ∙ ap (λ (x : List ℕ). sets c.loop-i.rules (c.loop-i.i * 5) (in_our_codes c.args.codes.now x)) c.record-x.ensures.value)

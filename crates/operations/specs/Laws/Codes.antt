@@ -1,8 +1,12 @@
 -- The codes of a record, one after another.
 -- Assumes nothing.
-use Rattle.std.specs.Prelude.{ℕ, suc, ◌+◌, ◌-◌, ◌<◌, ◌≤◌, true, false, ◌≡◌, refl, length, get_or, take}
+use Rattle.std.specs.Prelude.{ℕ, suc, ◌+◌, ◌≤◌, Bool, true, false, not, ◌&&◌, ◌≡◌, refl, length, eqb, Option, Some, None, unwrap_or, option_map}
+use Rattle.std.specs.List.{position_from, list_any}
+use Rattle.std.proofs.Math.Bool.{and-false}
+use Rattle.words.specs.Laws.Tests.{by_test}
+use Rattle.words.specs.Lists.Laws.{length_zero}
 use Rattle.std.proofs.Math.Path.{ap, sym}
-use Rattle.std.proofs.Common.{ap₂, ◌∙◌, add-one, arith, length-drop, drop_of_length-le, drop-cons, take_all}
+use Rattle.std.proofs.Common.{◌∙◌, add-one, arith, drop_of_length-le}
 use mathlib.Core.List.{List, [], ◌∷◌}
 use Rattle.std.proofs.Math.ListN.{drop}
 use Rattle.std.proofs.lemmas.List.Edits.{sets-eq}
@@ -10,76 +14,56 @@ use borrow.Author.Tests.{eq-eqb, ne_eqb}
 use Rattle.words.specs.Copied.{Copied}
 use Rattle.words.specs.Copied.Laws.{copied_sets}
 use Rattle.files.specs.Codes.{our_codes, number_from, our_code, codes_right}
-use Rattle.files.specs.Codes.Laws.{number_here, number_later}
 
 -- ---- our code for a tool's code
 
--- x is not among the first i codes
-abbrev pub PastCodes : List ℕ → ℕ → ℕ → Type 0
-PastCodes codes x i = our_code codes x ≡ number_from (i + 1) (drop i codes) x
-
-pub past_none : (codes : List ℕ) (x : ℕ) → PastCodes codes x 0
-unfolding our_code
-past_none codes x = refl
-
-module _ (codes : List ℕ) (x i : ℕ) where
-  pub past_found : {c : ℕ} → PastCodes codes x i → i < length codes → c ≡ get_or codes i 0 → c ≡ x → i + 1 ≡ our_code codes x
-  past_found p l e f =
-      sym (p ∙ ap (λ (l : List ℕ). number_from (i + 1) l x) (drop-cons codes i 0 l) ∙ number_here (i + 1) (get_or codes i 0) (drop (suc i) codes) x (sym e ∙ f))
-
-  pub past_more : {c : ℕ} → PastCodes codes x i → i < length codes → c ≡ get_or codes i 0 → (c ≡ x → ⊥) → PastCodes codes x (i + 1)
-  past_more p l e f =
-      p
-      ∙ ap (λ (l : List ℕ). number_from (i + 1) l x) (drop-cons codes i 0 l)
-      ∙ number_later (i + 1) (get_or codes i 0) (drop (suc i) codes) x (λ q. f (e ∙ q))
-      ∙ ap (λ (k : ℕ). number_from (suc (i + 1)) (drop k codes) x) (sym (add-one i))
-      ∙ ap (λ (k : ℕ). number_from k (drop (i + 1) codes) x) (sym (add-one (i + 1)))
-
-  pub past_all : PastCodes codes x i → length codes ≤ i → 0 ≡ our_code codes x
+module _ (x : ℕ) where
+  number_at : (n : ℕ) (codes : List ℕ) → unwrap_or (option_map suc (position_from (λ c. eqb c x) n codes)) 0 ≡ number_from (suc n) codes x
   unfolding number_from
-  past_all p l = sym (p ∙ ap (λ (l : List ℕ). number_from (i + 1) l x) (drop_of_length-le codes l))
+  number_at n [] = refl
+  number_at n (c ∷ cs) = by_test (eqb c x)
+      (λ e. rw (number_from, e))
+      (λ e. rw (number_from, e, add-one) (number_at (suc n) cs))
 
--- ---- a right record
+  pub found_at : (codes : List ℕ) {r : Option ℕ} {i : ℕ} → r ≡ position_from (λ c. eqb c x) 0 codes → r ≡ Some i → i + 1 ≡ our_code codes x
+  unfolding our_code
+  found_at codes {i = i} p e =
+      add-one i ∙ ap (λ (o : Option ℕ). unwrap_or (option_map suc o) 0) (sym e ∙ p) ∙ number_at 0 codes
 
--- the codes are right if those from number i on are
-abbrev pub RightFrom : List ℕ → ℕ → Type 0
-RightFrom codes i = codes_right codes ≡ codes_right (drop i codes)
+  pub found_none : (codes : List ℕ) {r : Option ℕ} → r ≡ position_from (λ c. eqb c x) 0 codes → r ≡ None → 0 ≡ our_code codes x
+  unfolding our_code
+  found_none codes p e = ap (λ (o : Option ℕ). unwrap_or (option_map suc o) 0) (sym e ∙ p) ∙ number_at 0 codes
 
-module _ (codes : List ℕ) (i : ℕ) (p : RightFrom codes i) (l : i < length codes) where
-  -- the codes after number i, as a part of the record
-  rest_is : take (length codes - (i + 1)) (drop (i + 1) codes) ≡ drop (suc i) codes
-  rest_is =
-      let d : length (drop (i + 1) codes) ≡ length codes - (i + 1) = length-drop (i + 1) codes in
-      take_all (length codes - (i + 1)) (drop (i + 1) codes) (omega arith) ∙ ap (λ (k : ℕ). drop k codes) (add-one i)
+  -- ---- a right record
 
-  pub right_zero : get_or codes i 0 ≡ 0 → false ≡ codes_right codes
+  none_after : (n : ℕ) (codes : List ℕ) → eqb (number_from (suc n) codes x) 0 ≡ not (list_any (λ y. eqb y x) codes)
+  unfolding number_from
+  none_after n [] = refl
+  none_after n (c ∷ cs) = by_test (eqb c x)
+      (λ e. rw (number_from, e, ne_eqb (suc n) 0 (λ z. omega arith)))
+      (λ e. rw (number_from, e) (none_after (suc n) cs))
+
+-- one code and those after it
+codes_cons : (c : ℕ) (cs : List ℕ) → codes_right (c ∷ cs) ≡ not (eqb c 0) && not (list_any (λ y. eqb y c) cs) && codes_right cs
+unfolding codes_right our_code
+codes_cons c cs = rw (codes_right, none_after c 0 cs)
+
+-- the codes are right if those that are left are
+module _ (codes rest : List ℕ) (p : codes_right codes ≡ codes_right rest) where
+  pub right_all : length rest ≡ 0 → true ≡ codes_right codes
   unfolding codes_right
-  right_zero e = sym (p ∙ ap codes_right (drop-cons codes i 0 l) ∙ rw (eq-eqb (get_or codes i 0) 0 e))
+  right_all e = sym (p ∙ ap codes_right (length_zero rest e))
 
-  module _ {c r : ℕ} (e : c ≡ get_or codes i 0) (f : r ≡ our_code (take (length codes - (i + 1)) (drop (i + 1) codes)) c) (some : c ≡ 0 → ⊥) where
-    -- what is found is the code's number among those after it
-    after_is : our_code (drop (suc i) codes) (get_or codes i 0) ≡ r
-    after_is = sym (f ∙ ap₂ our_code rest_is e)
+  module _ {c : ℕ} {after : List ℕ} (e : rest ≡ c ∷ after) where
+    pub right_zero : c ≡ 0 → false ≡ codes_right codes
+    right_zero z = sym (p ∙ ap codes_right e ∙ codes_cons c after ∙ rw (eq-eqb c 0 z))
 
-    not_zero : get_or codes i 0 ≡ 0 → ⊥
-    not_zero z = some (e ∙ z)
+    module _ {r : Bool} (f : r ≡ list_any (λ y. eqb y c) after) where
+      pub right_again : r ≡ true → false ≡ codes_right codes
+      right_again t = sym (p ∙ ap codes_right e ∙ codes_cons c after ∙ rw (← f, t) (ap (λ (b : Bool). b && codes_right after) (and-false (not (eqb c 0)))))
 
-    pub right_again : (r ≡ 0 → ⊥) → false ≡ codes_right codes
-    unfolding codes_right
-    right_again g =
-        let h : our_code (drop (suc i) codes) (get_or codes i 0) ≡ 0 → ⊥ = λ z. g (sym after_is ∙ z) in
-        sym (p ∙ ap codes_right (drop-cons codes i 0 l) ∙ rw (ne_eqb (get_or codes i 0) 0 not_zero, ne_eqb (our_code (drop (suc i) codes) (get_or codes i 0)) 0 h))
-
-    pub right_more : r ≡ 0 → RightFrom codes (i + 1)
-    unfolding codes_right
-    right_more g =
-        let rest : codes_right (get_or codes i 0 ∷ drop (suc i) codes) ≡ codes_right (drop (suc i) codes) =
-        rw (ne_eqb (get_or codes i 0) 0 not_zero, eq-eqb (our_code (drop (suc i) codes) (get_or codes i 0)) 0 (after_is ∙ g)) in
-        p ∙ ap codes_right (drop-cons codes i 0 l) ∙ rest ∙ ap (λ (k : ℕ). codes_right (drop k codes)) (sym (add-one i))
-
-pub right_all : (codes : List ℕ) (i : ℕ) → RightFrom codes i → length codes ≤ i → true ≡ codes_right codes
-unfolding codes_right
-right_all codes i p l = sym (p ∙ ap codes_right (drop_of_length-le codes l))
+      pub right_more : (c ≡ 0 → ⊥) → r ≡ false → codes_right codes ≡ codes_right after
+      right_more some t = p ∙ ap codes_right e ∙ codes_cons c after ∙ rw (ne_eqb c 0 some, ← f, t)
 
 -- ---- our codes
 

@@ -3,7 +3,7 @@
 use mathlib.Core.Path.{refl, ap, ◌∙◌}
 use native.Mathlib.Omega.{arith}
 use Rattle.rounds.specs.Won.{is_won}
-use Rattle.saturation.specs.Held.{saturated_in}
+use Rattle.saturation.specs.Held.{saturated_on}
 use Rattle.acceptance.specs.Cells.Laws.{states_below}
 use Rattle.sound_files.specs.Sound.Rounds.{made_zero}
 use Rattle.own_target.specs.Target.Laws.{made_room, won_in_target}
@@ -18,4 +18,4 @@ pub returns : goal.returns
 returns c =
     let r = c.fill_rounds in
     c.is_won.ensures ∙ ap is_won c.accepted.ensures.value
-    ∙ won_in_target (saturated_in c.args.z _ _ _ _ _) (states_below c.requires.0) _ _ r.ensures.filled _ _ c.requires.1.root_exists c.requires.1.root_order
+    ∙ won_in_target (saturated_on c.args.tables.now _ _) (states_below c.requires.0) _ _ r.ensures.filled _ _ c.requires.1.root_exists c.requires.1.root_order

@@ -2,33 +2,36 @@
 -- Assumes nothing.
 use mathlib.Core.Path.{ap, ◌∙◌}
 use Rattle.words.specs.Lists.{zeros}
-use Rattle.replay.specs.Service.Laws.{run_ready, left_refused, left_run, meets}
+use Rattle.replay.specs.Service.Laws.{left, meets}
 use borrow.Author.Rules.{rules}
 use Rattle.replay.proofs.replay.Goals as goal
 
-pub returns-then-refusal-ne0-clause-cells_after : goal.returns-then-refusal-ne0-clause-cells_after
-returns-then-refusal-ne0-clause-cells_after c =
-    (meets _ _ (left_refused _ _ _ _ _ c.zero_u8.ensures c.refusal_of-refusal.ensures c.if-refusal-ne0.true)).0
+pub returns-in-Ok-clause-cells_after : goal.returns-in-Ok-clause-cells_after
+returns-in-Ok-clause-cells_after c =
+    let h = (meets _ _ (left _ _ _ _ _ (c.zero.ensures ∙ ap zeros c.replay_files-replayed.auto.cells) c.in-Ok.ensures)).0 in
+    search (rules, h)
 
-pub returns-then-refusal-ne0-clause-demand1 : goal.returns-then-refusal-ne0-clause-demand1
-returns-then-refusal-ne0-clause-demand1 c =
-    (meets _ _ (left_refused _ _ _ _ _ c.zero_u8.ensures c.refusal_of-refusal.ensures c.if-refusal-ne0.true)).1.0
+pub returns-in-Ok-clause-demand1 : goal.returns-in-Ok-clause-demand1
+returns-in-Ok-clause-demand1 c =
+    let h = (meets _ _ (left _ _ _ _ _ (c.zero.ensures ∙ ap zeros c.replay_files-replayed.auto.cells) c.in-Ok.ensures)).1.0 in
+    search (rules, h)
 
-pub returns-then-refusal-ne0-clause-exactly : goal.returns-then-refusal-ne0-clause-exactly
-returns-then-refusal-ne0-clause-exactly c =
-    (meets _ _ (left_refused _ _ _ _ _ c.zero_u8.ensures c.refusal_of-refusal.ensures c.if-refusal-ne0.true)).1.1
+pub returns-in-Ok-clause-exactly : goal.returns-in-Ok-clause-exactly
+returns-in-Ok-clause-exactly c =
+    let h = (meets _ _ (left _ _ _ _ _ (c.zero.ensures ∙ ap zeros c.replay_files-replayed.auto.cells) c.in-Ok.ensures)).1.1 in
+    search (rules, h)
 
-pub replay_sound-reply-requires : goal.replay_sound-reply-requires
-replay_sound-reply-requires c = run_ready _ _ _ _ _ c.refusal_of-refusal.ensures c.if-refusal-ne0.false c.cells_lent-most.ensures
+pub returns-in-Err-clause-cells_after : goal.returns-in-Err-clause-cells_after
+returns-in-Err-clause-cells_after c =
+    let h = (meets _ _ (left _ _ _ _ _ (c.zero.ensures ∙ ap zeros c.replay_files-replayed.auto.cells) c.in-Err.ensures)).0 in
+    search (rules, h)
 
-pub returns-clause-cells_after : goal.returns-clause-cells_after
-returns-clause-cells_after c =
-    (meets _ _ (left_run _ _ _ _ _ (c.zero_u8-2.ensures ∙ ap zeros (search rules)) c.refusal_of-refusal.ensures c.if-refusal-ne0.false c.cells_lent-most.ensures c.replay_sound-reply.ensures)).0
+pub returns-in-Err-clause-demand1 : goal.returns-in-Err-clause-demand1
+returns-in-Err-clause-demand1 c =
+    let h = (meets _ _ (left _ _ _ _ _ (c.zero.ensures ∙ ap zeros c.replay_files-replayed.auto.cells) c.in-Err.ensures)).1.0 in
+    search (rules, h)
 
-pub returns-clause-demand1 : goal.returns-clause-demand1
-returns-clause-demand1 c =
-    (meets _ _ (left_run _ _ _ _ _ (c.zero_u8-2.ensures ∙ ap zeros (search rules)) c.refusal_of-refusal.ensures c.if-refusal-ne0.false c.cells_lent-most.ensures c.replay_sound-reply.ensures)).1.0
-
-pub returns-clause-exactly : goal.returns-clause-exactly
-returns-clause-exactly c =
-    (meets _ _ (left_run _ _ _ _ _ (c.zero_u8-2.ensures ∙ ap zeros (search rules)) c.refusal_of-refusal.ensures c.if-refusal-ne0.false c.cells_lent-most.ensures c.replay_sound-reply.ensures)).1.1
+pub returns-in-Err-clause-exactly : goal.returns-in-Err-clause-exactly
+returns-in-Err-clause-exactly c =
+    let h = (meets _ _ (left _ _ _ _ _ (c.zero.ensures ∙ ap zeros c.replay_files-replayed.auto.cells) c.in-Err.ensures)).1.1 in
+    search (rules, h)

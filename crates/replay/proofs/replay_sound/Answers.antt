@@ -22,16 +22,16 @@ put_rules-requires c = (case_in_place _ c.requires.0.sound_case, omega (arith, l
 pub count_of-count-requires : goal.count_of-count-requires
 count_of-count-requires c = omega (arith, long_enough _ c.requires.0.sound_case)
 
-pub replay_trace-ended-requires : goal.replay_trace-ended-requires
-replay_trace-ended-requires c =
+pub replay_trace-requires : goal.replay_trace-requires
+replay_trace-requires c =
     let S = c.start_place-w.ensures in
     (rules_stand _ c.requires.0.sound_case _ _ (holds_rules _ (case_in_place _ c.requires.0.sound_case) c.count_of-count.ensures.value c.put_rules.ensures), S.stands, omega (arith, S.cells_are, c.requires.2), search rules, search rules)
 
-pub returns-in-Answered : goal.returns-in-Answered
-returns-in-Answered c =
-    from_start _ _ _ _ _ (rules_are _ c.requires.0.sound_case _ _ (holds_rules _ (case_in_place _ c.requires.0.sound_case) c.count_of-count.ensures.value c.put_rules.ensures)) c.start_place-w.ensures (ended_as _ _ _ _ _ _ c.replay_trace-ended.ensures c.in-Answered.is _)
+pub returns-in-Err : goal.returns-in-Err
+returns-in-Err c =
+    from_start _ _ _ _ _ (rules_are _ c.requires.0.sound_case _ _ (holds_rules _ (case_in_place _ c.requires.0.sound_case) c.count_of-count.ensures.value c.put_rules.ensures)) c.start_place-w.ensures (ended_as _ _ _ _ _ _ c.replay_trace.ensures c.in-Err.is _)
 
-pub returns-in-At : goal.returns-in-At
-returns-in-At c =
-    let F = ended_as _ _ _ _ _ _ c.replay_trace-ended.ensures c.in-At.is in
+pub returns-in-Ok : goal.returns-in-Ok
+returns-in-Ok c =
+    let F = ended_as _ _ _ _ _ _ c.replay_trace.ensures c.in-Ok.is in
     from_start _ _ _ _ _ (rules_are _ c.requires.0.sound_case _ _ (holds_rules _ (case_in_place _ c.requires.0.sound_case) c.count_of-count.ensures.value c.put_rules.ensures)) c.start_place-w.ensures (answer_is _ F (sym (length_numbers _)) c.answer_at.ensures)

@@ -1,7 +1,7 @@
 -- What the service leaves is what its definition says, and meets the promises.
 -- Assumes nothing.
 use Prim.Native.Nat.{ℕ, ◌*◌, ◌%◌, ◌/◌, min, ◌≤◌, ◌<◌}
-use Rattle.std.specs.Prelude.{Bool, true, false, ◌≡◌, refl, List, [], eqb, leb}
+use Rattle.std.specs.Prelude.{Result, Bool, true, false, ◌≡◌, refl, List, [], eqb, leb}
 use Rattle.std.proofs.Math.Path.{ap, sym}
 use Rattle.std.proofs.Common.{◌∙◌, subst}
 use native.Mathlib.Omega.{arith}
@@ -30,7 +30,6 @@ use Rattle.sound_files.specs.Refusal.Laws.{before_case, before_start, before_pas
 use Rattle.sound_files.specs.Sound.Laws.{cells_count}
 use Rattle.replay_step.specs.declared.Place.{Place}
 use Rattle.replay_step.specs.Place.{place_configuration}
-use Rattle.replay_trace.specs.declared.Ended.{Ended}
 use Rattle.replay_trace.specs.Turns.{TraceFollows, TraceEnds}
 use Rattle.replay.specs.Start.{StartPlace}
 use Rattle.replay.specs.Service.{replay_input, replay_done, lent_cells, arrival_answer}
@@ -96,9 +95,9 @@ module _ (rules : List Rule) (own : Automaton) (most n used : ℕ) (d : Configur
   arrival_is false e = sym (replayed_missed rules own most n used d (sym e))
 
 -- what the steps come to, where that is known
-pub ended_as : (rules : List Rule) (most : ℕ) (ks : List ℕ) (w : Place) (bytes bytes' : List ℕ) {e f : Ended} → TraceEnds rules most ks w bytes e bytes' → e ≡ f
+pub ended_as : (rules : List Rule) (most : ℕ) (ks : List ℕ) (w : Place) (bytes bytes' : List ℕ) {e f : Result Place Replayed} → TraceEnds rules most ks w bytes e bytes' → e ≡ f
     → TraceEnds rules most ks w bytes f bytes'
-ended_as rules most ks w bytes bytes' a e = subst (λ (x : Ended). TraceEnds rules most ks w bytes x bytes') e a
+ended_as rules most ks w bytes bytes' a e = subst (λ (x : Result Place Replayed). TraceEnds rules most ks w bytes x bytes') e a
 
 -- after all steps
 pub answer_is : {rules : List Rule} {most : ℕ} {ks : List ℕ} {w : Place} {bytes : List ℕ} {v : Place} {bytes' : List ℕ} {r : Replayed} {n : ℕ} (own : Automaton)
@@ -145,32 +144,33 @@ module _ (case start : List ℕ) (number : ℕ) (trace : List ℕ) (bytes : ℕ)
       }
 
   -- what the replay asks
-  pub run_ready : {n c : ℕ} → n ≡ replay_refusal (replay_input case start number trace bytes) → n ≡ 0 → c ≡ lent_cells bytes
+  pub run_ready : {c : ℕ} → 0 ≡ replay_refusal (replay_input case start number trace bytes) → c ≡ lent_cells bytes
       → FilesSound case start × (number < length (starts_of start)) × (length (cells_of start) ≤ c) × (c * 6 ≤ bytes) × (c ≤ 4096)
   unfolding replay_files replay_cells
-  run_ready {n} {c} e z k =
-      let r = ready (sym e ∙ z) in
+  run_ready {c} e k =
+      let r = ready (sym e) in
       let fits : length (cells_of start) ≤ min (bytes / 6) 4096 = r.start_fits in
       (record { sound_case = r.sound_case; sound_start = r.sound_start }, r.start_there, omega arith, omega arith, omega arith)
 
-  -- what is left
-  module _ {bytes' : List ℕ} (zero : bytes' ≡ zeros bytes) where
-    pub left_refused : {n : ℕ} → n ≡ replay_refusal (replay_input case start number trace bytes) → (n ≡ 0 → ⊥)
-        → replay_done (Refused n) bytes' ≡ replay_service (replay_input case start number trace bytes)
-    unfolding replay_service
-    left_refused {n} e bad =
-        let r : Refused n ≡ replay_reply y (replay_refusal y) = sym (replay_refused y n bad) ∙ ap (replay_reply y) e in
-        λ i. record { reply = r i; cells = zero i }
+  -- what is answered
+  pub reply_refused : {n : ℕ} → n ≡ replay_refusal (replay_input case start number trace bytes) → (n ≡ 0 → ⊥)
+      → Refused n ≡ (replay_service (replay_input case start number trace bytes)).reply
+  unfolding replay_service
+  reply_refused {n} e bad = sym (replay_refused y n bad) ∙ ap (replay_reply y) e
 
-    pub left_run : {n c : ℕ} {r : Replayed} → n ≡ replay_refusal (replay_input case start number trace bytes) → n ≡ 0 → c ≡ lent_cells bytes
-        → r ≡ replayed (rules_of case) (own_of case) c 0 (length (cells_of start)) (configuration_at start number) (rule_numbers trace)
-        → replay_done r bytes' ≡ replay_service (replay_input case start number trace bytes)
-    unfolding replay_service replay_run replay_cells
-    left_run {n} {c} {r} e z k f =
-        let g : r ≡ replay_reply y (replay_refusal y) =
-        f ∙ ap (λ (m : ℕ). replayed (rules_of case) (own_of case) m 0 (length (cells_of start)) (configuration_at start number) (rule_numbers trace)) k
-        ∙ sym (replay_run_lem y) ∙ ap (replay_reply y) (sym z ∙ e) in
-        λ i. record { reply = g i; cells = zero i }
+  pub reply_run : {c : ℕ} {r : Replayed} → 0 ≡ replay_refusal (replay_input case start number trace bytes) → c ≡ lent_cells bytes
+      → r ≡ replayed (rules_of case) (own_of case) c 0 (length (cells_of start)) (configuration_at start number) (rule_numbers trace)
+      → r ≡ (replay_service (replay_input case start number trace bytes)).reply
+  unfolding replay_service replay_run replay_cells
+  reply_run {c} {r} e k f =
+      f ∙ ap (λ (m : ℕ). replayed (rules_of case) (own_of case) m 0 (length (cells_of start)) (configuration_at start number) (rule_numbers trace)) k
+      ∙ sym (replay_run_lem y) ∙ ap (replay_reply y) e
+
+  -- and what is left
+  pub left : {r : Replayed} {bytes' : List ℕ} → bytes' ≡ zeros bytes → r ≡ (replay_service (replay_input case start number trace bytes)).reply
+      → replay_done r bytes' ≡ replay_service (replay_input case start number trace bytes)
+  unfolding replay_service
+  left zero g = λ i. record { reply = g i; cells = zero i }
 
 -- ---- the promises
 

@@ -1,5 +1,4 @@
 -- `replay_cells::put_cells`: what its loops keep.
-use Prim.Native.Nat.{◌-◌}
 use mathlib.Core.Path.{◌≡◌}
 use lib.ListN.{length}
 use Rattle.walks.specs.Cell.{cells_after}
@@ -10,6 +9,3 @@ use Rattle.replay_cells.proofs.put_cells.Given as goal
 
 abbrev pub invariant-loop-i : goal.invariant-loop-i
 invariant-loop-i l = CellsPut put_bytes l.initial.cells l.n (cells_after (the_operation l.op) l.n l.x.symbol l.x.annotation l.x.rest l.x.below) l.i l.cells × (length l.cells ≡ length l.initial.cells)
-
-abbrev pub decreases-loop-i : goal.decreases-loop-i
-decreases-loop-i l = l.count - l.i

@@ -18,15 +18,15 @@ step_by-requires-clause-place_stands c =
     let rule = c.rule_at-rule.ensures in
     let bytes = c.type_inv.body in
     let small = rule_symbols _ _ (λ i. omega (arith, bytes i)) rule in
-    let told = c.in-At.is in
-    let top = c.top_in-found.ensures in
+    let told = c.in-Some.is in
+    let top = c.top_in.ensures in
     let there = c.if-count-at.false in
     (pre.1, ap found_top (sym told) ∙ top, small.0, small.1, next_small _ _ _ _ pre.0 there rule)
 
-pub returns-in-Nothing : goal.returns-in-Nothing
-returns-in-Nothing c =
-    taken_not _ _ _ c.if-count-at.false c.rule_at-rule.ensures _ (place_none c.requires.1 (ap found_top (sym c.in-Nothing.is) ∙ c.top_in-found.ensures) _)
+pub returns-in-None : goal.returns-in-None
+returns-in-None c =
+    taken_not _ _ _ c.if-count-at.false c.rule_at-rule.ensures _ (place_none c.requires.1 (ap found_top (sym c.in-None.is) ∙ c.top_in.ensures) _)
 
-pub returns-in-At : goal.returns-in-At
-returns-in-At c =
+pub returns-in-Some : goal.returns-in-Some
+returns-in-Some c =
     by_number _ _ _ c.if-count-at.false c.rule_at-rule.ensures _ c.args.w _ c.step_by.result _ c.step_by.ensures

@@ -1,6 +1,6 @@
 -- What a step answers is what document 01's line of the rule's operation leaves.
 -- Assumes nothing.
-use Rattle.std.specs.Prelude.{ℕ, ◌+◌, ◌*◌, ◌<◌, ◌≤◌, true, false, ◌≡◌, refl, length}
+use Rattle.std.specs.Prelude.{ℕ, Result, Ok, Err, ◌+◌, ◌*◌, ◌<◌, ◌≤◌, true, false, ◌≡◌, refl, length}
 use Rattle.std.proofs.Math.Path.{ap, subst}
 use Rattle.std.proofs.Common.{sym, ◌∙◌, arith}
 use Rattle.std.proofs.Math.Option.{none, some}
@@ -26,8 +26,8 @@ use Rattle.start_records.specs.Body.Laws.{length_cells_in}
 use Rattle.replay_cells.specs.CellBytes.{put_bytes}
 use Rattle.replay_cells.specs.CellBytes.Laws.{cells_in_puts}
 use Rattle.replay_step.specs.declared.Place.{Place}
-use Rattle.replay_step.specs.declared.Stepped.{Stepped}
-use Rattle.replay_step.specs.declared.Stepped.TheVariants.{Fails, Short, To}
+use Rattle.replay_step.specs.declared.Stop.{Stop}
+use Rattle.replay_step.specs.declared.Stop.TheVariants.{Fails, Short}
 use Rattle.replay_step.specs.Top.{top_in, rule_fits}
 use Rattle.replay_step.specs.Top.Laws.{StepOnCells, no_top, fits_not, fits}
 use Rattle.replay_step.specs.Place.{place_configuration, PlaceStands, Moved, RuleShort, RuleGoes, RuleAnswers, StepAnswers}
@@ -139,12 +139,12 @@ module _ (count k : ℕ) (body : List ℕ) (h : k < count) {ρ : Rule} (e : ρ �
   taken_not d f = rw (taken, numbered, f)
 
   -- what is answered for the rule is what is answered for its number
-  pub by_number : (most : ℕ) (w : Place) (bytes : List ℕ) (r : Stepped) (bytes' : List ℕ) → RuleAnswers ρ most w bytes r bytes'
+  pub by_number : (most : ℕ) (w : Place) (bytes : List ℕ) (r : Result Place Stop) (bytes' : List ℕ) → RuleAnswers ρ most w bytes r bytes'
       → StepAnswers (rules_in count body) most k w bytes r bytes'
-  by_number most w bytes Fails bytes' a = taken_not (place_configuration w bytes) a
-  by_number most w bytes Short bytes' a =
+  by_number most w bytes (Err Fails) bytes' a = taken_not (place_configuration w bytes) a
+  by_number most w bytes (Err Short) bytes' a =
       record { step_is = _; applies = taken_is (rules_in count body) k (place_configuration w bytes) numbered a.applies; lacks = a.lacks }
-  by_number most w bytes (To v) bytes' a =
+  by_number most w bytes (Ok v) bytes' a =
       record {
         more = new_cells ρ.operation;
         applies = taken_is (rules_in count body) k (place_configuration w bytes) numbered a.applies;

@@ -17,7 +17,11 @@ use Rattle.stacks.specs.System.{Rule, entered, step_on}
 use Rattle.walks.specs.Cell.{Cell, empty1, symbol, empty2, above, order1, order2, stack_at, stack_of, stacks, cells_after, root_after}
 use Rattle.walks.specs.Cell.Formed.{cell_order, cell_at, order_at, Formed, formed_symbol, formed_above, Takes, TopFormed, formed_after}
 use Rattle.walks.specs.Cell.Laws.{stack_at_lem, stack_order, annotation_of1, annotation_of2, length_cells_after, root_after_lem}
+use Rattle.case_records.specs.declared.Operation as Values
+use Rattle.case_records.specs.declared.Operation.TheVariants.{Rewrite, Push1, Push2, Copy, Pop1, Pop2, Collapse1, Collapse2}
+use Rattle.case_records.specs.Values.{the_operation}
 use Rattle.cell_memory.specs.declared.Cell as Value
+use Rattle.cell_memory.specs.declared.Cell.TheVariants.{Empty1, Symbol, Empty2, Above}
 use Rattle.cell_memory.specs.Memory as Memory
 use Rattle.cell_steps.specs.declared.Top.{Top}
 use Rattle.cell_steps.specs.Steps.{cell_number}
@@ -221,14 +225,49 @@ cell_past n bytes {i} h =
     let l : length (cells_in n bytes) ≡ n = length_cells_in n bytes in
     sym (get_or-eq_default (cells_in n bytes) empty1 {n = i} (omega arith))
 
--- what holds for the cell that c is, holds for c
-pub top_by_lem : (t : ℕ) {c d : Value.Cell} {x : Cell} {r : Option Top} → c ≡ d → Memory.cell_of c ≡ x → r ≡ top_on t (Memory.cell_of d) → r ≡ top_on t x
-top_by_lem t e f g = g ∙ ap (λ (v : Value.Cell). top_on t (Memory.cell_of v)) (sym e) ∙ ap (top_on t) f
+-- the top on a cell by value, and none on one that is no symbol
+module _ (t : ℕ) {c : Value.Cell} {x : Cell} (e : Memory.cell_of c ≡ x) where
+  pub top_is : {a u s : ℕ} → c ≡ Symbol a u s → some (record { symbol = a; annotation = u; rest = s; below = t }) ≡ top_on t x
+  unfolding top_on Memory.cell_of
+  top_is f = ap (λ (d : Value.Cell). top_on t (Memory.cell_of d)) (sym f) ∙ ap (top_on t) e
 
-pub root_by : (cells : List Cell) (root : ℕ) {c d : Value.Cell} {r : Option Top} → c ≡ d → Memory.cell_of c ≡ cell_number cells root
-    → r ≡ top_of cells (Memory.cell_of d) → r ≡ top_in cells root
-unfolding top_in
-root_by cells root e f g = g ∙ ap (λ (v : Value.Cell). top_of cells (Memory.cell_of v)) (sym e) ∙ ap (top_of cells) f
+  pub no_top_on : ((a u s : ℕ) → c ≡ Symbol a u s → ⊥) → none ≡ top_on t x
+  unfolding top_on Memory.cell_of
+  no_top_on h = no_symbol_top c h ∙ ap (top_on t) e
+    where
+      no_symbol_top : (d : Value.Cell) → ((a u s : ℕ) → d ≡ Symbol a u s → ⊥) → none ≡ top_on t (Memory.cell_of d)
+      no_symbol_top Empty1 h = refl
+      no_symbol_top (Symbol a u s) h = absurd (h a u s refl)
+      no_symbol_top Empty2 h = refl
+      no_symbol_top (Above w v) h = refl
+
+-- the top of a root by value, and none of one that is no order-2 cell with an order-1 cell
+module _ (cells : List Cell) (root : ℕ) {c : Value.Cell} (e : Memory.cell_of c ≡ cell_number cells root) where
+  pub root_is : {w t : ℕ} {r : Option Top} → c ≡ Above w t → r ≡ top_on t (cell_number cells w) → r ≡ top_in cells root
+  unfolding top_in top_of top_on cell_number Memory.cell_of
+  root_is f g = g ∙ ap (λ (d : Value.Cell). top_of cells (Memory.cell_of d)) (sym f) ∙ ap (top_of cells) e
+
+  pub no_root : ((w t : ℕ) → c ≡ Above w t → ⊥) → none ≡ top_in cells root
+  unfolding top_in top_of Memory.cell_of
+  no_root h = no_above_top c h ∙ ap (top_of cells) e
+    where
+      no_above_top : (d : Value.Cell) → ((w t : ℕ) → d ≡ Above w t → ⊥) → none ≡ top_of cells (Memory.cell_of d)
+      no_above_top Empty1 h = refl
+      no_above_top (Symbol a u s) h = refl
+      no_above_top Empty2 h = refl
+      no_above_top (Above w t) h = absurd (h w t refl)
+
+-- an operation that is no collapse takes an annotation of any order
+pub takes_any : (op : Values.Operation) (k : ℕ) → (op ≡ Collapse1 → ⊥) → (op ≡ Collapse2 → ⊥) → true ≡ takes_order (the_operation op) k
+unfolding takes_order
+takes_any (Rewrite b) k h l = refl
+takes_any (Push1 b) k h l = refl
+takes_any (Push2 b) k h l = refl
+takes_any Copy k h l = refl
+takes_any Pop1 k h l = refl
+takes_any Pop2 k h l = refl
+takes_any Collapse1 k h l = absurd (h refl)
+takes_any Collapse2 k h l = absurd (l refl)
 
 -- a rule that applies names the top symbol
 pub fits_symbol : (ρ : Rule) (p a k : ℕ) → rule_fits ρ p a k ≡ true → a ≡ ρ.symbol

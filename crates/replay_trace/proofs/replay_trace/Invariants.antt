@@ -1,6 +1,4 @@
 -- `replay_trace::replay_trace`: what its loops keep.
-use Prim.Native.Nat.{◌-◌, ◌/◌}
-use lib.ListN.{length}
 use Rattle.services.specs.Replay.{rule_numbers}
 use Rattle.results.specs.Collecting.{rules_in}
 use Rattle.replay_trace.specs.Turns.{TraceFollows}
@@ -8,6 +6,3 @@ use Rattle.replay_trace.proofs.replay_trace.Given as goal
 
 abbrev pub invariant-loop-i : goal.invariant-loop-i
 invariant-loop-i l = TraceFollows (rules_in l.count l.body) l.most (rule_numbers l.trace) l.initial.v l.initial.cells l.i l.v l.cells
-
-abbrev pub decreases-loop-i : goal.decreases-loop-i
-decreases-loop-i l = length l.trace / 2 - l.i

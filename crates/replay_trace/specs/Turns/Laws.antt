@@ -1,6 +1,6 @@
 -- A turn of the replay: the next rule number of the trace, and what its step answers.
 -- Assumes nothing.
-use Rattle.std.specs.Prelude.{ℕ, ◌+◌, ◌*◌, ◌/◌, ◌≤◌, ◌<◌, ◌≡◌, refl, List, [], ◌∷◌, length, get_or, drop}
+use Rattle.std.specs.Prelude.{ℕ, Result, Ok, Err, ◌+◌, ◌*◌, ◌/◌, ◌≤◌, ◌<◌, ◌≡◌, refl, List, [], ◌∷◌, length, get_or, drop}
 use Rattle.std.proofs.Common.{ap, sym, ◌∙◌, subst, add-one, arith, drop-cons}
 use Rattle.std.proofs.lemmas.List.{length-map}
 use Rattle.stacks.specs.System.{Rule}
@@ -12,8 +12,8 @@ use Rattle.files.specs.Bytes.Laws.{length_records, records_at}
 use Rattle.services.specs.Replay.{rule_numbers, replayed}
 use Rattle.services.proofs.Replay.Laws.{replayed_fails, replayed_short, replayed_goes}
 use Rattle.replay_step.specs.declared.Place.{Place}
-use Rattle.replay_step.specs.declared.Stepped.{Stepped}
-use Rattle.replay_step.specs.declared.Stepped.TheVariants.{Fails, Short, To}
+use Rattle.replay_step.specs.declared.Stop.{Stop}
+use Rattle.replay_step.specs.declared.Stop.TheVariants.{Fails, Short}
 use Rattle.replay_step.specs.Place.{place_configuration, PlaceStands, StepAnswers}
 use Rattle.replay_trace.specs.Turns.{TraceFollows}
 
@@ -52,19 +52,19 @@ module _ {rules : List Rule} {most : ℕ} (trace : List ℕ) {w : Place} {bytes 
       ≡ replayed rules own most i v.cells (place_configuration v bytes') (k ∷ drop (i + 1) (rule_numbers trace))
   answer_from own = F.same own ∙ ap (replayed rules own most i v.cells (place_configuration v bytes')) (numbers_left trace i h e)
 
-  module _ {r : Stepped} (bytes'' : List ℕ) (a : StepAnswers rules most k v bytes' r bytes'') where
-    answers : {q : Stepped} → r ≡ q → StepAnswers rules most k v bytes' q bytes''
-    answers f = subst (λ (q : Stepped). StepAnswers rules most k v bytes' q bytes'') f a
+  module _ {r : Result Place Stop} (bytes'' : List ℕ) (a : StepAnswers rules most k v bytes' r bytes'') where
+    answers : {q : Result Place Stop} → r ≡ q → StepAnswers rules most k v bytes' q bytes''
+    answers f = subst (λ (q : Result Place Stop). StepAnswers rules most k v bytes' q bytes'') f a
 
-    pub turn_fails : r ≡ Fails → (own : Automaton) → replayed rules own most 0 w.cells (place_configuration w bytes) (rule_numbers trace) ≡ FailsAt i
+    pub turn_fails : r ≡ Err Fails → (own : Automaton) → replayed rules own most 0 w.cells (place_configuration w bytes) (rule_numbers trace) ≡ FailsAt i
     turn_fails f own = answer_from own ∙ replayed_fails rules own most i v.cells (place_configuration v bytes') k _ (answers f)
 
-    pub turn_short : r ≡ Short → (own : Automaton) → replayed rules own most 0 w.cells (place_configuration w bytes) (rule_numbers trace) ≡ Refused 11
+    pub turn_short : r ≡ Err Short → (own : Automaton) → replayed rules own most 0 w.cells (place_configuration w bytes) (rule_numbers trace) ≡ Refused 11
     turn_short f own =
         let s = answers f in
         answer_from own ∙ replayed_short rules own most i v.cells (place_configuration v bytes') k _ s.applies s.lacks
 
-    pub turn_goes : (u : Place) → r ≡ To u → length bytes'' ≡ length bytes' → TraceFollows rules most (rule_numbers trace) w bytes (i + 1) u bytes''
+    pub turn_goes : (u : Place) → r ≡ Ok u → length bytes'' ≡ length bytes' → TraceFollows rules most (rule_numbers trace) w bytes (i + 1) u bytes''
     turn_goes u f l =
         let s = answers f in
         let n = length_numbers trace in

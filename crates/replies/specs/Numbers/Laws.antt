@@ -8,7 +8,9 @@ use Rattle.replies.specs.declared.Halt.TheVariants.{Arrived, TraceFull, CellsSho
 use Rattle.replies.specs.declared.Reply.{Reply}
 use Rattle.replies.specs.declared.Reply.TheVariants.{Refused, NoRun, Open, Walked}
 use Rattle.replies.specs.declared.Replayed.{Replayed}
-use Rattle.replies.specs.Numbers.{number_of, replay_number, answer_word, open_word, mark_word, word_round}
+use Rattle.replies.specs.declared.Refusal.{Refusal}
+use Rattle.replies.specs.declared.Refusal.TheVariants.{CaseContents, CaseHead, CaseRecords, CaseOrder, StartContents, StartRecords, NoSuchStart, FewAnswers, TableTooLarge, OddTrace, FewCells, ToolCodes, LongText}
+use Rattle.replies.specs.Numbers.{number_for, number_of, replay_number, answer_word, open_word, mark_word, word_round}
 
 unfoldable pub IsRefusal : Reply → Type 0
 IsRefusal (Refused n) = Unit {0}
@@ -37,6 +39,22 @@ unfolding IsReplayRefusal
 replay_refusal_number (Replayed.Refused n) l m = tt
 replay_refusal_number Replayed.Accepted l m = omega arith
 replay_refusal_number (Replayed.FailsAt n) l m = omega arith
+
+-- each refusal has a number
+pub numbered : (r : Refusal) → number_for r ≡ 0 → ⊥
+numbered CaseContents e = omega arith
+numbered CaseHead e = omega arith
+numbered CaseRecords e = omega arith
+numbered CaseOrder e = omega arith
+numbered StartContents e = omega arith
+numbered StartRecords e = omega arith
+numbered NoSuchStart e = omega arith
+numbered FewAnswers e = omega arith
+numbered TableTooLarge e = omega arith
+numbered OddTrace e = omega arith
+numbered FewCells e = omega arith
+numbered ToolCodes e = omega arith
+numbered LongText e = omega arith
 
 -- ---- words
 

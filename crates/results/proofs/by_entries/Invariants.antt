@@ -1,5 +1,4 @@
 -- `results::by_entries`: what its loops keep.
-use Prim.Native.Nat.{◌-◌, ◌≤◌}
 use mathlib.Core.Path.{◌≡◌}
 use lib.ListN.{length}
 use Rattle.results.specs.Entries.Laws.{EntriesUpTo}
@@ -7,9 +6,5 @@ use Rattle.results.proofs.by_entries.Given as goal
 
 abbrev pub invariant-loop-i : goal.invariant-loop-i
 invariant-loop-i l =
-    (l.i ≤ l.count)
-    × EntriesUpTo l.z l.entries l.moves l.to.control l.to.symbol l.kind l.q l.to.room l.n l.initial.out l.i l.k l.out
+    EntriesUpTo l.by.table l.by.entries.now l.by.moves.now l.to.control l.to.symbol l.kind l.q l.to.room l.n l.initial.out l.i l.k l.out
     × (length l.out ≡ length l.initial.out)
-
-abbrev pub decreases-loop-i : goal.decreases-loop-i
-decreases-loop-i l = l.count - l.i

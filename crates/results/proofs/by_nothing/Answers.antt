@@ -8,4 +8,4 @@ use Rattle.results.proofs.by_nothing.Goals as goal
 
 pub returns-then-not-to : goal.returns-then-not-to
 returns-then-not-to c =
-    collects_held _ c.requires.1.number ((c.requires.2.known (not-true c.args.to.before.new c.if-not-to.true)).all_held _ (Memᴰ.head refl))
+    collects_held _ c.requires.0.number ((c.requires.1.known (not-true c.args.to.before.new c.if-not-to.true)).all_held _ (Memᴰ.head refl))

@@ -9,7 +9,7 @@ use Rattle.results.proofs.by_rule.Goals as goal
 
 pub by_use-requires : goal.by_use-requires
 by_use-requires c =
-    (c.requires.0, c.requires.1, settled_use _ _ (the_rule c.args.rule) _ c.use_of-used.ensures c.requires.2, c.requires.3, c.requires.5)
+    (c.requires.0, settled_use _ _ (the_rule c.args.rule) _ c.use_of-used.ensures c.requires.1, c.requires.2, c.requires.4)
 
 pub returns : goal.returns
 returns c =

@@ -8,15 +8,15 @@ use Rattle.results.proofs.by_use.Goals as goal
 
 pub by_moves-requires : goal.by_moves-requires
 by_moves-requires c =
-    (c.requires.0, c.requires.1, settled_moves c.args.z _ _ _ _ _ _ _ _ c.requires.2 _ _ c.in-Moves.is, c.requires.3, c.requires.4)
+    (c.requires.0, settled_moves c.args.by.now.moves.held.table _ _ _ _ _ _ _ _ c.requires.1 _ _ c.in-Moves.is, c.requires.2, c.requires.3)
 
 pub by_entries-requires : goal.by_entries-requires
 by_entries-requires c =
-    (c.requires.0.moves_indexed.by_words, c.requires.1.stands, settled_entries c.args.z _ _ _ _ _ _ _ _ c.requires.2 _ c.in-Entries.is)
+    (c.requires.0.stands, settled_entries c.args.by.now.moves.held.table _ _ _ _ _ _ _ _ c.requires.1 _ c.in-Entries.is)
 
 pub by_nothing-requires : goal.by_nothing-requires
 by_nothing-requires c =
-    (c.requires.0.moves_indexed.by_words, c.requires.1.stands, settled_nothing c.args.z _ _ _ _ _ _ _ _ c.requires.2 _ c.in-Nothing.is)
+    (c.requires.0.stands, settled_nothing c.args.by.now.moves.held.table _ _ _ _ _ _ _ _ c.requires.1 _ c.in-Nothing.is)
 
 pub returns-in-Moves : goal.returns-in-Moves
 returns-in-Moves c =
@@ -24,8 +24,8 @@ returns-in-Moves c =
 
 pub returns-in-Entries : goal.returns-in-Entries
 returns-in-Entries c =
-    offer_collected c.args.z _ _ _ _ _ _ _ c.requires.1 (use_gives c.args.to _ _) _ _ _ (uses_entries _ _ _ _ c.args.z _ _ _ _ c.in-Entries.is) c.by_entries.ensures
+    offer_collected c.args.by.now.moves.held.table _ _ _ _ _ _ _ c.requires.0 (use_gives c.args.to _ _) _ _ _ (uses_entries _ _ _ _ c.args.by.now.moves.held.table _ _ _ _ c.in-Entries.is) c.by_entries.ensures
 
 pub returns-in-Nothing : goal.returns-in-Nothing
 returns-in-Nothing c =
-    offer_collected c.args.z _ _ _ _ _ _ _ c.requires.1 (use_gives c.args.to _ _) _ _ _ (uses_nothing _ _ _ _ _ _ c.in-Nothing.is) c.by_nothing.ensures
+    offer_collected c.args.by.now.moves.held.table _ _ _ _ _ _ _ c.requires.0 (use_gives c.args.to _ _) _ _ _ (uses_nothing _ _ _ _ _ _ c.in-Nothing.is) c.by_nothing.ensures

@@ -1,10 +1,10 @@
 -- `results::collect` meets its contract.
 -- Assumes nothing.
-use mathlib.Core.Path.{refl, sym, ◌∙◌, subst}
+use mathlib.Core.Path.{refl, ◌∙◌, subst}
 use native.Mathlib.Omega.{arith}
 use Rattle.tables.specs.Rows.Laws.{length_rows_in}
 use Rattle.tables.specs.Layouts.{move_row}
-use Rattle.readings.specs.Memo.{MemoBefore, MemoUpTo}
+use Rattle.readings.specs.Memo.{MemoUpTo}
 use Rattle.readings.specs.Memo.Laws.{memo_none}
 use Rattle.results.specs.Collecting.Laws.{rules_none, rules_more, rules_all, next_small, settled_rule}
 use borrow.Author.Rules.{rules}
@@ -12,13 +12,11 @@ use Rattle.results.proofs.collect.Goals as goal
 
 pub loop-i-init : goal.loop-i-init
 loop-i-init c =
-    let few = length_rows_in move_row c.args.z.moves c.args.moves.now in
-    (search rules, rules_none _ _ _ _, memo_none (subst (λ k. MemoBefore k c.args.memo.now) (sym few) c.requires.0.memo_before), refl)
+    (search rules, rules_none _ _ _ _, memo_none c.requires.0.memo_before, refl)
 
 pub by_rule-n-requires : goal.by_rule-n-requires
 by_rule-n-requires c =
     let rule = c.rule_at-rule.ensures in (
-      c.requires.0.indexed,
       record {
         stands = record { room_lent = omega (arith, c.requires.1, c.loop-i.invariant.1.long); number = c.loop-i.invariant.1.offered.number };
         memo_holds = c.loop-i.invariant.2;
@@ -45,6 +43,6 @@ returns-clause-out_after c =
 
 pub returns-clause-memo : goal.returns-clause-memo
 returns-clause-memo c =
-    let few = length_rows_in move_row c.args.z.moves c.args.moves.now in
+    let few = length_rows_in move_row c.args.by.now.moves.held.table.moves c.args.by.now.moves.held.moves.now in
     let done = c.loop-i.invariant in
     subst (λ k. MemoUpTo k c.loop-i.memo) few done.2.up_to

@@ -16,19 +16,23 @@ use Rattle.automata.specs.Derivation.{Result, result_key}
 use Rattle.automata.specs.Saturation.{held, results}
 use Rattle.files.specs.Case.{rule_of, rule_bytes}
 use Rattle.bytes_in.specs.Records.{record_at}
+use Rattle.tables.specs.declared.Table.{Table}
 use Rattle.tables.specs.Rows.{first_of, rows_in}
-use Rattle.tables.specs.Rows.Laws.{first_of_more, length_first_of, get_or_first_of}
+use Rattle.tables.specs.Rows.Laws.{first_of_more, length_first_of, get_or_first_of, length_rows_in}
+use Rattle.tables.specs.Layouts.{move_row}
+use Rattle.tables.specs.Held.{automaton_of}
 use Rattle.tables.specs.Pending.{limited, pending_in}
 use Rattle.tables.specs.Pending.Laws.{pending_fits}
 use Rattle.offers.specs.Offers.{Collects, offer_all}
 use Rattle.offers.specs.Offers.Laws.{offered_all, collects_none, collects_then, collects_same}
 use Rattle.readings.specs.declared.Before.{Before}
 use Rattle.readings.specs.Before.{table_before}
+use Rattle.readings.specs.Memo.{MemoBefore}
 use Rattle.premises.specs.Settled.{SettledBy}
 use Rattle.premises.specs.Settled.Laws.{settled_within}
 use Rattle.results.specs.Rules.{rule_results}
 use Rattle.results.specs.Rules.Laws.{results_are}
-use Rattle.results.specs.Collecting.{rule_in, rules_in, RulesStand, new_results}
+use Rattle.results.specs.Collecting.{rule_in, rules_in, RulesStand, new_results, RoundReady, RoundKnown}
 
 module _ (A : Automaton) (room : ℕ) (body t : List ℕ) where
   -- The results of the first i rules were offered.
@@ -78,3 +82,15 @@ settled_rule A t count i body ρ l e s =
     (each_in (rule_results (table_before t A))
     (subst (λ (y : Rule). Memᴰ y (first_of count (rule_in body))) (get_or_first_of count (rule_in body) i (rule_in body i) l ∙ sym e)
     (get_or_in (first_of count (rule_in body)) i (rule_in body i) (let n = length_first_of count (rule_in body) in omega (arith, n)))) m)) s
+
+-- ---- a round that can be worked out
+
+pub round_known : {z : Table} {inner entries moves states words : List ℕ} {t : Before} {count : ℕ} {body memo : List ℕ}
+    → RoundReady z inner entries moves states words t count body memo → RoundKnown (automaton_of z inner entries moves) t count body memo
+round_known {z} {moves = moves} {memo = memo} h =
+    record {
+      rules_stand = h.rules_stand;
+      settled_by = h.settled_by;
+      memo_before = subst (λ n. MemoBefore n memo) (sym (length_rows_in move_row z.moves moves)) h.memo_before;
+      none_settled = h.none_settled;
+    }

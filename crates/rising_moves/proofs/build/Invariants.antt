@@ -10,6 +10,3 @@ abbrev pub invariant-loop-i : goal.invariant-loop-i
 invariant-loop-i l =
     Chained (from_last (first_keys l.z.moves (state_key_at l.moves))) (1024 - l.i) l.states
     × Chained (from_last (first_keys l.z.moves (control_key_at l.z l.entries l.moves))) (1024 - l.i) l.controls × (l.i ≤ l.z.moves)
-
-abbrev pub decreases-loop-i : goal.decreases-loop-i
-decreases-loop-i l = l.i

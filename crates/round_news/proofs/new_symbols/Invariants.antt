@@ -1,10 +1,6 @@
 -- `round_news::new_symbols`: what its loops keep.
-use Prim.Native.Nat.{◌-◌}
 use Rattle.round_news.specs.News.{HasSymbols}
 use Rattle.round_news.proofs.new_symbols.Given as goal
 
 abbrev pub invariant-loop-i : goal.invariant-loop-i
 invariant-loop-i l = HasSymbols l.moves l.from l.i l.s
-
-abbrev pub decreases-loop-i : goal.decreases-loop-i
-decreases-loop-i l = l.to - l.i

@@ -13,7 +13,7 @@ use Rattle.saturate.proofs.saturate_within.Goals as goal
 
 pub returns-then-not-own_fits : goal.returns-then-not-own_fits
 returns-then-not-own_fits c =
-    case_over _ c.requires.0 _ _ (sym c.own_fits.ensures ∙ c.if-not-own_fits.true) _ _ _ _ _ _ _ _ _ c.nothing.ensures.0 c.nothing.ensures.1 c.nothing.ensures.2
+    case_over _ c.requires.0 _ _ (sym c.own_fits.ensures ∙ c.if-not-own_fits.true) _
 
 pub load_case-z-requires : goal.load_case-z-requires
 load_case-z-requires c =
@@ -44,4 +44,4 @@ returns c =
     let entries-behind = filled_entries (filled_own counted_row _ _ _ _ c.requires.1.entries_zero c.load_case-z.ensures.entries_after (counted_number _ sound 0 0 c.load_case-z.result _ _ _ c.load_case-z.ensures.moves_after)) in
     let moves-behind = filled_own move_row _ _ _ _ c.requires.1.moves_zero c.load_case-z.ensures.moves_after_2 (moves_number _ sound 0 0 c.load_case-z.result _ _ _ c.load_case-z.ensures.moves_after) in
     case_ends _ sound _ _ c.load_case-z.result _ _ _ c.load_case-z.ensures.moves_after _ _ _ rules c.load_case-z.auto.entries c.load_case-z.auto.moves entries-behind moves-behind
-    _ _ _ _ _ _ _ c.saturate_tables.ensures
+    _ _ _ _ c.saturate_tables.ensures

@@ -2,12 +2,11 @@
 -- Assumes nothing.
 use Prim.Native.Nat.{ℕ, suc, ◌+◌, ◌/◌, ◌≤◌, ◌<◌, min}
 use Rattle.std.proofs.Math.Bool.{Bool, true, not}
-use Rattle.std.specs.Prelude.{false, ◌≡◌, leb, ltb}
-use Rattle.std.proofs.lemmas.Bool.{false≢true}
+use Rattle.std.specs.Prelude.{false, ◌≡◌, leb, ltb, Option as Answer, Some, None}
 use Rattle.std.proofs.Math.Path.{ap, sym, subst}
 use Rattle.std.proofs.Common.{ap₂, ◌∙◌, subst₂, zero-add, add-zero, add-one, leb-true, leb-false}
 use mathlib.Core.List.{List, [], ◌∷◌, map}
-use Rattle.std.proofs.Math.Option.{none-ne-some}
+use Rattle.std.proofs.Math.Option.{none}
 use Rattle.std.proofs.Math.Nat.{min-le_left, le-min}
 use native.Mathlib.Omega.{arith}
 use Rattle.std.proofs.Math.ListN.{length, get_or, length-map, get_or-map}
@@ -30,7 +29,7 @@ use Rattle.case_file.specs.Forms.{HoldsRules}
 use Rattle.services.specs.Memory.{lent, entry_width, counted}
 use Rattle.services.specs.Memory.Laws.{length_with_counts}
 use Rattle.tables.specs.declared.Table.{Table}
-use Rattle.tables.specs.Rows.{Layout, row_at, rows_in, put_row}
+use Rattle.tables.specs.Rows.{Layout, row_at, put_row}
 use Rattle.tables.specs.Rows.Laws.{first_of_list, length_rows_in, get_or_rows_in}
 use Rattle.tables.specs.Layouts.{edge_row, entry_row, move_row}
 use Rattle.tables.specs.Held.{automaton_of}
@@ -41,9 +40,9 @@ use Rattle.case_tables.specs.Own.{RoomForOwn}
 use Rattle.results.specs.Collecting.{rule_in, rules_in, RulesStand}
 use Rattle.one_round.specs.Rounding.{Standing}
 use Rattle.added_results.specs.Adding.{StatesExist}
-use Rattle.saturation.specs.Running.{most_moves, most_entries, Given, ended, Ends}
-use Rattle.saturation.specs.Layout.{size_row}
-use Rattle.saturate.specs.Case.{CaseSaturated}
+use Rattle.saturation.specs.Running.{most_moves, most_entries, Given, Ends}
+use Rattle.saturation.specs.declared.Saturated.{Saturated as SaturatedWords}
+use Rattle.saturate.specs.Case.{CaseEnds}
 
 -- ---- lengths of sorted lists
 
@@ -241,26 +240,28 @@ module _ (file : List ℕ) (sound : case_refusal file ≡ 0) where
 
       -- ---- the end
 
+      same : (rounds : ℕ) (body : List ℕ) (count : ℕ) → HoldsRules file body count → length entries ≡ e → length moves ≡ m
+          → saturate (rules_in count body) (lent (length moves) (length entries)) rounds (automaton_of z inner entries moves)
+          ≡ saturate (rules_of file) (lent m e) rounds (own_of file)
+      same rounds body count r le lm =
+          ap₂ (λ (rules : List Rule) (A : Automaton). saturate rules (lent (length moves) (length entries)) rounds A) (rules_are body count r) own
+          ∙ ap₂ (λ (x y : ℕ). saturate (rules_of file) (lent x y) rounds (own_of file)) lm le
+
       -- the rounds' end is the case's, where the tables were all zero before
       pub case_ends : (rounds : ℕ) (body : List ℕ) (count : ℕ) → HoldsRules file body count → length entries ≡ e → length moves ≡ m
           → Filled entry_row z.entries entries → Filled move_row z.moves moves
-          → (fits : Bool) (z' : Table) (k : ℕ) (more : Bool) (entries' moves' sizes : List ℕ)
-          → Ends (rules_in count body) rounds inner z entries moves fits z' k more entries' moves' sizes
-          → CaseSaturated file rounds m e fits z' k more inner entries' moves' sizes
-      case_ends rounds body count r le lm fe fm fits z' k more entries' moves' sizes h =
-          let same : saturate (rules_in count body) (lent (length moves) (length entries)) rounds (automaton_of z inner entries moves)
-          ≡ saturate (rules_of file) (lent m e) rounds (own_of file) =
-          ap₂ (λ (rules : List Rule) (A : Automaton). saturate rules (lent (length moves) (length entries)) rounds A) (rules_are body count r) own
-          ∙ ap₂ (λ (x y : ℕ). saturate (rules_of file) (lent x y) rounds (own_of file)) lm le in
+          → (r : Answer SaturatedWords) (entries' moves' sizes : List ℕ)
+          → Ends (rules_in count body) rounds inner z entries moves r entries' moves' sizes
+          → CaseEnds file rounds m e r inner entries' moves' sizes
+      case_ends rounds body count r le lm fe fm (Some x) entries' moves' sizes h =
           record {
-            saturated = sym same ∙ h.saturated;
-            count = λ T q. h.count T (same ∙ q);
-            more_is = λ f. h.more_is f ∙ ap (λ (rules : List Rule). adds_move rules (automaton_of z' inner entries' moves')) (rules_are body count r);
-            standing = λ f. limits_same z' entries' moves' lm le (h.standing f);
-            entries_filled = λ f. h.entries_filled f fe;
-            moves_filled = λ f. h.moves_filled f fm;
+            saturated = sym (same rounds body count r le lm) ∙ h.saturated;
+            count = h.count;
+            more_is = h.more_is ∙ ap (λ (rules : List Rule). adds_move rules (automaton_of x.table inner entries' moves')) (rules_are body count r);
+            standing = limits_same x.table entries' moves' lm le h.standing;
+            entries_filled = h.entries_filled fe;
+            moves_filled = h.moves_filled fm;
             sizes_few = h.few;
-            none_counted = h.none_counted;
           }
         where
           limits_same : (z' : Table) (entries' moves' : List ℕ) → length moves ≡ m → length entries ≡ e
@@ -268,40 +269,9 @@ module _ (file : List ℕ) (sound : case_refusal file ≡ 0) where
               → Standing z' (most_moves m) (most_entries e (own_of file).J) inner entries' moves'
           limits_same z' entries' moves' lm le s =
               subst₂ (λ (x y : ℕ). Standing z' x y inner entries' moves') (ap most_moves lm) (ap₂ most_entries le states_number) s
+      case_ends rounds body count r le lm fe fm None entries' moves' sizes h = sym (same rounds body count r le lm) ∙ h
 
     -- the case's own table passes a limit
-    pub case_over : within (lent m e) (own_of file) ≡ false → (rounds : ℕ) (fits : Bool) (z : Table) (k : ℕ) (more : Bool) (inner entries moves sizes : List ℕ)
-        → fits ≡ false → k ≡ 0 → more ≡ false → CaseSaturated file rounds m e fits z k more inner entries moves sizes
-    unfolding saturate ended
-    case_over w rounds fits z k more inner entries moves sizes f none-run no_more =
-        let none_left = saturate_from_exceeds (rules_of file) (lent m e) rounds [] (own_of file) w in
-        record {
-          saturated = none_left ∙ sym (ap (λ (x : Bool). ended x (automaton_of z inner entries moves) (rows_in size_row (k + 1) sizes)) f);
-          count = λ T q. absurd (none-ne-some T (sym none_left ∙ q));
-          more_is = λ g. absurd (false≢true (sym f ∙ g));
-          standing = λ g. absurd (false≢true (sym f ∙ g));
-          entries_filled = λ g. absurd (false≢true (sym f ∙ g));
-          moves_filled = λ g. absurd (false≢true (sym f ∙ g));
-          sizes_few = omega arith;
-          none_counted = λ _. (none-run, no_more);
-        }
-
--- where a limit is passed, nothing is said of what stands in the tables
-pub none_anywhere : {file : List ℕ} {rounds m e : ℕ} {fits : Bool} {z : Table} {k : ℕ} {more : Bool} {inner entries moves sizes : List ℕ}
-    → CaseSaturated file rounds m e fits z k more inner entries moves sizes → fits ≡ false → (entries' moves' : List ℕ)
-    → CaseSaturated file rounds m e fits z k more inner entries' moves' sizes
-unfolding ended
-none_anywhere {z = z} {k} {inner = inner} {entries} {moves} {sizes} s f entries' moves' =
-    record {
-      saturated =
-          s.saturated
-          ∙ ap (λ (x : Bool). ended x (automaton_of z inner entries moves) (rows_in size_row (k + 1) sizes)) f
-          ∙ sym (ap (λ (x : Bool). ended x (automaton_of z inner entries' moves') (rows_in size_row (k + 1) sizes)) f);
-      count = s.count;
-      more_is = λ g. absurd (false≢true (sym f ∙ g));
-      standing = λ g. absurd (false≢true (sym f ∙ g));
-      entries_filled = λ g. absurd (false≢true (sym f ∙ g));
-      moves_filled = λ g. absurd (false≢true (sym f ∙ g));
-      sizes_few = s.sizes_few;
-      none_counted = s.none_counted;
-    }
+    pub case_over : within (lent m e) (own_of file) ≡ false → (rounds : ℕ) → saturate (rules_of file) (lent m e) rounds (own_of file) ≡ none
+    unfolding saturate
+    case_over w rounds = saturate_from_exceeds (rules_of file) (lent m e) rounds [] (own_of file) w

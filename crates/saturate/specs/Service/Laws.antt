@@ -1,6 +1,6 @@
 -- The service's answer is that of the definition.
 -- Assumes nothing.
-use Rattle.std.specs.Prelude.{ℕ, ◌*◌, ◌≤◌, ◌+◌, Bool, true, false, ◌≡◌, refl, List, length}
+use Rattle.std.specs.Prelude.{ℕ, ◌*◌, ◌≤◌, ◌+◌, Bool, ◌≡◌, refl, List, length}
 use Rattle.std.proofs.Math.Path.{ap, ap₂, sym}
 use Rattle.std.proofs.Common.{◌∙◌}
 use Rattle.std.proofs.Math.Option.{none, some}
@@ -9,9 +9,8 @@ use Rattle.words.specs.Lists.{each, zeros}
 use Rattle.automata.specs.Saturation.{Size, Saturated, saturate, all_rounds}
 use Rattle.files.specs.Bytes.{Test}
 use Rattle.files.specs.Case.{case_refusal, rules_of, own_of}
-use Rattle.replies.specs.declared.Saturation.{Saturation}
 use Rattle.services.specs.Memory.{padded, Counted, counted, entry_words, entry_width, move_table, entry_table, lent}
-use Rattle.services.specs.Saturate.{Lent, saturated, size_tests, saturate_refusal, saturate_refused, saturate_filled, saturate_answer, saturate_service}
+use Rattle.services.specs.Saturate.{Lent, SaturateDone, saturated, size_tests, saturate_refusal, saturate_refused, saturate_filled, saturate_answer, saturate_service}
 use Rattle.services.proofs.Saturate.Laws.{case_first, case_passed, size_refused, size_passed}
 use Rattle.tables.specs.declared.Table.{Table}
 use Rattle.tables.specs.Rows.{rows_in}
@@ -24,8 +23,9 @@ use Rattle.tables.specs.Laws.Exact.{move_exact, counted_exact}
 use Rattle.tables.specs.Laws.Filled.{Filled, filled_whole}
 use Rattle.one_round.specs.Rounding.{Standing}
 use Rattle.one_round.specs.Rounding.Laws.{standing_entries, standing_moves}
-use Rattle.saturation.specs.Running.{most_moves, most_entries, ended}
+use Rattle.saturation.specs.Running.{most_moves, most_entries}
 use Rattle.saturation.specs.Layout.{size_row}
+use Rattle.saturation.specs.Held.{saturated_in}
 use Rattle.saturate.specs.Case.{CaseSaturated}
 use Rattle.saturate.specs.Service.{the_lent, the_done, the_refused}
 
@@ -84,39 +84,38 @@ filled_done case moves entries inner moves' entries' z sizes lm le hm he fm fe c
 -- ---- the code's three ends
 
 module _ (case moves entries : List ℕ) where
-  pub ends_refused : (r : Saturation) (code : ℕ) (moves' entries' : List ℕ) → r ≡ the_refused code → code ≡ case_refusal case → (code ≡ 0 → ⊥)
-      → moves' ≡ zeros (length moves) → entries' ≡ zeros (length entries) → the_done r moves' entries' ≡ saturate_service (the_lent case moves entries)
-  ends_refused r code moves' entries' er ec n p q =
-      ap (λ (x : Saturation). the_done x moves' entries') er
-      ∙ zero_done case moves entries moves' entries' code p q
+  pub ends_refused : (code : ℕ) (moves' entries' : List ℕ) → code ≡ case_refusal case → (code ≡ 0 → ⊥)
+      → moves' ≡ zeros (length moves) → entries' ≡ zeros (length entries) → the_done (the_refused code) moves' entries' ≡ saturate_service (the_lent case moves entries)
+  ends_refused code moves' entries' ec n p q =
+      zero_done case moves entries moves' entries' code p q
       ∙ done_refused (the_lent case moves entries) code ec n
 
   -- what was saturated in tables of the same lengths
-  module _ (code : ℕ) (ec : code ≡ case_refusal case) (sound : code ≡ 0) (m e : ℕ) (lm : m ≡ length moves) (le : e ≡ length entries)
-      (fits : Bool) (z : Table) (k : ℕ) (more : Bool) (inner entries₁ moves₁ sizes : List ℕ) (s : CaseSaturated case all_rounds m e fits z k more inner entries₁ moves₁ sizes) where
-    saturated_is : saturated (the_lent case moves entries) all_rounds ≡ ended fits (automaton_of z inner entries₁ moves₁) (rows_in size_row (k + 1) sizes)
+  module _ (sound : case_refusal case ≡ 0) (m e : ℕ) (lm : m ≡ length moves) (le : e ≡ length entries) where
+    same_lent : saturate (rules_of case) (lent m e) all_rounds (own_of case) ≡ saturated (the_lent case moves entries) all_rounds
     unfolding saturated
-    saturated_is = ap₂ (λ (x y : ℕ). saturate (rules_of case) (lent x y) all_rounds (own_of case)) (sym lm) (sym le) ∙ s.saturated
+    same_lent = ap₂ (λ (x y : ℕ). saturate (rules_of case) (lent x y) all_rounds (own_of case)) lm le
 
-    pub ends_large : (r : Saturation) → fits ≡ false → r ≡ the_refused 9 → moves₁ ≡ zeros m → entries₁ ≡ zeros e
-        → the_done r moves₁ entries₁ ≡ saturate_service (the_lent case moves entries)
-    unfolding ended
-    ends_large r f er p q =
-        ap (λ (x : Saturation). the_done x moves₁ entries₁) er
-        ∙ zero_done case moves entries moves₁ entries₁ 9 (p ∙ ap zeros lm) (q ∙ ap zeros le)
-        ∙ done_large (the_lent case moves entries) (sym ec ∙ sound)
-        (saturated_is ∙ ap (λ (x : Bool). ended x (automaton_of z inner entries₁ moves₁) (rows_in size_row (k + 1) sizes)) f)
+    pub ends_large : (moves₁ entries₁ : List ℕ) → saturate (rules_of case) (lent m e) all_rounds (own_of case) ≡ none → moves₁ ≡ zeros m → entries₁ ≡ zeros e
+        → the_done (the_refused 9) moves₁ entries₁ ≡ saturate_service (the_lent case moves entries)
+    ends_large moves₁ entries₁ s p q =
+        zero_done case moves entries moves₁ entries₁ 9 (p ∙ ap zeros lm) (q ∙ ap zeros le)
+        ∙ done_large (the_lent case moves entries) sound (sym same_lent ∙ s)
 
-    pub ends_filled : fits ≡ true → length moves₁ ≡ length moves → length entries₁ ≡ length entries
+    pub ends_filled : (z : Table) (k : ℕ) (more : Bool) (inner entries₁ moves₁ sizes : List ℕ) → CaseSaturated case all_rounds m e z k more inner entries₁ moves₁ sizes
+        → length moves₁ ≡ length moves → length entries₁ ≡ length entries
         → the_done (record { code = 0; moves = z.moves; entries = z.entries }) moves₁ entries₁ ≡ saturate_service (the_lent case moves entries)
-    unfolding ended
-    ends_filled f a b =
-        let st : Standing z (most_moves m) (most_entries e (own_of case).J) inner entries₁ moves₁ = s.standing f in
+    ends_filled z k more inner entries₁ moves₁ sizes s a b =
+        let st : Standing z (most_moves m) (most_entries e (own_of case).J) inner entries₁ moves₁ = s.standing in
         let es : EntriesStand z entries₁ = standing_entries z (most_moves m) (most_entries e (own_of case).J) inner entries₁ moves₁ st in
         let ms : MovesStand z moves₁ = standing_moves z (most_moves m) (most_entries e (own_of case).J) inner entries₁ moves₁ st in
-        filled_done case moves entries inner moves₁ entries₁ z (rows_in size_row (k + 1) sizes) a b ms.moves_lent es.entries_lent (s.moves_filled f) (s.entries_filled f) st.counts
-        ∙ done_filled (the_lent case moves entries) (record { table = automaton_of z inner entries₁ moves₁; sizes = rows_in size_row (k + 1) sizes }) (sym ec ∙ sound)
-        (saturated_is ∙ ap (λ (x : Bool). ended x (automaton_of z inner entries₁ moves₁) (rows_in size_row (k + 1) sizes)) f)
+        filled_done case moves entries inner moves₁ entries₁ z (rows_in size_row (k + 1) sizes) a b ms.moves_lent es.entries_lent s.moves_filled s.entries_filled st.counts
+        ∙ done_filled (the_lent case moves entries) (saturated_in z inner entries₁ moves₁ (k + 1) sizes) sound (sym same_lent ∙ s.saturated)
+
+-- the same slices are lent where a call before has kept their lengths
+pub service_kept : (case : List ℕ) {d : SaturateDone} {m m' e e' : ℕ} → d ≡ saturate_service (record { case = case; moves = m; entries = e }) → m ≡ m' → e ≡ e'
+    → d ≡ saturate_service (record { case = case; moves = m'; entries = e' })
+service_kept case h p q = h ∙ (λ i. saturate_service (record { case = case; moves = p i; entries = q i }))
 
 pub zero_self : (t : List ℕ) (n : ℕ) → t ≡ zeros n → length t ≡ n → t ≡ zeros (length t)
 zero_self t n e l = e ∙ ap zeros (sym l)

@@ -12,11 +12,8 @@ loop-r-init c = (
   prepared_first _ _ c.args.z _ _ _ _ _ c.requires.0.states_exist c.requires.2 c.requires.3 c.requires.4,
   refl,
   refl,
-  refl,
-  refl,
-  refl,
 )
 
-pub returns-in-Done : goal.returns-in-Done
-returns-in-Done c =
-    turns_done _ _ _ c.args.z _ _ _ _ _ _ _ _ c.loop-r.invariant.0 _ _ _ _ _ _ _ c.take_turn-turn.ensures _ c.in-Done.is
+pub returns-in-Break : goal.returns-in-Break
+returns-in-Break c =
+    turns_done _ _ _ c.args.z _ _ _ _ _ _ _ _ c.loop-r.invariant.0 _ _ _ _ _ _ _ c.take_turn-turn.ensures _ c.in-Break.is

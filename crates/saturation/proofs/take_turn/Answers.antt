@@ -29,10 +29,10 @@ returns-then-k-rounds c =
     let x = c.args in
     let asked = c.requires in
     let all_run : x.at.run ≡ x.rounds = omega (arith, c.if-k-rounds.true) in
-    turn_stopped _ _ _ x.at.table _ _ _ asked.0 _ _ asked.2.sizes_lent c.put_sizes.ensures all_run _ c.would_add-more.ensures _ c.stopped.ensures
+    turn_stopped _ _ _ x.at.table _ _ _ asked.0 _ _ asked.2.sizes_lent c.put_sizes.ensures all_run _ c.would_add-more.ensures
 
-pub add_round-g-requires : goal.add_round-g-requires
-add_round-g-requires c =
+pub add_round-grown-requires : goal.add_round-grown-requires
+add_round-grown-requires c =
     let asked = c.requires in (
       ready c.args.at.table _ _ _ _ _ _ _ _ _ _ _ asked.0.standing c.extend.ensures.by_state c.extend.ensures.words asked.2.rules_stand asked.1,
       standing_limits c.args.at.table _ _ _ _ _ _ _ asked.3 asked.4 asked.0.standing,
@@ -45,7 +45,7 @@ returns c =
     let x = c.args in
     let asked = c.requires in
     let not-all : x.at.run ≡ x.rounds → ⊥ = λ e. omega (arith, c.if-k-rounds.false) in
-    let round = c.add_round-g in
-    let rounded = rounded_limits _ _ x.at.table _ _ _ _ _ _ _ _ _ _ asked.3 asked.4 round.ensures.rounded in
+    let round = c.add_round-grown in
+    let rounded = rounded_limits _ _ x.at.table _ _ _ _ _ _ _ _ _ asked.3 asked.4 round.ensures.rounded in
     turn_rounds _ _ _ x.at.table _ _ _ asked.0 _ _ asked.2.sizes_lent c.put_sizes.ensures not-all round.result _ _ rounded _ _ _
     asked.1.states_exist c.extend.ensures.by_state c.extend.ensures.words round.ensures.memo _ c.after_round.ensures

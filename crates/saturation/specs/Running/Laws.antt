@@ -1,7 +1,7 @@
 -- Limits of rounds on lent tables, as the code works them out and as the definition tests them.
 -- Assumes nothing.
 use Prim.Native.Nat.{ℕ, ◌+◌, ◌-◌, ◌*◌, ◌/◌, ◌≤◌, ◌<◌, min}
-use Rattle.std.specs.Prelude.{Bool, true, false, ◌≡◌, ◌⊎◌, List}
+use Rattle.std.specs.Prelude.{true, false, ◌≡◌, ◌⊎◌, List, Option as Answer}
 use Rattle.std.proofs.Common.{subst₂, inl, inr}
 use Rattle.std.proofs.Math.Nat.{min-le_left, min-le_right, le-min}
 use native.Mathlib.Omega.{arith}
@@ -44,10 +44,10 @@ module _ (m e J : ℕ) (small : J ≤ 64) (A : Automaton) (same : A.J ≡ J) whe
 pub standing_limits : (z : Table) (m e m' e' : ℕ) (inner entries moves : List ℕ) → m' ≡ m → e' ≡ e → Standing z m e inner entries moves → Standing z m' e' inner entries moves
 standing_limits z m e m' e' inner entries moves p q s = rw (p, q) s
 
-pub rounded_limits : (rules : List Rule) (inner : List ℕ) (z : Table) (m e m' e' : ℕ) (entries moves : List ℕ) (fits : Bool) (z' : Table) (entries' moves' : List ℕ)
-    → m' ≡ m → e' ≡ e → Rounded rules inner z m' e' entries moves fits z' entries' moves' → Rounded rules inner z m e entries moves fits z' entries' moves'
-rounded_limits rules inner z m e m' e' entries moves fits z' entries' moves' p q r =
-    subst₂ (λ (x y : ℕ). Rounded rules inner z x y entries moves fits z' entries' moves') p q r
+pub rounded_limits : (rules : List Rule) (inner : List ℕ) (z : Table) (m e m' e' : ℕ) (entries moves : List ℕ) (r : Answer Table) (entries' moves' : List ℕ)
+    → m' ≡ m → e' ≡ e → Rounded rules inner z m' e' entries moves r entries' moves' → Rounded rules inner z m e entries moves r entries' moves'
+rounded_limits rules inner z m e m' e' entries moves r entries' moves' p q h =
+    subst₂ (λ (x y : ℕ). Rounded rules inner z x y entries moves r entries' moves') p q h
 
 pub pending_room : (m most room : ℕ) → most ≡ most_moves m → 6144 ≤ room → most * 6 ≤ room
 unfolding most_moves

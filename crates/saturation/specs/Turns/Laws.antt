@@ -1,12 +1,12 @@
 -- What a turn of the rounds leaves, and that turns lead from the first table to the end.
 -- Assumes nothing.
 use Prim.Native.Nat.{ℕ, suc, ◌+◌, ◌-◌, ◌*◌, ◌/◌, ◌≤◌, ◌<◌, min}
-use Rattle.std.specs.Prelude.{Bool, ◌≡◌, ◌⊎◌, eqb}
+use Rattle.std.specs.Prelude.{Bool, ◌≡◌, ◌⊎◌, eqb, Option as Answer, Some, None}
+use Rattle.std.specs.declared.ops.ControlFlow.TheVariants.{Continue, Break}
 use Rattle.std.proofs.Math.Bool.{true, false}
-use Rattle.std.proofs.lemmas.Bool.{false≢true}
 use Rattle.std.proofs.Math.Path.{refl, ap, ap₂, sym, subst}
 use Rattle.std.proofs.Common.{◌∙◌, subst₂, inl, inr}
-use Rattle.std.proofs.Math.Option.{none, some-injective, none-ne-some}
+use Rattle.std.proofs.Math.Option.{none, some}
 use mathlib.Core.List.{List, [], ◌∷◌, ◌++◌}
 use Rattle.std.proofs.Math.Nat.{min-le_left, min-le_right, le-min, sub-zero}
 use native.Mathlib.Omega.{arith}
@@ -27,19 +27,17 @@ use Rattle.tables.specs.Held.{automaton_of}
 use Rattle.move_index.specs.Keys.{ByState, ByWords}
 use Rattle.readings.specs.Memo.{MemoUpTo}
 use Rattle.results.specs.Collecting.{new_results}
-use Rattle.added_results.specs.declared.Grown.{Grown}
 use Rattle.added_results.specs.Adding.{Grows, StatesExist}
-use Rattle.one_round.specs.Rounding.{Standing, Rounded}
+use Rattle.one_round.specs.Rounding.{Standing, Fits, Exceeds, Rounded}
 use Rattle.one_round.specs.Rounding.Laws.{round_is}
 use Rattle.saturation.specs.declared.Saturated.{Saturated as SaturatedWords}
-use Rattle.saturation.specs.declared.Turn.{Turn}
-use Rattle.saturation.specs.declared.Turn.TheVariants.{Done, On}
 use Rattle.saturation.specs.Prepared.Laws.{prepared_next}
-use Rattle.saturation.specs.Running.{most_moves, most_entries, Given, ended, EndsWith, Ends}
+use Rattle.saturation.specs.Running.{most_moves, most_entries, Given, EndsWith, EndsAs, Ends}
 use Rattle.saturation.specs.Running.Laws.{fits_within, over_without}
 use Rattle.saturation.specs.Sizes.{the_size}
 use Rattle.saturation.specs.Layout.{size_row}
-use Rattle.saturation.specs.Turns.{the_stopped, the_passed, after_round, Underway, left_from, Follows, GoesOn, TurnLeaves}
+use Rattle.saturation.specs.Held.{saturated_in}
+use Rattle.saturation.specs.Turns.{the_stopped, Turn, after_round, Underway, left_from, Follows, GoesOn, TurnLeaves}
 
 -- the number of rounds of a table with k + 1 sizes
 counted_rows : (A : Automaton) (k : ℕ) (sizes : List ℕ) → rounds_added (record { table = A; sizes = rows_in size_row (k + 1) sizes }) ≡ k
@@ -48,18 +46,18 @@ counted_rows A k sizes = let e = length_rows_in size_row (k + 1) sizes in omega 
 
 -- ---- what follows a round
 
-module _ (z : Table) (k : ℕ) (g : Grown) where
-  pub after_over : g.fits ≡ false → after_round z k g ≡ Done (the_passed g.table)
-  unfolding after_round
-  after_over y = rw (after_round, y) refl
+pub after_over : (z : Table) (k : ℕ) → after_round z k None ≡ Break None
+unfolding after_round
+after_over z k = refl
 
-  pub after_still : g.fits ≡ true → g.table.moves ≡ z.moves → after_round z k g ≡ Done (the_stopped g.table k false)
+module _ (z : Table) (k : ℕ) (next : Table) where
+  pub after_still : next.moves ≡ z.moves → after_round z k (Some next) ≡ Break (Some (the_stopped next k false))
   unfolding after_round
-  after_still y e = rw (after_round, y, eq-eqb _ _ e) refl
+  after_still e = rw (after_round, eq-eqb _ _ e) refl
 
-  pub after_more : g.fits ≡ true → (g.table.moves ≡ z.moves → ⊥) → after_round z k g ≡ On g.table
+  pub after_more : (next.moves ≡ z.moves → ⊥) → after_round z k (Some next) ≡ Continue next
   unfolding after_round
-  after_more y n = rw (after_round, y, ne_eqb _ _ n) refl
+  after_more n = rw (after_round, ne_eqb _ _ n) refl
 
 -- ---- the first table
 
@@ -129,42 +127,42 @@ module _ (rules : List Rule) (inner : List ℕ) (rounds : ℕ) where
         }
 
     -- the end of what is left to do there is the end of what is left to do here
-    pub follows_end : (fits : Bool) (z' : Table) (n : ℕ) (more : Bool) (entries' moves' sizes' : List ℕ)
-        → EndsWith rules inner (left_from rules inner rounds z₁ k₁ e₁ m₁ s₁) z₁ e₁ m₁ fits z' n more entries' moves' sizes'
-        → EndsWith rules inner (left_from rules inner rounds z k entries moves sizes) z entries moves fits z' n more entries' moves' sizes'
-    follows_end fits z' n more entries' moves' sizes' e =
+    pub follows_end : (r : Answer SaturatedWords) (entries' moves' sizes' : List ℕ)
+        → EndsAs rules inner (left_from rules inner rounds z₁ k₁ e₁ m₁ s₁) z₁ e₁ m₁ r entries' moves' sizes'
+        → EndsAs rules inner (left_from rules inner rounds z k entries moves sizes) z entries moves r entries' moves' sizes'
+    follows_end (Some r) entries' moves' sizes' e =
         record {
           saturated = f.left ∙ e.saturated;
-          count = λ T q. e.count T (sym f.left ∙ q);
+          count = e.count;
           more_is = e.more_is;
-          standing = λ y. subst₂ (λ (x y : ℕ). Standing z' x y inner entries' moves') (ap most_moves f.moves_long) (ap₂ most_entries f.entries_long f.same_states) (e.standing y);
-          entries_filled = λ y x. e.entries_filled y (f.entries_filled x);
-          moves_filled = λ y x. e.moves_filled y (f.moves_filled x);
+          standing = subst₂ (λ (x y : ℕ). Standing r.table x y inner entries' moves') (ap most_moves f.moves_long) (ap₂ most_entries f.entries_long f.same_states) e.standing;
+          entries_filled = λ x. e.entries_filled (f.entries_filled x);
+          moves_filled = λ x. e.moves_filled (f.moves_filled x);
           few = e.few;
-          none_counted = e.none_counted;
         }
+    follows_end None entries' moves' sizes' e = f.left ∙ e
 
   -- what is left to do on the first table is the whole
-  pub left_whole : (z : Table) (entries moves sizes : List ℕ) (fits : Bool) (z' : Table) (n : ℕ) (more : Bool) (entries' moves' sizes' : List ℕ)
-      → EndsWith rules inner (left_from rules inner rounds z 0 entries moves sizes) z entries moves fits z' n more entries' moves' sizes'
-      → Ends rules rounds inner z entries moves fits z' n more entries' moves' sizes'
+  pub left_whole : (z : Table) (entries moves sizes : List ℕ) (r : Answer SaturatedWords) (entries' moves' sizes' : List ℕ)
+      → EndsAs rules inner (left_from rules inner rounds z 0 entries moves sizes) z entries moves r entries' moves' sizes'
+      → Ends rules rounds inner z entries moves r entries' moves' sizes'
   unfolding saturate left_from rows_in first_of
-  left_whole z entries moves sizes fits z' n more entries' moves' sizes' e =
-      subst (λ (w : ℕ). EndsWith rules inner (saturate_from rules (lent (length moves) (length entries)) w [] (automaton_of z inner entries moves)) z entries moves fits z' n more entries' moves' sizes') (sub-zero rounds) e
+  left_whole z entries moves sizes r entries' moves' sizes' e =
+      subst (λ (w : ℕ). EndsAs rules inner (saturate_from rules (lent (length moves) (length entries)) w [] (automaton_of z inner entries moves)) z entries moves r entries' moves' sizes') (sub-zero rounds) e
 
   -- ---- the turn that ends the rounds, and one after which they go on
 
   pub turns_done : (z : Table) (entries moves sizes : List ℕ) (z₁ : Table) (k : ℕ) (e₁ m₁ s₁ : List ℕ) → Follows rules inner rounds z 0 entries moves sizes z₁ k e₁ m₁ s₁
       → (t : Turn) (e₂ m₂ s₂ states words memo : List ℕ) → TurnLeaves rules inner rounds z₁ k e₁ m₁ s₁ t e₂ m₂ s₂ states words memo
-      → (r : SaturatedWords) → t ≡ Done r → Ends rules rounds inner z entries moves r.fits r.table r.rounds r.more e₂ m₂ s₂
+      → (r : Answer SaturatedWords) → t ≡ Break r → Ends rules rounds inner z entries moves r e₂ m₂ s₂
   turns_done z entries moves sizes z₁ k e₁ m₁ s₁ f t e₂ m₂ s₂ states words memo h r q =
-      left_whole z entries moves sizes r.fits r.table r.rounds r.more e₂ m₂ s₂
-      (follows_end z 0 entries moves sizes z₁ k e₁ m₁ s₁ f r.fits r.table r.rounds r.more e₂ m₂ s₂
+      left_whole z entries moves sizes r e₂ m₂ s₂
+      (follows_end z 0 entries moves sizes z₁ k e₁ m₁ s₁ f r e₂ m₂ s₂
       (subst (λ (t : Turn). TurnLeaves rules inner rounds z₁ k e₁ m₁ s₁ t e₂ m₂ s₂ states words memo) q h))
 
   pub turns_on : (z : Table) (k : ℕ) (entries moves sizes : List ℕ) (t : Turn) (e₂ m₂ s₂ states words memo : List ℕ)
       → TurnLeaves rules inner rounds z k entries moves sizes t e₂ m₂ s₂ states words memo
-      → (z₂ : Table) → t ≡ On z₂ → GoesOn rules inner rounds z k entries moves sizes z₂ e₂ m₂ s₂ states words memo
+      → (z₂ : Table) → t ≡ Continue z₂ → GoesOn rules inner rounds z k entries moves sizes z₂ e₂ m₂ s₂ states words memo
   turns_on z k entries moves sizes t e₂ m₂ s₂ states words memo h z₂ q =
       subst (λ (t : Turn). TurnLeaves rules inner rounds z k entries moves sizes t e₂ m₂ s₂ states words memo) q h
 
@@ -200,36 +198,27 @@ module _ (rules : List Rule) (inner : List ℕ) (rounds : ℕ) where
           ∙ ap₂ (λ (m e : ℕ). rows_in size_row k sizes ++ (the_size m e ∷ [])) (sym (length_rows_in move_row z.moves moves)) (sym (length_rows_in entry_row z.entries entries))
 
       -- the table so far, with its sizes
-      so_far : ended true now (rows_in size_row k sizes ++ (size_of now ∷ [])) ≡ ended true now (rows_in size_row (k + 1) sizes')
-      so_far = ap (ended true now) (sym sizes_more)
+      so_far : some (record { table = now; sizes = rows_in size_row k sizes ++ (size_of now ∷ []) }) ≡ some (saturated_in z inner entries moves (k + 1) sizes')
+      so_far = ap (λ (l : List Size). some (record { table = now; sizes = l })) (sym sizes_more)
 
       -- ---- as many rounds are run as are asked for
 
-      turn_stops : k ≡ rounds → (more : Bool) → more ≡ adds_move rules now
-          → EndsWith rules inner (left_from rules inner rounds z k entries moves sizes) z entries moves true z k more entries moves sizes'
-      unfolding ended left_from
-      turn_stops e more m =
+      pub turn_stopped : k ≡ rounds → (more : Bool) → more ≡ adds_move rules now
+          → EndsWith rules inner (left_from rules inner rounds z k entries moves sizes) z entries moves z k more entries moves sizes'
+      unfolding left_from
+      turn_stopped e more m =
           let none_more : rounds - k ≡ 0 = omega arith in
-          let left : saturate_from rules limit (rounds - k) (rows_in size_row k sizes) now ≡ ended true now (rows_in size_row (k + 1) sizes') =
-          ap (λ (n : ℕ). saturate_from rules limit n (rows_in size_row k sizes) now) none_more
-          ∙ saturate_from_stops rules limit (rows_in size_row k sizes) now fits_now
-          ∙ so_far in
           record {
-            saturated = left;
-            count = λ T q. sym (counted_rows now k sizes') ∙ ap rounds_added (some-injective _ T (sym left ∙ q));
-            more_is = λ _. m;
-            standing = λ _. h.standing;
-            entries_filled = λ _ x. x;
-            moves_filled = λ _ x. x;
+            saturated = ap (λ (n : ℕ). saturate_from rules limit n (rows_in size_row k sizes) now) none_more
+                ∙ saturate_from_stops rules limit (rows_in size_row k sizes) now fits_now
+                ∙ so_far;
+            count = sym (counted_rows now k sizes');
+            more_is = m;
+            standing = h.standing;
+            entries_filled = λ x. x;
+            moves_filled = λ x. x;
             few = few;
-            none_counted = λ f. absurd (false≢true (sym f));
           }
-
-      pub turn_stopped : k ≡ rounds → (more : Bool) → more ≡ adds_move rules now → (r : SaturatedWords) → r ≡ the_stopped z k more
-          → EndsWith rules inner (left_from rules inner rounds z k entries moves sizes) z entries moves r.fits r.table r.rounds r.more entries moves sizes'
-      turn_stopped e more m r q =
-          subst (λ (r : SaturatedWords). EndsWith rules inner (left_from rules inner rounds z k entries moves sizes) z entries moves r.fits r.table r.rounds r.more entries moves sizes')
-          (sym q) (turn_stops e more m)
 
       -- ---- one more round
 
@@ -240,8 +229,7 @@ module _ (rules : List Rule) (inner : List ℕ) (rounds : ℕ) where
           let fuel : rounds - k ≡ suc (rounds - suc k) = omega arith in
           ap (λ (n : ℕ). saturate_from rules limit n (rows_in size_row k sizes) now) fuel
 
-      module _ (go_on : k ≡ rounds → ⊥) (fits : Bool) (z₂ : Table) (e₂ m₂ : List ℕ)
-          (r : Rounded rules inner z (most_moves (length moves)) (most_entries (length entries) z.inner1) entries moves fits z₂ e₂ m₂) where
+      module _ (go_on : k ≡ rounds → ⊥) (e₂ m₂ : List ℕ) where
         abbrev next : Automaton
         next = round rules now
 
@@ -262,31 +250,20 @@ module _ (rules : List Rule) (inner : List ℕ) (rounds : ℕ) where
             let c : length next.entries ≡ length now.entries = ap (λ (A : Automaton). length A.entries) (still_same rules now e) in
             omega arith
 
-        turn_over : fits ≡ false → EndsWith rules inner (left_from rules inner rounds z k entries moves sizes) z entries moves false z₂ 0 false e₂ m₂ sizes'
-        unfolding ended
-        turn_over e =
-            let o : (most_moves (length moves) < length next.moves) ⊎ (most_entries (length entries) z.inner1 < length next.entries) = r.over e in
+        turn_over : Exceeds rules inner z (most_moves (length moves)) (most_entries (length entries) z.inner1) entries moves e₂ m₂
+            → left_from rules inner rounds z k entries moves sizes ≡ none
+        turn_over r =
+            let o = r.over in
             let w : within limit next ≡ false = over_without (length moves) (length entries) z.inner1 (states_small inner rounds z k entries moves h) next same_J o in
-            let left : left_from rules inner rounds z k entries moves sizes ≡ none =
             from_here go_on
             ∙ saturate_from_goes_on rules limit (rounds - suc k) (rows_in size_row k sizes) now fits_now (over_differs o)
-            ∙ saturate_from_exceeds rules limit (rounds - suc k) (rows_in size_row k sizes ++ (size_of now ∷ [])) next w in
-            record {
-              saturated = left;
-              count = λ T q. absurd (none-ne-some T (sym left ∙ q));
-              more_is = λ f. absurd (false≢true f);
-              standing = λ f. absurd (false≢true f);
-              entries_filled = λ f. absurd (false≢true f);
-              moves_filled = λ f. absurd (false≢true f);
-              few = omega arith;
-              none_counted = λ _. (refl, refl);
-            }
+            ∙ saturate_from_exceeds rules limit (rounds - suc k) (rows_in size_row k sizes ++ (size_of now ∷ [])) next w
 
         -- ---- the round fits
 
-        module _ (y : fits ≡ true) where
+        module _ (z₂ : Table) (r : Fits rules inner z (most_moves (length moves)) (most_entries (length entries) z.inner1) entries moves z₂ e₂ m₂) where
           grown : Grows z entries moves (new_results rules now) z₂ e₂ m₂
-          grown = r.grows y
+          grown = r.grows
 
           next_is : automaton_of z₂ inner e₂ m₂ ≡ next
           next_is = grown.table_is inner ∙ sym (round_is rules now)
@@ -297,25 +274,21 @@ module _ (rules : List Rule) (inner : List ℕ) (rounds : ℕ) where
           now_moves : length now.moves ≡ z.moves
           now_moves = length_rows_in move_row z.moves moves
 
-          turn_ends : z₂.moves ≡ z.moves → EndsWith rules inner (left_from rules inner rounds z k entries moves sizes) z entries moves true z₂ k false e₂ m₂ sizes'
-          unfolding ended
+          turn_ends : z₂.moves ≡ z.moves → EndsWith rules inner (left_from rules inner rounds z k entries moves sizes) z entries moves z₂ k false e₂ m₂ sizes'
           turn_ends e =
               let still : length next.moves ≡ length now.moves = next_moves ∙ e ∙ sym now_moves in
               let same : automaton_of z₂ inner e₂ m₂ ≡ now = next_is ∙ still_same rules now still in
-              let left : left_from rules inner rounds z k entries moves sizes ≡ ended true (automaton_of z₂ inner e₂ m₂) (rows_in size_row (k + 1) sizes') =
-              from_here go_on
-              ∙ saturate_from_ends rules limit (rounds - suc k) (rows_in size_row k sizes) now fits_now still
-              ∙ so_far
-              ∙ ap (λ (A : Automaton). ended true A (rows_in size_row (k + 1) sizes')) (sym same) in
               record {
-                saturated = left;
-                count = λ T q. sym (counted_rows (automaton_of z₂ inner e₂ m₂) k sizes') ∙ ap rounds_added (some-injective _ T (sym left ∙ q));
-                more_is = λ _. sym (ap (adds_move rules) same ∙ closed_nothing rules now (still_closed rules now still));
-                standing = λ _. r.standing y;
-                entries_filled = λ _. grown.entries_filled;
-                moves_filled = λ _. grown.moves_filled;
+                saturated = from_here go_on
+                    ∙ saturate_from_ends rules limit (rounds - suc k) (rows_in size_row k sizes) now fits_now still
+                    ∙ so_far
+                    ∙ ap (λ (A : Automaton). some (record { table = A; sizes = rows_in size_row (k + 1) sizes' })) (sym same);
+                count = sym (counted_rows (automaton_of z₂ inner e₂ m₂) k sizes');
+                more_is = sym (ap (adds_move rules) same ∙ closed_nothing rules now (still_closed rules now still));
+                standing = r.standing;
+                entries_filled = grown.entries_filled;
+                moves_filled = grown.moves_filled;
                 few = few;
-                none_counted = λ f. absurd (false≢true (sym f));
               }
 
           module _ (n : z₂.moves ≡ z.moves → ⊥) where
@@ -350,7 +323,7 @@ module _ (rules : List Rule) (inner : List ℕ) (rounds : ℕ) where
                     moves_long = grown.moves_long;
                   };
                   underway = record {
-                    standing = subst₂ (λ (x y : ℕ). Standing z₂ x y inner e₂ m₂) (ap most_moves (sym grown.moves_long)) (ap₂ most_entries (sym grown.entries_long) (sym grown.same_states)) (r.standing y);
+                    standing = subst₂ (λ (x y : ℕ). Standing z₂ x y inner e₂ m₂) (ap most_moves (sym grown.moves_long)) (ap₂ most_entries (sym grown.entries_long) (sym grown.same_states)) r.standing;
                     asked = omega arith;
                     count = omega arith;
                   };
@@ -359,14 +332,15 @@ module _ (rules : List Rule) (inner : List ℕ) (rounds : ℕ) where
                 }
 
       -- what the turn leaves, after the round
-      pub turn_rounds : (go_on : k ≡ rounds → ⊥) (g : Grown) (e₂ m₂ : List ℕ)
-          → Rounded rules inner z (most_moves (length moves)) (most_entries (length entries) z.inner1) entries moves g.fits g.table e₂ m₂
+      pub turn_rounds : (go_on : k ≡ rounds → ⊥) (g : Answer Table) (e₂ m₂ : List ℕ)
+          → Rounded rules inner z (most_moves (length moves)) (most_entries (length entries) z.inner1) entries moves g e₂ m₂
           → (states words memo : List ℕ) → StatesExist now → ByState z.moves moves states → ByWords z.moves moves words → MemoUpTo z.moves memo
           → (t : Turn) → t ≡ after_round z k g → TurnLeaves rules inner rounds z k entries moves sizes t e₂ m₂ sizes' states words memo
-      turn_rounds go_on g e₂ m₂ r states words memo x bs bw u t q =
+      turn_rounds go_on (Some z₂) e₂ m₂ r states words memo x bs bw u t q =
           let leaves : Turn → Type 0 = λ t. TurnLeaves rules inner rounds z k entries moves sizes t e₂ m₂ sizes' states words memo in
-          by_test g.fits
-          (λ y. by_test (eqb g.table.moves z.moves)
-          (λ e. subst leaves (sym (q ∙ after_still z k g y (eqb-true _ _ e))) (turn_ends go_on g.fits g.table e₂ m₂ r y (eqb-true _ _ e)))
-          (λ e. subst leaves (sym (q ∙ after_more z k g y (eqb-false _ _ e))) (turn_goes_on go_on g.fits g.table e₂ m₂ r y (eqb-false _ _ e) states words memo x bs bw u)))
-          (λ y. subst leaves (sym (q ∙ after_over z k g y)) (turn_over go_on g.fits g.table e₂ m₂ r y))
+          by_test (eqb z₂.moves z.moves)
+          (λ e. subst leaves (sym (q ∙ after_still z k z₂ (eqb-true _ _ e))) (turn_ends go_on e₂ m₂ z₂ r (eqb-true _ _ e)))
+          (λ e. subst leaves (sym (q ∙ after_more z k z₂ (eqb-false _ _ e))) (turn_goes_on go_on e₂ m₂ z₂ r (eqb-false _ _ e) states words memo x bs bw u))
+      turn_rounds go_on None e₂ m₂ r states words memo x bs bw u t q =
+          subst (λ (t : Turn). TurnLeaves rules inner rounds z k entries moves sizes t e₂ m₂ sizes' states words memo)
+          (sym (q ∙ after_over z k)) (turn_over go_on e₂ m₂ r)

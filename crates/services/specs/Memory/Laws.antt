@@ -30,7 +30,6 @@ sets_zeros n ws h =
 
 -- zeros behind words change none, as there is 0 past their end
 get_or_zeros : (ws : List ℕ) (k i : ℕ) → get_or (ws ++ zeros k) i 0 ≡ get_or ws i 0
-unfolding zeros
 get_or_zeros [] zero i = refl
 get_or_zeros [] (suc k) zero = refl
 get_or_zeros [] (suc k) (suc i) = get_or_zeros [] k i

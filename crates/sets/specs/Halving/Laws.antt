@@ -1,43 +1,39 @@
 -- The number of halvings of a set is its least member.
 -- Assumes nothing.
-use Rattle.std.specs.Prelude.{ℕ, ◌+◌, ◌-◌, ◌*◌, ◌/◌, ◌%◌, ◌^◌, ◌≤◌, ◌<◌, ◌≡◌, true, false, ◌∷◌}
-use Rattle.std.proofs.Common.{ap, sym, ◌∙◌, one-mul, mul_assoc, mul-le-mul_right, lt_of_not-le, not-le_of_lt, le_trans, add-one, arith, pow_mono, eqb-true, eq-eqb}
-use Rattle.std.proofs.lemmas.Bool.{false≢true}
+use Rattle.std.specs.Prelude.{ℕ, zero, suc, ◌-◌, ◌*◌, ◌/◌, ◌%◌, ◌^◌, ◌≤◌, ◌<◌, ◌≡◌, refl, ◌∷◌}
+use Rattle.std.proofs.Common.{ap, sym, ◌∙◌, one-mul, mul_assoc, mul-le-mul_right, arith}
 use Rattle.std.proofs.Math.Nat.{pow-succ'}
-use Rattle.words.specs.Sets.{member, members}
-use Rattle.words.proofs.Sets.Laws.{by_parity, member_zero, members_least}
+use Rattle.std.specs.Int.Count.{count_trailing_zeros, under}
+use Rattle.words.specs.Sets.{members}
+use Rattle.words.proofs.Sets.Laws.{members_least}
 use Rattle.sets.specs.Halving.{Halved}
 
-pow_le : (x q : ℕ) → 0 < x → 2 ^ q ≤ x * 2 ^ q
-pow_le x q h = rw (one-mul (2 ^ q)) at (mul-le-mul_right (2 ^ q) h)
+halving : (x s q : ℕ) → s % 2 ≡ 0 → s / 2 ≡ x * 2 ^ q → s ≡ x * 2 ^ suc q
+halving x s q e h =
+    let d : s ≡ s / 2 * 2 = omega arith in
+    d ∙ ap (λ (k : ℕ). k * 2) h ∙ mul_assoc x (2 ^ q) 2 ∙ ap (λ (k : ℕ). x * k) (let p : 2 ^ q * 2 ≡ 2 ^ suc q = omega (arith, pow-succ' 2 q) in p)
 
-place_below : (x q w : ℕ) → 0 < x → x * 2 ^ q < 2 ^ w → q < w
-place_below x q w h l = lt_of_not-le (λ k. not-le_of_lt l (le_trans (pow_mono k) (pow_le x q h)))
+halved_by : (k s t d : ℕ) → 0 < s → s % 2 ≡ d → (0 < s / 2 → Halved k (s / 2) t) → Halved (suc k) s (under d t)
+halved_by k s t zero h e rest =
+    let r : Halved k (s / 2) t = rest (omega arith) in
+    record { left = r.left; is = halving r.left s t e r.is; odd = r.odd; place = omega (arith, r.place) }
+halved_by k s t (suc d) h e rest = record { left = s; is = omega arith; odd = omega arith; place = omega arith }
 
-halving : (x q : ℕ) → x % 2 ≡ 0 → x * 2 ^ q ≡ x / 2 * 2 ^ (q + 1)
-halving x q e =
-    let d : x ≡ x / 2 * 2 = omega arith in
-    ap (λ (k : ℕ). k * 2 ^ q) d
-    ∙ mul_assoc (x / 2) 2 (2 ^ q)
-    ∙ ap (λ (k : ℕ). x / 2 * k) (sym (pow-succ' 2 q) ∙ ap (λ (k : ℕ). 2 ^ k) (sym (add-one q)))
+-- the zeros below the lowest 1 are the halvings
+pub halved : (k s : ℕ) → 0 < s → s < 2 ^ k → Halved k s (count_trailing_zeros k s)
+unfolding count_trailing_zeros
+halved zero s h l = absurd (omega arith)
+halved (suc k) s h l = halved_by k s (count_trailing_zeros k (s / 2)) (s % 2) h refl (λ m. halved k (s / 2) m (omega (arith, pow-succ' 2 k)))
 
-even : (x : ℕ) → member x 0 ≡ false → x % 2 ≡ 0
-even x e = by_parity x (λ z. z) (λ o. absurd (false≢true (sym e ∙ member_zero x ∙ eq-eqb _ _ o)))
+module _ {s q bit : ℕ} (some : 0 < s) (fits : s < 2 ^ 64) (zeros : q ≡ count_trailing_zeros 64 s) (e : bit ≡ 2 ^ q) where
+  h : Halved 64 s q
+  h = rw zeros (halved 64 s some fits)
 
--- a turn of the loop
-pub halved_more : (s q x : ℕ) → Halved s q x → member x 0 ≡ false → s < 2 ^ 64 → Halved s (q + 1) (x / 2)
-halved_more s q x h m l =
-    let e : x % 2 ≡ 0 = even x m in
-    let k : 0 < x = h.some_left in
-    let more : s ≡ x / 2 * 2 ^ (q + 1) = h.is ∙ halving x q e in
-    let left : 0 < x / 2 = omega arith in
-    record { is = more; some_left = left; place = place_below (x / 2) (q + 1) 64 left (rw more at l) }
+  -- the bit of the least member is in the set
+  pub bit_below : bit ≤ s
+  bit_below =
+      let one : 1 ≤ h.left = omega (arith, h.odd) in
+      rw (e, h.is) (rw (one-mul (2 ^ q)) at (mul-le-mul_right (2 ^ q) one))
 
--- the bit of the least member is in the set
-pub bit_below : (s q x bit : ℕ) → Halved s q x → bit ≡ 2 ^ q → bit ≤ s
-bit_below s q x bit h e = rw (e, h.is) (pow_le x q h.some_left)
-
--- the loop's end
-pub least_found : (s q x bit : ℕ) → Halved s q x → member x 0 ≡ true → bit ≡ 2 ^ q → members s ≡ q ∷ members (s - bit)
-least_found s q x bit h m e =
-    members_least s x q h.is (eqb-true _ _ (sym (member_zero x) ∙ m)) ∙ ap (λ (k : ℕ). q ∷ members (s - k)) (sym e)
+  pub least_found : members s ≡ q ∷ members (s - bit)
+  least_found = members_least s h.left q h.is h.odd ∙ ap (λ (k : ℕ). q ∷ members (s - k)) (sym e)

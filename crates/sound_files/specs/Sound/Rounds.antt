@@ -42,7 +42,6 @@ module _ (file : List ℕ) {body : List ℕ} {n : ℕ} (b : body ≡ body_of fil
 
 -- words that are zero as they are made
 pub made_zero : (n : ℕ) → replicate n 0 ≡ zeros (length {A = ℕ} (replicate n 0))
-unfolding zeros
 made_zero n = ap zeros (sym (length-replicate n 0))
 
 -- a start that is read is the one of this number

@@ -6,184 +6,125 @@ use Rattle.walks.specs.Cell.{order1, order2}
 use Rattle.services.specs.Listing.{ascii}
 use Rattle.services.specs.Brackets.{symbols_text, stacks_text}
 use Rattle.stack_text.specs.Cells.{stack_in}
-use Rattle.bounded_text.specs.Page.Laws.{prints_then, prints_on, prints_to, prints_same, prints_none}
+use Rattle.bounded_text.specs.Page.Laws.{prints_then, prints_on, prints_stop, prints_same, prints_none}
 use Rattle.stack_text.specs.Cells.Laws.{annotation1, annotation2, order2_is, above_refers, stacks_are, stacks_none, symbol_refers, symbols_are, symbols_none}
 use Rattle.stack_text.proofs.+stacks.Goals as goal
 
-pub put_annotation-returns-in_default : goal.put_annotation-returns-in_default
+pub put_annotation-returns-in_err-symbols : goal.put_annotation-returns-in_err-symbols
 unfolding ascii
-put_annotation-returns-in_default t c =
-    let if1 = c.if-order_at-eq1 in
-    let order = c.order_at in
-    let bytes = c.put_bytes-opened in
-    prints_same (sym (annotation1 c.requires.0 c.requires.1 (sym if1.true ∙ order.ensures)))
-    (prints_on _ (prints_on (symbols_text (order1 (stack_in _ _ _))) (prints_to c.in_default.is bytes.ensures)))
+put_annotation-returns-in_err-symbols t c =
+    prints_same (sym (annotation1 c.requires.0 c.requires.1 (sym c.if-order_at-eq1.true ∙ c.order_at.ensures)))
+    (prints_stop _ c.from_residual.ensures (prints_on (symbols_text (order1 (stack_in _ _ _))) c.in_err-symbols.ensures))
 
-pub put_annotation-returns-in_default-printed : goal.put_annotation-returns-in_default-printed
+pub put_annotation-returns-in_err-close : goal.put_annotation-returns-in_err-close
 unfolding ascii
-put_annotation-returns-in_default-printed t c =
-    let if1 = c.if-order_at-eq1 in
-    let order = c.order_at in
-    let bytes = c.put_bytes-opened in
-    let symbols = c.put_symbols-printed in
-    prints_same (sym (annotation1 c.requires.0 c.requires.1 (sym if1.true ∙ order.ensures)))
-    (prints_on _ (prints_then (prints_to c.in-At.is bytes.ensures) (prints_to c.in_default-printed.is symbols.ensures)))
+put_annotation-returns-in_err-close t c =
+    prints_same (sym (annotation1 c.requires.0 c.requires.1 (sym c.if-order_at-eq1.true ∙ c.order_at.ensures)))
+    (prints_stop _ c.from_residual-in_err-close.ensures (prints_then c.in_ok-symbols.ensures c.in_err-close.ensures))
 
 pub put_annotation-returns-then-order_at-eq1 : goal.put_annotation-returns-then-order_at-eq1
 unfolding ascii
 put_annotation-returns-then-order_at-eq1 t c =
-    let if1 = c.if-order_at-eq1 in
-    let order = c.order_at in
-    let bytes = c.put_bytes-opened in
-    let symbols = c.put_symbols-printed in
-    let bytes2 = c.put_bytes in
-    prints_same (sym (annotation1 c.requires.0 c.requires.1 (sym if1.true ∙ order.ensures)))
-    (prints_then (prints_then (prints_to c.in-At.is bytes.ensures) (prints_to c.in-At-printed.is symbols.ensures)) bytes2.ensures)
+    prints_same (sym (annotation1 c.requires.0 c.requires.1 (sym c.if-order_at-eq1.true ∙ c.order_at.ensures)))
+    (prints_then (prints_then c.in_ok-symbols.ensures c.in_ok-close.ensures) c.put_bytes-then-order_at-eq1.ensures)
 
-pub put_annotation-returns-in_default-opened : goal.put_annotation-returns-in_default-opened
+pub put_annotation-returns-in_err-stacks : goal.put_annotation-returns-in_err-stacks
 unfolding ascii
-put_annotation-returns-in_default-opened t c =
-    let order = c.order_at in
-    let if1 = c.if-order_at-eq1 in
-    let bytes3 = c.put_bytes-opened-2 in
-    prints_same (sym (annotation2 c.requires.0 c.requires.1 order.ensures if1.false))
-    (prints_on _ (prints_on (stacks_text (order2 (stack_in _ _ _))) (prints_to c.in_default-opened.is bytes3.ensures)))
+put_annotation-returns-in_err-stacks t c =
+    prints_same (sym (annotation2 c.requires.0 c.requires.1 c.order_at.ensures c.if-order_at-eq1.false))
+    (prints_stop _ c.from_residual-in_err-stacks.ensures (prints_on (stacks_text (order2 (stack_in _ _ _))) c.in_err-stacks.ensures))
 
-pub put_annotation-put_stacks-printed-requires : goal.put_annotation-put_stacks-printed-requires
-put_annotation-put_stacks-printed-requires t c =
-    let order = c.order_at in
-    let if1 = c.if-order_at-eq1 in
-    (omega arith, (c.requires.0, c.requires.1, order2_is c.requires.0 c.requires.1 order.ensures if1.false))
+pub put_annotation-put_stacks-requires : goal.put_annotation-put_stacks-requires
+put_annotation-put_stacks-requires t c =
+    (omega arith, (c.requires.0, c.requires.1, order2_is c.requires.0 c.requires.1 c.order_at.ensures c.if-order_at-eq1.false))
 
-pub put_annotation-returns-in_default-printed-2 : goal.put_annotation-returns-in_default-printed-2
+pub put_annotation-returns-in_err-close-2 : goal.put_annotation-returns-in_err-close-2
 unfolding ascii
-put_annotation-returns-in_default-printed-2 t c =
-    let order = c.order_at in
-    let if1 = c.if-order_at-eq1 in
-    let bytes3 = c.put_bytes-opened-2 in
-    let stacks = c.put_stacks-printed in
-    prints_same (sym (annotation2 c.requires.0 c.requires.1 order.ensures if1.false))
-    (prints_on _ (prints_then (prints_to c.in-At-opened.is bytes3.ensures) (prints_to c.in_default-printed-2.is stacks.ensures)))
+put_annotation-returns-in_err-close-2 t c =
+    prints_same (sym (annotation2 c.requires.0 c.requires.1 c.order_at.ensures c.if-order_at-eq1.false))
+    (prints_stop _ c.from_residual-in_err-close-2.ensures (prints_then c.in_ok-stacks.ensures c.in_err-close-2.ensures))
 
 pub put_annotation-returns : goal.put_annotation-returns
 unfolding ascii
 put_annotation-returns t c =
-    let order = c.order_at in
-    let if1 = c.if-order_at-eq1 in
-    let bytes3 = c.put_bytes-opened-2 in
-    let stacks = c.put_stacks-printed in
-    let bytes4 = c.put_bytes-2 in
-    prints_same (sym (annotation2 c.requires.0 c.requires.1 order.ensures if1.false))
-    (prints_then (prints_then (prints_to c.in-At-opened.is bytes3.ensures) (prints_to c.in-At-printed-2.is stacks.ensures)) bytes4.ensures)
+    prints_same (sym (annotation2 c.requires.0 c.requires.1 c.order_at.ensures c.if-order_at-eq1.false))
+    (prints_then (prints_then c.in_ok-stacks.ensures c.in_ok-close-2.ensures) c.put_bytes-3.ensures)
 
 pub put_stacks-returns-in_default : goal.put_stacks-returns-in_default
 put_stacks-returns-in_default t c =
     prints_same (stacks_none c.requires.0 c.requires.1 _ c.cell_at-cell.ensures c.in_default.not-Above c.requires.2)
     prints_none
 
-pub put_stacks-returns-in_default-opened : goal.put_stacks-returns-in_default-opened
+pub put_stacks-returns-in_err-symbols : goal.put_stacks-returns-in_err-symbols
 unfolding ascii
-put_stacks-returns-in_default-opened t c =
-    let read = c.cell_at-cell in
-    let bytes = c.put_bytes-opened in
-    prints_same (sym (stacks_are c.requires.0 c.requires.1 _ read.ensures c.in-Above.is))
-    (prints_on _ (prints_on _ (prints_on (symbols_text (order1 (stack_in _ _ _))) (prints_to c.in_default-opened.is bytes.ensures))))
+put_stacks-returns-in_err-symbols t c =
+    prints_same (sym (stacks_are c.requires.0 c.requires.1 _ c.cell_at-cell.ensures c.in-Above.is))
+    (prints_stop _ c.from_residual.ensures (prints_on _ (prints_on (symbols_text (order1 (stack_in _ _ _))) c.in_err-symbols.ensures)))
 
-pub put_stacks-put_symbols-printed-requires : goal.put_stacks-put_symbols-printed-requires
-put_stacks-put_symbols-printed-requires t c =
-    let read = c.cell_at-cell in
-    let r = above_refers c.requires.0 c.requires.1 _ read.ensures c.in-Above.is in
+pub put_stacks-put_symbols-requires : goal.put_stacks-put_symbols-requires
+put_stacks-put_symbols-requires t c =
+    let r = above_refers c.requires.0 c.requires.1 _ c.cell_at-cell.ensures c.in-Above.is in
     (omega arith, (c.requires.0, omega arith, r.2))
 
-pub put_stacks-returns-in_default-printed : goal.put_stacks-returns-in_default-printed
+pub put_stacks-returns-in_err-close : goal.put_stacks-returns-in_err-close
 unfolding ascii
-put_stacks-returns-in_default-printed t c =
-    let read = c.cell_at-cell in
-    let bytes = c.put_bytes-opened in
-    let symbols = c.put_symbols-printed in
-    prints_same (sym (stacks_are c.requires.0 c.requires.1 _ read.ensures c.in-Above.is))
-    (prints_on _ (prints_on _ (prints_then (prints_to c.in-At.is bytes.ensures) (prints_to c.in_default-printed.is symbols.ensures))))
+put_stacks-returns-in_err-close t c =
+    prints_same (sym (stacks_are c.requires.0 c.requires.1 _ c.cell_at-cell.ensures c.in-Above.is))
+    (prints_stop _ c.from_residual-in_err-close.ensures (prints_on _ (prints_then c.in_ok-symbols.ensures c.in_err-close.ensures)))
 
-pub put_stacks-returns-in_default-closed : goal.put_stacks-returns-in_default-closed
+pub put_stacks-returns-in_err-next : goal.put_stacks-returns-in_err-next
 unfolding ascii
-put_stacks-returns-in_default-closed t c =
-    let read = c.cell_at-cell in
-    let bytes = c.put_bytes-opened in
-    let symbols = c.put_symbols-printed in
-    let bytes2 = c.put_bytes-closed in
-    prints_same (sym (stacks_are c.requires.0 c.requires.1 _ read.ensures c.in-Above.is))
-    (prints_on _ (prints_then (prints_then (prints_to c.in-At.is bytes.ensures) (prints_to c.in-At-printed.is symbols.ensures)) (prints_to c.in_default-closed.is bytes2.ensures)))
+put_stacks-returns-in_err-next t c =
+    prints_same (sym (stacks_are c.requires.0 c.requires.1 _ c.cell_at-cell.ensures c.in-Above.is))
+    (prints_stop _ c.from_residual-in_err-next.ensures (prints_then (prints_then c.in_ok-symbols.ensures c.in_ok-close.ensures) c.in_err-next.ensures))
 
 pub put_stacks-put_stacks-requires : goal.put_stacks-put_stacks-requires
 put_stacks-put_stacks-requires t c =
-    let read = c.cell_at-cell in
-    let r = above_refers c.requires.0 c.requires.1 _ read.ensures c.in-Above.is in
+    let r = above_refers c.requires.0 c.requires.1 _ c.cell_at-cell.ensures c.in-Above.is in
     (omega (arith, r.1, c.decreases), (c.requires.0, omega (arith, r.1, c.requires.1), r.3))
 
 pub put_stacks-returns : goal.put_stacks-returns
 unfolding ascii
 put_stacks-returns t c =
-    let read = c.cell_at-cell in
-    let bytes = c.put_bytes-opened in
-    let symbols = c.put_symbols-printed in
-    let bytes2 = c.put_bytes-closed in
-    let stacks = c.put_stacks in
-    prints_same (sym (stacks_are c.requires.0 c.requires.1 _ read.ensures c.in-Above.is))
-    (prints_then (prints_then (prints_then (prints_to c.in-At.is bytes.ensures) (prints_to c.in-At-printed.is symbols.ensures)) (prints_to c.in-At-closed.is bytes2.ensures)) stacks.ensures)
+    prints_same (sym (stacks_are c.requires.0 c.requires.1 _ c.cell_at-cell.ensures c.in-Above.is))
+    (prints_then (prints_then (prints_then c.in_ok-symbols.ensures c.in_ok-close.ensures) c.in_ok-next.ensures) c.put_stacks.ensures)
 
 pub put_symbols-returns-in_default : goal.put_symbols-returns-in_default
 put_symbols-returns-in_default t c =
     prints_same (symbols_none c.requires.0 c.requires.1 _ c.cell_at-cell.ensures c.in_default.not-Symbol c.requires.2)
     prints_none
 
-pub put_symbols-returns-in_default-named : goal.put_symbols-returns-in_default-named
-put_symbols-returns-in_default-named t c =
-    let read = c.cell_at-cell in
-    let symbol = c.put_symbol-named in
-    prints_same (sym (symbols_are c.requires.0 c.requires.1 _ read.ensures c.in-Symbol.is))
-    (prints_on _ (prints_on _ (prints_on _ (prints_to c.in_default-named.is symbol.ensures))))
+pub put_symbols-returns-in_err-order : goal.put_symbols-returns-in_err-order
+put_symbols-returns-in_err-order t c =
+    prints_same (sym (symbols_are c.requires.0 c.requires.1 _ c.cell_at-cell.ensures c.in-Symbol.is))
+    (prints_stop _ c.from_residual.ensures (prints_on _ (prints_on _ c.in_err-order.ensures)))
 
-pub put_symbols-put_annotation-annotated-requires : goal.put_symbols-put_annotation-annotated-requires
-put_symbols-put_annotation-annotated-requires t c =
-    let read = c.cell_at-cell in
-    let r = symbol_refers c.requires.0 c.requires.1 _ read.ensures c.in-Symbol.is in
+pub put_symbols-put_annotation-requires : goal.put_symbols-put_annotation-requires
+put_symbols-put_annotation-requires t c =
+    let r = symbol_refers c.requires.0 c.requires.1 _ c.cell_at-cell.ensures c.in-Symbol.is in
     (omega arith, (c.requires.0, omega arith))
 
-pub put_symbols-returns-in_default-annotated : goal.put_symbols-returns-in_default-annotated
-put_symbols-returns-in_default-annotated t c =
-    let read = c.cell_at-cell in
-    let symbol = c.put_symbol-named in
-    let annotation = c.put_annotation-annotated in
-    prints_same (sym (symbols_are c.requires.0 c.requires.1 _ read.ensures c.in-Symbol.is))
-    (prints_on _ (prints_on _ (prints_then (prints_to c.in-At.is symbol.ensures) (prints_to c.in_default-annotated.is annotation.ensures))))
+pub put_symbols-returns-in_err-after : goal.put_symbols-returns-in_err-after
+put_symbols-returns-in_err-after t c =
+    prints_same (sym (symbols_are c.requires.0 c.requires.1 _ c.cell_at-cell.ensures c.in-Symbol.is))
+    (prints_stop _ c.from_residual-in_err-after.ensures (prints_on _ (prints_then c.in_ok-order.ensures c.in_err-after.ensures)))
 
-pub put_symbols-put_between-divided-requires : goal.put_symbols-put_between-divided-requires
-put_symbols-put_between-divided-requires t c =
-    let read = c.cell_at-cell in
-    let r = symbol_refers c.requires.0 c.requires.1 _ read.ensures c.in-Symbol.is in
+pub put_symbols-put_between-requires : goal.put_symbols-put_between-requires
+put_symbols-put_between-requires t c =
+    let r = symbol_refers c.requires.0 c.requires.1 _ c.cell_at-cell.ensures c.in-Symbol.is in
     (c.requires.0, omega arith, r.2)
 
-pub put_symbols-returns-in_default-divided : goal.put_symbols-returns-in_default-divided
-put_symbols-returns-in_default-divided t c =
-    let read = c.cell_at-cell in
-    let symbol = c.put_symbol-named in
-    let annotation = c.put_annotation-annotated in
-    let space = c.put_between-divided in
-    prints_same (sym (symbols_are c.requires.0 c.requires.1 _ read.ensures c.in-Symbol.is))
-    (prints_on _ (prints_then (prints_then (prints_to c.in-At.is symbol.ensures) (prints_to c.in-At-annotated.is annotation.ensures)) (prints_to c.in_default-divided.is space.ensures)))
+pub put_symbols-returns-in_err-next : goal.put_symbols-returns-in_err-next
+put_symbols-returns-in_err-next t c =
+    prints_same (sym (symbols_are c.requires.0 c.requires.1 _ c.cell_at-cell.ensures c.in-Symbol.is))
+    (prints_stop _ c.from_residual-in_err-next.ensures (prints_then (prints_then c.in_ok-order.ensures c.in_ok-after.ensures) c.in_err-next.ensures))
 
 pub put_symbols-put_symbols-requires : goal.put_symbols-put_symbols-requires
 put_symbols-put_symbols-requires t c =
-    let read = c.cell_at-cell in
-    let r = symbol_refers c.requires.0 c.requires.1 _ read.ensures c.in-Symbol.is in
+    let r = symbol_refers c.requires.0 c.requires.1 _ c.cell_at-cell.ensures c.in-Symbol.is in
     (omega (arith, r.1, c.decreases), (c.requires.0, omega (arith, r.1, c.requires.1), r.2))
 
 pub put_symbols-returns : goal.put_symbols-returns
 put_symbols-returns t c =
-    let read = c.cell_at-cell in
-    let symbol = c.put_symbol-named in
-    let annotation = c.put_annotation-annotated in
-    let space = c.put_between-divided in
-    let symbols = c.put_symbols in
-    prints_same (sym (symbols_are c.requires.0 c.requires.1 _ read.ensures c.in-Symbol.is))
-    (prints_then (prints_then (prints_then (prints_to c.in-At.is symbol.ensures) (prints_to c.in-At-annotated.is annotation.ensures)) (prints_to c.in-At-divided.is space.ensures)) symbols.ensures)
+    prints_same (sym (symbols_are c.requires.0 c.requires.1 _ c.cell_at-cell.ensures c.in-Symbol.is))
+    (prints_then (prints_then (prints_then c.in_ok-order.ensures c.in_ok-after.ensures) c.in_ok-next.ensures) c.put_symbols.ensures)

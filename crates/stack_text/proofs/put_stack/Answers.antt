@@ -4,26 +4,18 @@ use Rattle.services.specs.Listing.{ascii}
 use Rattle.walks.specs.Cell.{order2}
 use Rattle.services.specs.Brackets.{stacks_text, stack_text}
 use Rattle.stack_text.specs.Cells.{stack_in}
-use Rattle.bounded_text.specs.Page.Laws.{prints_then, prints_on, prints_to}
+use Rattle.bounded_text.specs.Page.Laws.{prints_then, prints_on, prints_stop}
 use Rattle.stack_text.proofs.put_stack.Goals as goal
 
-pub returns-in_default : goal.returns-in_default
+pub returns-in_err-stacks : goal.returns-in_err-stacks
 unfolding ascii stack_text
-returns-in_default c =
-    let bytes = c.put_bytes-opened in
-    prints_on _ (prints_on (stacks_text (order2 (stack_in _ _ _))) (prints_to c.in_default.is bytes.ensures))
+returns-in_err-stacks c =
+    prints_stop _ c.from_residual.ensures (prints_on (stacks_text (order2 (stack_in _ _ _))) c.in_err-stacks.ensures)
 
-pub returns-in_default-printed : goal.returns-in_default-printed
+pub returns-in_err-close : goal.returns-in_err-close
 unfolding ascii stack_text
-returns-in_default-printed c =
-    let bytes = c.put_bytes-opened in
-    let stacks = c.put_stacks-printed in
-    prints_on _ (prints_then (prints_to c.in-At.is bytes.ensures) (prints_to c.in_default-printed.is stacks.ensures))
+returns-in_err-close c = prints_stop _ c.from_residual-in_err-close.ensures (prints_then c.in_ok-stacks.ensures c.in_err-close.ensures)
 
 pub returns : goal.returns
 unfolding ascii stack_text
-returns c =
-    let bytes = c.put_bytes-opened in
-    let stacks = c.put_stacks-printed in
-    let bytes2 = c.put_bytes in
-    prints_then (prints_then (prints_to c.in-At.is bytes.ensures) (prints_to c.in-At-printed.is stacks.ensures)) bytes2.ensures
+returns c = prints_then (prints_then c.in_ok-stacks.ensures c.in_ok-close.ensures) c.put_bytes-2.ensures

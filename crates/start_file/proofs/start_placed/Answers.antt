@@ -4,17 +4,16 @@ use mathlib.Core.Path.{sym, ◌∙◌}
 use native.Mathlib.Omega.{arith}
 use Rattle.files.specs.Start.{start_bodies}
 use Rattle.files.specs.Start.Laws.{bodies_wrong, first_tells, bodies_long}
-use Rattle.bytes_in.specs.Contents.{bodies_in, bodies_from}
 use Rattle.start_file.proofs.start_placed.Goals as goal
 
-pub returns-then-not-placed : goal.returns-then-not-placed
-unfolding start_bodies bodies_in bodies_from
-returns-then-not-placed c = bodies_wrong c.args.file.now (sym c.placed.ensures ∙ c.if-not-placed.true)
-
 pub byte_at-requires : goal.byte_at-requires
-unfolding start_bodies bodies_in bodies_from
-byte_at-requires c = let l = bodies_long c.args.file.now (sym c.placed.ensures ∙ c.if-not-placed.false) in omega arith
+unfolding start_bodies
+byte_at-requires c = let l = bodies_long c.args.file.now (sym c.placed.ensures ∙ c.if-placed.true) in omega arith
 
-pub returns : goal.returns
-unfolding start_bodies bodies_in bodies_from
-returns c = first_tells c.args.file.now (sym c.placed.ensures ∙ c.if-not-placed.false) c.byte_at.ensures.value
+pub returns-then-placed : goal.returns-then-placed
+unfolding start_bodies
+returns-then-placed c = first_tells c.args.file.now (sym c.placed.ensures ∙ c.if-placed.true) c.byte_at.ensures.value
+
+pub returns-else-placed : goal.returns-else-placed
+unfolding start_bodies
+returns-else-placed c = c.if-placed.false ∙ bodies_wrong c.args.file.now (sym c.placed.ensures ∙ c.if-placed.false)

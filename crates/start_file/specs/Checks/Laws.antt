@@ -1,39 +1,42 @@
--- The loop over the cells, and the refusal of a start file for its case.
+-- The cells, one by one, and the refusal of a start file for its case.
 -- Assumes nothing.
-use Rattle.std.specs.Prelude.{ℕ, suc, ◌+◌, ◌<◌, Bool, true, false, not, ◌&&◌, ◌≡◌, refl, List, ◌∷◌, map}
-use Rattle.std.proofs.Common.{ap, sym, ◌∙◌, add-one}
+use Rattle.std.specs.Prelude.{ℕ, zero, suc, ◌+◌, ◌*◌, drop, Bool, true, false, not, ◌&&◌, ◌≡◌, refl, List, ◌∷◌, map}
+use Rattle.std.proofs.Common.{ap, ap₂, sym, ◌∙◌, add-one, drop-drop, arith}
+use Rattle.std.specs.List.{list_all, range_with_len}
 use Rattle.words.specs.Lists.{every}
 use Rattle.words.specs.Laws.Tests.{by_test}
 use Rattle.files.specs.Bytes.{first_hit, records}
 use Rattle.files.specs.Case.{Head, head}
 use Rattle.files.specs.Start.{start_placed, CellBytes, cell_bytes, starts_of, cell_records, start_right, cell_right, cells_right, start_file_right, start_tests, start_refusal}
 use Rattle.bytes_in.specs.Records.{record_at}
-use Rattle.bytes_in.specs.Records.Laws.{from_first, from_last, from_cons}
-use Rattle.start_file.specs.Checks.{files_of, CellsFrom, refusal_by, refusal_for}
+use Rattle.start_records.specs.Cells.Laws.{right_all}
+use Rattle.start_file.specs.Checks.{files_of, refusal_by, refusal_for}
 
--- ---- the loop over the cells
+-- ---- the cells, by their numbers
 
 cells_cons : (A : ℕ) (cells : List CellBytes) (n : ℕ) (x : CellBytes) (xs : List CellBytes)
     → cells_right A cells n (x ∷ xs) ≡ cell_right A cells n x && cells_right A cells (suc n) xs
 unfolding cells_right
 cells_cons A cells n x xs = by_test (cell_right A cells n x) (λ t. rw (cells_right, t)) (λ t. rw (cells_right, t))
 
-pub cells_first : (A : ℕ) (b : List ℕ) (n : ℕ) → CellsFrom A b n 0
-cells_first A b n = ap (λ (l : List (List ℕ)). cells_right A (map cell_bytes (records n 6 b)) 0 (map cell_bytes l)) (sym (from_first n 6 b))
+module _ (A : ℕ) (b : List ℕ) where
+  -- cell number i keeps its bounds, by the cells below it
+  abbrev pub right_at : ℕ → Bool
+  right_at i = cell_right A (map cell_bytes (records i 6 b)) i (cell_bytes (record_at 6 i b))
 
-pub cells_next : (A : ℕ) (b : List ℕ) (n i : ℕ) → CellsFrom A b n i → i < n
-    → cell_right A (map cell_bytes (records n 6 b)) i (cell_bytes (record_at 6 i b)) ≡ true → CellsFrom A b n (i + 1)
-cells_next A b n i p h t = p ∙ rw (from_cons n 6 i b h, cells_cons, t, add-one)
+  cells_from : (n i k : ℕ) → i + k ≡ n
+      → list_all right_at (range_with_len i k) ≡ cells_right A (map cell_bytes (records n 6 b)) i (map cell_bytes (records k 6 (drop (i * 6) b)))
+  unfolding cells_right records record_at
+  cells_from n i zero e = refl
+  cells_from n i (suc k) e =
+      let d : i * 6 + 6 ≡ suc i * 6 = omega arith in
+      ap₂ ◌&&◌
+      (right_all A b i n (cell_bytes (record_at 6 i b)) (omega arith))
+      (rw (add-one i, drop-drop, d) (cells_from n (suc i) k (omega arith)))
+      ∙ sym (cells_cons A (map cell_bytes (records n 6 b)) i _ _)
 
-pub cells_wrong : (A : ℕ) (b : List ℕ) (n i : ℕ) → CellsFrom A b n i → i < n
-    → cell_right A (map cell_bytes (records n 6 b)) i (cell_bytes (record_at 6 i b)) ≡ false
-    → cells_right A (map cell_bytes (records n 6 b)) 0 (map cell_bytes (records n 6 b)) ≡ false
-cells_wrong A b n i p h t = p ∙ rw (from_cons n 6 i b h, cells_cons, t)
-
-pub cells_last : (A : ℕ) (b : List ℕ) (n i : ℕ) → CellsFrom A b n i → i ≡ n
-    → true ≡ cells_right A (map cell_bytes (records n 6 b)) 0 (map cell_bytes (records n 6 b))
-unfolding cells_right
-cells_last A b n i p e = sym (p ∙ rw (e, from_last))
+  pub cells_are : (n : ℕ) → list_all right_at (range_with_len 0 n) ≡ cells_right A (map cell_bytes (records n 6 b)) 0 (map cell_bytes (records n 6 b))
+  cells_are n = cells_from n 0 n (omega arith)
 
 -- ---- the refusal
 

@@ -1,6 +1,6 @@
 -- What holds of the automaton that three tables hold.
 -- Assumes nothing.
-use Rattle.std.specs.Prelude.{ℕ, ◌+◌, ◌-◌, ◌≤◌, ◌<◌, false, ◌≡◌, List, get_or}
+use Rattle.std.specs.Prelude.{ℕ, ◌+◌, ◌-◌, ◌≤◌, ◌<◌, false, ◌≡◌, List, get_or, unwrap_or, Some, None, Option as Answer}
 use Rattle.std.proofs.Math.Path.{ap, sym}
 use Rattle.std.proofs.Common.{ap₂, ◌∙◌, subst, arith, length-append, get_or-append-add}
 use Rattle.std.proofs.Math.Option.{Option, some}
@@ -10,10 +10,12 @@ use Rattle.words.specs.Lists.Laws.{get_elem?_below, get_elem?_past}
 use Rattle.automata.specs.Automaton.{Automaton, Move, Edge, Entry, no_move, no_edge, no_entry, move_at, entry_edges, entry_at, entry_of, entry_control, entry_set}
 use Rattle.automata.specs.Automaton.Laws.{entry_at_control, entry_at_set, entry_edges_at, length_entry_edges}
 use Rattle.tables.specs.declared.Table.{Table}
+use Rattle.tables.specs.declared.Entry.{Entry as EntryWords}
+use Rattle.tables.specs.Records.{as_entry}
 use Rattle.tables.specs.Rows.{row_at, rows_in}
 use Rattle.tables.specs.Rows.Laws.{length_rows_in, get_or_rows_in}
 use Rattle.tables.specs.Layouts.{move_row, entry_row, edge_row}
-use Rattle.tables.specs.Held.{automaton_of, table_of, edges_in, entry_for, EdgesStand}
+use Rattle.tables.specs.Held.{automaton_of, table_of, edges_in, found_entry, entry_for, EdgesStand}
 
 -- ---- edges by number
 
@@ -94,6 +96,10 @@ module _ (A : Automaton) (r : ℕ) where
 
   pub for_some : {x : Entry} → entry_at A r ≡ some x → x ≡ entry_for A r
   for_some {x} e = λ i. record { control = sym (entry_at_control A r e) i; S = sym (entry_at_set A r e) i }
+
+  pub for_found : (o : Answer EntryWords) → found_entry o ≡ entry_at A r → as_entry (unwrap_or o (record { control = 0; s = 0 })) ≡ entry_for A r
+  for_found None e = for_none (sym e)
+  for_found (Some x) e = for_some (sym e)
 
 -- ---- moves by number
 

@@ -18,7 +18,6 @@ module _ {A : Type 0} (L : Layout A) where
     pub behind : drop (n * L.width) t ≡ zeros (length t - n * L.width)
 
   pub filled_zeros : (n : ℕ) → Filled 0 (zeros n)
-  unfolding zeros
   filled_zeros n = record { behind = drop_zeros (0 * L.width) n ∙ ap (λ (k : ℕ). zeros (k - 0 * L.width)) (sym (length-replicate n 0)) }
 
   -- a row more

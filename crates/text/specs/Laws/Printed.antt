@@ -11,7 +11,6 @@ use Rattle.text.specs.Written.Laws.{written_same}
 -- n being the number of the bytes
 pub printed : {n : ℕ} {line text after : List ℕ} {end : ℕ} → line ≡ text → Written (replicate n 0) 0 line after end → end ≤ n
     → (after ≡ padded n text) × ((end ≡ length text) × (end ≤ n))
-unfolding zeros
 printed {n} {line} {text} {after} {end} same written h =
     let w = written_same same written in
     let e : end ≡ length text = w.place ∙ zero-add (length text) in

@@ -1,12 +1,11 @@
 -- One text after another, and what a text keeps.
 -- Assumes nothing.
-use Rattle.std.specs.Prelude.{ℕ, suc, ◌+◌, ◌≤◌, ◌≡◌, List, [], ◌∷◌, ◌++◌, length, set}
-use Rattle.std.proofs.Common.{ap, sym, ◌∙◌, add-zero, add_assoc, arith, length-append}
-use Rattle.std.proofs.lemmas.List.Edits.{sets}
+use Rattle.std.specs.Prelude.{ℕ, suc, ◌+◌, ◌-◌, ◌≤◌, ◌≡◌, refl, List, [], ◌∷◌, ◌++◌, length, take, drop, set}
+use Rattle.std.proofs.Common.{ap, sym, ◌∙◌, add-zero, add_assoc, append_assoc, arith, length-append}
+use Rattle.std.proofs.lemmas.List.{drop-drop}
+use Rattle.std.proofs.lemmas.List.Edits.{sets, sets-eq}
 use Rattle.std.proofs.Math.Seq.{length-sets}
 use Rattle.text.specs.Written.{Written}
-use Rattle.words.specs.Copied.{Copied}
-use Rattle.words.specs.Copied.Laws.{copied_sets}
 
 -- ---- one text after another
 
@@ -36,8 +35,16 @@ pub written_same : {before a b after : List ℕ} {at end : ℕ} → a ≡ b → 
 written_same {before} {a} {b} {after} {at} {end} e h =
     record { place = h.place ∙ ap (λ (l : List ℕ). at + length l) e; is = h.is ∙ ap (sets before at) e }
 
--- a text that was copied
-pub written_copied : {l m s : List ℕ} {at i : ℕ} → Copied l at s i m → length s ≤ i → at + length s ≤ length l → Written l at s m (at + i)
-written_copied {l} {m} {s} {at} {i} h all fits =
-    let z : i ≡ length s = omega (arith, h.within) in
-    record { place = ap (λ (k : ℕ). at + k) z; is = copied_sets h all fits }
+-- a text that was copied into a part of the bytes
+pub written_part : {s part : List ℕ} (l : List ℕ) (at : ℕ) → at + length s ≤ length l → part ≡ s
+    → Written l at s (take at l ++ (part ++ drop (at + length s - at) (drop at l))) (at + length s)
+written_part {s} {part} l at fits same =
+    let n : ℕ = at + length s - at in
+    let z : at + n ≡ at + length s = omega arith in
+    record {
+      place = refl;
+      is = ap (λ (p : List ℕ). take at l ++ (p ++ drop n (drop at l))) same
+          ∙ ap (λ (r : List ℕ). take at l ++ (s ++ r)) (drop-drop n at l ∙ ap (λ (k : ℕ). drop k l) z)
+          ∙ sym (append_assoc (take at l) s (drop (at + length s) l))
+          ∙ sym (sets-eq s l at fits);
+    }

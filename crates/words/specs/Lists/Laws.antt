@@ -24,11 +24,9 @@ use Rattle.words.specs.Lists.{zeros, each, when, only, every, some_of, first, pl
 -- ---- zeros
 
 pub length_zeros : (n : ℕ) → length (zeros n) ≡ n
-unfolding zeros
 length_zeros n = length-replicate n 0
 
 pub drop_zeros : (k n : ℕ) → drop k (zeros n) ≡ zeros (n - k)
-unfolding zeros
 drop_zeros zero n = ap (λ (m : ℕ). replicate m 0) (sym (sub-zero n))
 drop_zeros (suc k) zero = drop-nil (suc k) ∙ ap (λ (m : ℕ). replicate m 0) (let z : 0 ≡ 0 - suc k = omega arith in z)
 drop_zeros (suc k) (suc n) = drop_zeros k n ∙ ap (λ (m : ℕ). replicate m 0) (let z : n - k ≡ suc n - suc k = omega arith in z)
