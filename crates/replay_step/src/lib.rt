@@ -71,9 +71,14 @@ fn takes_order(op: Operation, order: u64) -> bool
     ensures { result ≡ takes_order (the_operation op) order }
 {
     match op {
+        Operation::Rewrite(_)
+        | Operation::Push1(_)
+        | Operation::Push2(_)
+        | Operation::Copy
+        | Operation::Pop1
+        | Operation::Pop2 => true,
         Operation::Collapse1 => order == 1,
         Operation::Collapse2 => order == 2,
-        _ => true,
     }
 }
 
