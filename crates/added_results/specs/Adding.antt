@@ -2,7 +2,7 @@
 -- Assumes nothing.
 pub mod Laws
 pub mod Exist
-use Rattle.std.specs.Prelude.{ℕ, ◌+◌, ◌*◌, ◌≤◌, ◌<◌, max, ◌≡◌, List, length, Option, Some, None}
+use Rattle.std.specs.Prelude.{ℕ, ◌+◌, ◌*◌, ◌≤◌, ◌<◌, max, ◌≡◌, List, length, take, Option, Some, None}
 use Rattle.automata.specs.Automaton.{Automaton, Move, Entry, move_at}
 use Rattle.automata.specs.Facts.{states}
 use Rattle.automata.specs.Derivation.{Result}
@@ -59,7 +59,17 @@ abbrev pub Added : Table → ℕ → List ℕ → List ℕ → List Result → O
 Added z most entries moves xs (Some z') entries' moves' = Grows z entries moves xs z' entries' moves' × (z'.entries ≤ most)
 Added z most entries moves xs None entries' moves' = Over z most entries moves xs entries' moves'
 
+-- The first of the results xs were added, those before the one for whose entry there was no room, and the entries have the numbers of their moves.
+pub record CountsBefore (z : Table) (most : ℕ) (entries moves : List ℕ) (xs : List Result) (entries' moves' : List ℕ) : Type 0 where
+  pub table : Table
+  pub added : ℕ
+  pub fewer : added < length xs
+  pub grows : Grows z entries moves (take added xs) table entries' moves'
+  pub few : table.entries ≤ most
+  pub over : Over z most entries moves (take (added + 1) xs) entries' moves'
+  pub counted : CountsStand table entries' moves'
+
 -- The entries of the table, or of the last before there was no room, have the numbers of their moves.
-abbrev pub CountsKept : Option Table → List ℕ → List ℕ → Type 0
-CountsKept (Some t) entries moves = CountsStand t entries moves
-CountsKept None entries moves = (t : Table) × CountsStand t entries moves
+abbrev pub CountsKept : Table → ℕ → List ℕ → List ℕ → List Result → Option Table → List ℕ → List ℕ → Type 0
+CountsKept z most entries moves xs (Some t) entries' moves' = CountsStand t entries' moves'
+CountsKept z most entries moves xs None entries' moves' = CountsBefore z most entries moves xs entries' moves'

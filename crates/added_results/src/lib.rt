@@ -41,7 +41,7 @@ fn add_result(
     requires { Growing z most entries.old × StatesExist (automaton_of z [] entries.old moves.old) × CountsStand z entries.old moves.old
         × (z.moves * 5 + 5 ≤ length moves.old) }
     ensures added { Added z most entries.old moves.old (as_result x ∷ []) result entries.new moves.new }
-    ensures counted { CountsKept result entries.new moves.new }
+    ensures counted { CountsKept z most entries.old moves.old (as_result x ∷ []) result entries.new moves.new }
 {
     let e = tables::Entry {
         control: x.control,
@@ -80,7 +80,7 @@ pub fn add_results(
     requires { Growing z most entries.old × StatesExist (automaton_of z [] entries.old moves.old) × CountsStand z entries.old moves.old
         × ((z.moves + n) * 5 ≤ length moves.old) × (n * 6 ≤ length pending.now) }
     ensures added { Added z most entries.old moves.old (rows_in result_row n pending.now) result entries.new moves.new }
-    ensures counted { CountsKept result entries.new moves.new }
+    ensures counted { CountsKept z most entries.old moves.old (rows_in result_row n pending.now) result entries.new moves.new }
 {
     let mut table = z;
     for i in 0..n {

@@ -5,7 +5,7 @@ use mathlib.Core.Path.{refl}
 use native.Mathlib.Nat.{le-max_right}
 use native.Mathlib.Omega.{arith}
 use Rattle.tables.specs.Records.{as_result}
-use Rattle.added_results.specs.Adding.Laws.{added_over, row_there, count_small, added_one, counts_one}
+use Rattle.added_results.specs.Adding.Laws.{added_over, counts_over, counts_none, row_there, count_small, added_one, counts_one}
 use borrow.Author.Rules.{rules}
 use Rattle.added_results.proofs.add_result.Goals as goal
 
@@ -14,6 +14,16 @@ returns-in_err-i-clause-added c =
     let entered = c.in_err-i.ensures.entered in
     let few = c.requires.0.entries_few in
     rw c.from_residual.ensures (added_over c.args.z _ _ _ (as_result c.args.x) _ _ entered few (c.in_err-i.ensures.full refl))
+
+pub returns-in_err-i-clause-counted : goal.returns-in_err-i-clause-counted
+returns-in_err-i-clause-counted c =
+    let z = c.args.z in
+    let x = as_result c.args.x in
+    let entered = c.in_err-i.ensures.entered in
+    let few = c.requires.0.entries_few in
+    let full = c.in_err-i.ensures.full refl in
+    let over = added_over z _ _ _ x _ _ entered few full in
+    rw c.from_residual.ensures (counts_none z _ _ _ x _ (entered.kept full) few over (counts_over z _ _ _ x _ _ entered few full c.requires.2))
 
 pub raise_count-requires : goal.raise_count-requires
 raise_count-requires c =

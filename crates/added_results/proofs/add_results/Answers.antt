@@ -1,6 +1,6 @@
 -- `added_results::add_results` meets its contract.
 -- Assumes nothing.
-use Rattle.added_results.specs.Adding.Laws.{up_to_none, still_growing, still_exist, still_room, rows_more, rows_over, rows_all}
+use Rattle.added_results.specs.Adding.Laws.{up_to_none, still_growing, still_exist, still_room, rows_more, rows_over, rows_counts, rows_all}
 use borrow.Author.Rules.{rules}
 use Rattle.added_results.proofs.add_results.Goals as goal
 
@@ -22,6 +22,13 @@ returns-in_err-table-clause-added c =
     let z = c.args.z in
     let over = rows_over z _ _ _ _ _ _ _ _ _ c.loop-i.invariant.0 _ c.loop-i-test.true c.result_at.ensures _ _ c.in_err-table.ensures.added in
     search (rules, over)
+
+pub returns-in_err-table-clause-counted : goal.returns-in_err-table-clause-counted
+returns-in_err-table-clause-counted c =
+    let z = c.args.z in
+    let refused = c.in_err-table.ensures in
+    let counts = rows_counts z _ _ _ _ _ _ _ _ _ c.loop-i.invariant.0 _ c.loop-i-test.true c.result_at.ensures _ _ refused.added refused.counted in
+    search (rules, counts)
 
 pub loop-i-preserved : goal.loop-i-preserved
 loop-i-preserved c =

@@ -1,7 +1,7 @@
 -- What holds of results added to tables.
 -- Assumes nothing.
 use Rattle.std.specs.Prelude.{ℕ, suc, ◌+◌, ◌*◌, ◌^◌, ◌≤◌, ◌<◌, max, ◌≡◌, refl, List, [], ◌∷◌, ◌++◌, length, get_or, take, drop}
-use Rattle.std.proofs.Common.{ap, ap₂, sym, ◌∙◌, subst, subst₂, add-zero, arith, add-one, length-append, take-append-drop, take-suc, take_all, length-take-le}
+use Rattle.std.proofs.Common.{ap, ap₂, sym, ◌∙◌, subst, subst₂, append-nil, add-zero, arith, add-one, length-append, take-append-drop, take-suc, take_all, length-take-le}
 use Rattle.std.proofs.Math.Nat.{max-eq_left, max-eq_right, max-le, le-max_right}
 use Rattle.automata.specs.Automaton.{Automaton, Entry, Move}
 use Rattle.automata.specs.Derivation.{Result}
@@ -19,7 +19,7 @@ use Rattle.tables.specs.Held.{automaton_of}
 use Rattle.tables.specs.Counts.{raised, CountsAre, CountsStand}
 use Rattle.tables.specs.Counts.Laws.{length_raised, raised_entries, filled_raised, counts_raised, count_bound, counts_new}
 use Rattle.tables.specs.Laws.Filled.{Filled, filled_put}
-use Rattle.added_results.specs.Adding.{Entered, Growing, StatesExist, Grows, Over}
+use Rattle.added_results.specs.Adding.{Entered, Growing, StatesExist, Grows, Over, CountsBefore}
 use Rattle.added_results.specs.Adding.Exist.{add_all_exist, none_past}
 
 -- ---- one entry
@@ -237,6 +237,20 @@ grows_then {z} {z₁} {z₂} {e} {m} {xs = xs} {ys = ys} g h =
       moves_long = h.moves_long ∙ g.moves_long;
     }
 
+-- where there is no room for the entry of one result, nothing was added
+pub counts_none : (z : Table) (most : ℕ) (entries moves : List ℕ) (x : Result) (entries' : List ℕ) → entries' ≡ entries → z.entries ≤ most
+    → Over z most entries moves (x ∷ []) entries' moves → CountsStand z entries' moves → CountsBefore z most entries moves (x ∷ []) entries' moves
+counts_none z most entries moves x entries' k few o c =
+    record {
+      table = z;
+      added = 0;
+      fewer = omega arith;
+      grows = subst (λ (t : List ℕ). Grows z entries moves [] z t moves) (sym k) (grows_none z entries moves);
+      few = few;
+      over = o;
+      counted = c;
+    }
+
 -- the entries of a table with results added are no fewer
 pub entries_kept : (A : Automaton) (xs : List Result) → length A.entries ≤ length (add_all A xs).entries
 entries_kept A xs = entries_grow (add_all_extends A xs)
@@ -264,6 +278,35 @@ module _ (z : Table) (most : ℕ) (entries moves : List ℕ) (l : List Result) w
           few = a.1;
         }
 
+    -- the next result added
+    next_added : (inner : List ℕ) → add_all (automaton_of z inner entries moves) (take (suc i) l) ≡ add_all (automaton_of z₁ inner e₁ m₁) (x ∷ [])
+    next_added inner =
+        ap (add_all (automaton_of z inner entries moves)) (sym next_is)
+        ∙ add_all_append (automaton_of z inner entries moves) (take i l) (x ∷ [])
+        ∙ ap (λ (A : Automaton). add_all A (x ∷ [])) (sym (h.grows.table_is inner))
+
+    -- there is no room for it: those before it were added
+    pub up_to_counts : Over z₁ most e₁ m₁ (x ∷ []) e₂ m₂ → CountsBefore z₁ most e₁ m₁ (x ∷ []) e₂ m₂ → CountsBefore z most entries moves l e₂ m₂
+    up_to_counts a k =
+        let none : k.added ≡ 0 = omega (arith, k.fewer) in
+        let rest : Grows z₁ e₁ m₁ [] k.table e₂ m₂ = subst (λ (j : ℕ). Grows z₁ e₁ m₁ (take j (x ∷ [])) k.table e₂ m₂) none k.grows in
+        record {
+          table = k.table;
+          added = i;
+          fewer = b;
+          grows = subst (λ (r : List Result). Grows z entries moves r k.table e₂ m₂) (append-nil (take i l)) (grows_then h.grows rest);
+          few = k.few;
+          over =
+              record {
+                over = λ inner.
+                    subst (λ (A : Automaton). most < length A.entries)
+                    (sym (ap (λ (j : ℕ). add_all (automaton_of z inner entries moves) (take j l)) (add-one i) ∙ next_added inner)) (a.over inner);
+                entries_long = a.entries_long ∙ h.grows.entries_long;
+                moves_long = a.moves_long ∙ h.grows.moves_long;
+              };
+          counted = k.counted;
+        }
+
     pub up_to_over : Over z₁ most e₁ m₁ (x ∷ []) e₂ m₂ → Over z most entries moves l e₂ m₂
     up_to_over a =
         record {
@@ -274,10 +317,9 @@ module _ (z : Table) (most : ℕ) (entries moves : List ℕ) (l : List Result) w
       where
         whole : (inner : List ℕ) → add_all (automaton_of z inner entries moves) l ≡ add_all (add_all (automaton_of z₁ inner e₁ m₁) (x ∷ [])) (drop (suc i) l)
         whole inner =
-            ap (add_all (automaton_of z inner entries moves)) (sym (take-append-drop (suc i) l) ∙ ap (λ (k : List Result). k ++ drop (suc i) l) (sym next_is))
-            ∙ add_all_append (automaton_of z inner entries moves) (take i l ++ (x ∷ [])) (drop (suc i) l)
-            ∙ ap (λ (A : Automaton). add_all A (drop (suc i) l))
-            (add_all_append (automaton_of z inner entries moves) (take i l) (x ∷ []) ∙ ap (λ (A : Automaton). add_all A (x ∷ [])) (sym (h.grows.table_is inner)))
+            ap (add_all (automaton_of z inner entries moves)) (sym (take-append-drop (suc i) l))
+            ∙ add_all_append (automaton_of z inner entries moves) (take (suc i) l) (drop (suc i) l)
+            ∙ ap (λ (A : Automaton). add_all A (drop (suc i) l)) (next_added inner)
 
         more : (inner : List ℕ) → most < length (add_all (automaton_of z₁ inner e₁ m₁) (x ∷ [])).entries → most < length (add_all (automaton_of z inner entries moves) l).entries
         more inner o =
@@ -330,6 +372,11 @@ module _ (z : Table) (most : ℕ) (entries moves : List ℕ) (n : ℕ) (pending 
     rows_over a =
         let len : length (rows_in result_row n pending) ≡ n = length_rows_in result_row n pending in
         up_to_over z most entries moves (rows_in result_row n pending) i z₁ e₁ m₁ h x no_result (omega arith) at_row e₂ m₂ a
+
+    pub rows_counts : Over z₁ most e₁ m₁ (x ∷ []) e₂ m₂ → CountsBefore z₁ most e₁ m₁ (x ∷ []) e₂ m₂ → CountsBefore z most entries moves (rows_in result_row n pending) e₂ m₂
+    rows_counts a k =
+        let len : length (rows_in result_row n pending) ≡ n = length_rows_in result_row n pending in
+        up_to_counts z most entries moves (rows_in result_row n pending) i z₁ e₁ m₁ h x no_result (omega arith) at_row e₂ m₂ a k
 
   pub rows_all : n ≤ i → Grows z entries moves (rows_in result_row n pending) z₁ e₁ m₁ × (z₁.entries ≤ most)
   rows_all b =

@@ -93,7 +93,8 @@ module _ (rules : List Rule) where
         record { over = inl (omega arith); entries_long = refl; moves_long = refl }
 
     pub rounded_added : (r : Option Table) (entries' moves' : List ℕ) → n ≤ most_moves - z.moves
-        → Added z most_entries entries moves (rows_in result_row n pending) r entries' moves' → CountsKept r entries' moves'
+        → Added z most_entries entries moves (rows_in result_row n pending) r entries' moves'
+        → CountsKept z most_entries entries moves (rows_in result_row n pending) r entries' moves'
         → Rounded rules inner z most_moves most_entries entries moves r entries' moves'
     rounded_added (Some z') entries' moves' l a k =
         let b : Grows z entries moves (new_results rules (automaton_of z inner entries moves)) z' entries' moves' × (z'.entries ≤ most_entries) =
