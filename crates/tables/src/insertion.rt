@@ -15,7 +15,13 @@ fn words_before(x: &[u64], y: &[u64]) -> bool
     requires { length x.now ≡ length y.now }
     ensures { result ≡ less x.now y.now }
 {
-    x < y
+    // Kept (3): no plainer as a chain, and `<` on slices compares through options, in six times the instructions.
+    for i in 0..y.len() {
+        if x[i] != y[i] {
+            return x[i] < y[i];
+        }
+    }
+    false
 }
 
 // The words of row i, where a row has so many.
