@@ -18,6 +18,7 @@ use replies::{Acceptance, Refusal};
 use tables::Tables;
 
 // The refusal by the two files.
+#[tactic(auto, using(crate::specs::Refusal::Laws::case_refused))]
 pub fn files_refusal(case: &[u8], start: &[u8]) -> Result<(), Refusal>
     ensures { refusal_code result ≡ files_refusal case.now start.now }
 {

@@ -1,14 +1,9 @@
 -- `sound_files::files_refusal` meets its contract.
 -- Assumes nothing.
 use mathlib.Core.Path.{refl, sym}
-use Rattle.replies.specs.Numbers.Laws.{numbered}
 use Rattle.files.proofs.Case.Laws.{case_in_place}
-use Rattle.sound_files.specs.Refusal.Laws.{by_case, by_start}
-use borrow.Author.Rules.{rules}
+use Rattle.sound_files.specs.Refusal.Laws.{by_start}
 use Rattle.sound_files.proofs.files_refusal.Goals as goal
-
-pub returns-in_err-check_case : goal.returns-in_err-check_case
-returns-in_err-check_case c = let h = by_case _ c.args.start.now c.in_err-check_case.ensures (numbered _) in search (rules, h)
 
 pub head_of-h-requires : goal.head_of-h-requires
 head_of-h-requires c = case_in_place _ (sym c.in_ok-check_case.ensures)

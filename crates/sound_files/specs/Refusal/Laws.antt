@@ -5,6 +5,9 @@ use Rattle.std.proofs.Common.{ap, sym, ◌∙◌, arith}
 use Rattle.std.proofs.Math.Dec.{leb}
 use borrow.Author.Tests.{eq-eqb, ne_eqb, eqb-true, eqb-false, lt-ltb, le-ltb, ltb-true, ltb-false, le-leb, lt-leb}
 use Rattle.words.specs.Laws.Tests.{by_test}
+use Rattle.replies.specs.declared.Refusal.{Refusal}
+use Rattle.replies.specs.Numbers.{number_for}
+use Rattle.replies.specs.Numbers.Laws.{numbered}
 use Rattle.files.specs.Bytes.{count_of, Test, first_hit, tests_on}
 use Rattle.files.specs.Bytes.Laws.{first_hit_fails, first_hit_passes}
 use Rattle.files.specs.Case.{Head, case_tests, case_refusal, head}
@@ -60,6 +63,10 @@ module _ (case start : List ℕ) where
 
     pub by_start : c ≡ 0 → {h : Head} → h ≡ head case → {s : ℕ} → s ≡ refusal_for h.P h.A start → s ≡ files_refusal case start
     by_start e g f = f ∙ refusal_is case start g ∙ sym (files_start (sym is ∙ e))
+
+-- a refusal of the case is that of the files
+pub case_refused : (case start : List ℕ) (r : Refusal) → number_for r ≡ case_refusal case → number_for r ≡ files_refusal case start
+case_refused case start r is = by_case case start is (numbered r)
 
 -- ---- the number of starts
 
