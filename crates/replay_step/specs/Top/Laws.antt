@@ -17,9 +17,6 @@ use Rattle.stacks.specs.System.{Rule, entered, step_on}
 use Rattle.walks.specs.Cell.{Cell, empty1, symbol, empty2, above, order1, order2, stack_at, stack_of, stacks, cells_after, root_after}
 use Rattle.walks.specs.Cell.Formed.{cell_order, cell_at, order_at, Formed, formed_symbol, formed_above, Takes, TopFormed, formed_after}
 use Rattle.walks.specs.Cell.Laws.{stack_at_lem, stack_order, annotation_of1, annotation_of2, length_cells_after, root_after_lem}
-use Rattle.case_records.specs.declared.Operation as Values
-use Rattle.case_records.specs.declared.Operation.TheVariants.{Rewrite, Push1, Push2, Copy, Pop1, Pop2, Collapse1, Collapse2}
-use Rattle.case_records.specs.Values.{the_operation}
 use Rattle.cell_memory.specs.declared.Cell as Value
 use Rattle.cell_memory.specs.declared.Cell.TheVariants.{Empty1, Symbol, Empty2, Above}
 use Rattle.cell_memory.specs.Memory as Memory
@@ -256,18 +253,6 @@ module _ (cells : List Cell) (root : ℕ) {c : Value.Cell} (e : Memory.cell_of c
       no_above_top (Symbol a u s) h = refl
       no_above_top Empty2 h = refl
       no_above_top (Above w t) h = absurd (h w t refl)
-
--- an operation that is no collapse takes an annotation of any order
-pub takes_any : (op : Values.Operation) (k : ℕ) → (op ≡ Collapse1 → ⊥) → (op ≡ Collapse2 → ⊥) → true ≡ takes_order (the_operation op) k
-unfolding takes_order
-takes_any (Rewrite b) k h l = refl
-takes_any (Push1 b) k h l = refl
-takes_any (Push2 b) k h l = refl
-takes_any Copy k h l = refl
-takes_any Pop1 k h l = refl
-takes_any Pop2 k h l = refl
-takes_any Collapse1 k h l = absurd (h refl)
-takes_any Collapse2 k h l = absurd (l refl)
 
 -- a rule that applies names the top symbol
 pub fits_symbol : (ρ : Rule) (p a k : ℕ) → rule_fits ρ p a k ≡ true → a ≡ ρ.symbol
