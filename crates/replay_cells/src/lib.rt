@@ -20,7 +20,9 @@ pub fn copy_cells(body: &[u8], cells: &mut [u8])
     requires { length body.now ≤ length cells.old }
     ensures { cells.new ≡ sets cells.old 0 body.now }
 {
-    cells[..body.len()].copy_from_slice(body);
+    for i in 0..body.len() {
+        cells[i] = body[i];
+    }
 }
 
 // The six bytes of a cell, from `at` on.

@@ -54,13 +54,26 @@ fn holds(t: &[u64], n: usize, i: usize, x: &[u64]) -> bool
     i < n && !words_before(x, row_words(t, x.len(), i))
 }
 
+// Moves what stands from `at` up to `end` so many places further.
+fn open_words(t: &mut [u64], at: usize, end: usize, places: usize)
+    requires { (at ≤ end) × (end + places ≤ length t.old) }
+    ensures { t.new ≡ paste t.old (at + places) (drop at t.old) (end - at) }
+{
+    // Kept (3): `copy_within` would have the archive for C need `memmove` from outside; so where words are copied below, and in `replay_cells::copy_cells`.
+    for j in (at..end).rev() {
+        t[j + places] = t[j];
+    }
+}
+
 // Writes the words x from `at` on, and what stood from there up to `end` behind them.
 fn put_between(t: &mut [u64], at: usize, end: usize, x: &[u64])
     requires { (at ≤ end) × (end + length x.now ≤ length t.old) }
     ensures { t.new ≡ paste (paste t.old (at + length x.now) (drop at t.old) (end - at)) at x.now (length x.now) }
 {
-    t.copy_within(at..end, at + x.len());
-    t[at..at + x.len()].copy_from_slice(x);
+    open_words(t, at, end, x.len());
+    for i in 0..x.len() {
+        t[at + i] = x[i];
+    }
 }
 
 // Inserts the row x into the first n rows, which are sorted, unless it is there. Answers the number of rows then. It is more than `room` where
