@@ -19,11 +19,11 @@ module _ (most : ℕ) where
   -- ---- one byte more
 
   module _ (n b : ℕ) where
-    below_digits : b < 48 → with_digit most n b ≡ most
+    pub below_digits : b < 48 → with_digit most n b ≡ most
     unfolding with_digit
     below_digits h = rw (with_digit, lt-leb 48 b h) refl
 
-    above_digits : 57 < b → with_digit most n b ≡ most
+    pub above_digits : 57 < b → with_digit most n b ≡ most
     unfolding with_digit
     above_digits h =
         let l : 48 ≤ b = omega arith in
